@@ -1,0 +1,1 @@
+// Fields of text: decimal numbers and paths, read and written.

@@ -1,0 +1,28 @@
+-- Words: signed 32-bit numbers (01, "The sheet"), and how a sum, difference or product is brought back among them.
+-- A word's bits are those of two's complement: `toZ w32` reads bits as a number, `ofZ w32` gives a number's bits.
+use Prim.Native.Nat.{ℕ, suc, _-_, _%_, _<_}
+use lib.IntN.{ℤ, pos, negsuc}
+use lib.Signed.{mag}
+use mir.Syntax.{w32}
+use mir.Val.{toZ}
+
+-- how many words there are: 2 ^ 32
+abbrev pub words : ℕ
+words = 4294967296
+
+-- the numbers from 0 up that are words are those below 2 ^ 31
+abbrev pub half : ℕ
+half = 2147483648
+
+-- z is a word: from - 2 ^ 31 up to 2 ^ 31 - 1
+abbrev pub IsWord : ℤ → Type 0
+IsWord z = mag z < half
+
+-- what z leaves when divided by 2 ^ 32
+unfoldable pub residue : ℤ → ℕ
+residue (pos n) = n % words
+residue (negsuc n) = words - suc (n % words)
+
+-- the word that is z modulo 2 ^ 32 (01: "wrap modulo 2^32 into the signed range")
+unfoldable pub wrap : ℤ → ℤ
+wrap z = toZ w32 (residue z)
