@@ -1,7 +1,11 @@
 -- Words: signed 32-bit numbers (01, "The sheet"), and how a sum, difference or product is brought back among them.
 -- A word's bits are those of two's complement: `toZ w32` reads bits as a number, `ofZ w32` gives a number's bits.
 use Prim.Native.Nat.{ℕ, suc, _-_, _%_, _<_}
+use mathlib.Core.Bool.{Bool, false}
+use mathlib.Core.List.{List}
+use lib.Dec.{eqb}
 use lib.IntN.{ℤ, pos, negsuc}
+use lib.ListN.{getD}
 use lib.Signed.{mag}
 use mir.Syntax.{w32}
 use mir.Val.{toZ}
@@ -18,6 +22,10 @@ half = 2147483648
 abbrev pub IsWord : ℤ → Type 0
 IsWord z = mag z < half
 
+-- a list of words (past its end a list reads as 0, a word)
+abbrev pub AllWords : List ℤ → Type 0
+AllWords l = (i : ℕ) → IsWord (getD l i (pos 0))
+
 -- what z leaves when divided by 2 ^ 32
 unfoldable pub residue : ℤ → ℕ
 residue (pos n) = n % words
@@ -26,3 +34,10 @@ residue (negsuc n) = words - suc (n % words)
 -- the word that is z modulo 2 ^ 32 (01: "wrap modulo 2^32 into the signed range")
 unfoldable pub wrap : ℤ → ℤ
 wrap z = toZ w32 (residue z)
+
+-- whether two numbers are one (beside `ltZ` and `leZ`, the tests of order)
+abbrev pub eqZ : ℤ → ℤ → Bool
+eqZ (pos a) (pos b) = eqb a b
+eqZ (pos a) (negsuc b) = false
+eqZ (negsuc a) (pos b) = false
+eqZ (negsuc a) (negsuc b) = eqb a b

@@ -1,1 +1,0 @@
-// Fields of text: decimal numbers and paths, read and written.

@@ -1,0 +1,86 @@
+-- Lists of words and lists of bits: each determines the other, element by element. Assumes nothing.
+use mathlib.Core.Path.{_≡_, refl, sym, ap, _∙_, subst}
+use mathlib.Core.List.{List, [], _∷_, map}
+use Prim.Native.Nat.{ℕ, zero, suc, _≤_, _<_, zero-le, suc-le-suc}
+use lib.Dec.{lit<}
+use lib.IntN.{ℤ, pos}
+use lib.ListN.{length, take, getD, replicate, List·getD-map}
+use lib.Seq.{take-all, drop-nil}
+use mir.Syntax.{w32}
+use mir.Val.{toZ, ofZ}
+use Rattle.word.specs.Word.{words, IsWord, AllWords}
+use Rattle.word.proofs.TwosComplement.{number-word, bits-number, bits-lt, number-bits}
+use Rattle.word.specs.Laid.{laid}
+use Rattle.word.proofs.Laid.{laid-full, laid-length, take-laid}
+
+-- a list of bits: what a read of a slice of u32 makes known of it, `λ i. c .slice-known .given i .fits`
+abbrev pub AllBits : List ℕ → Type 0
+AllBits l = (i : ℕ) → getD l i 0 < words
+
+-- a fresh array
+pub bits-replicate : (n k : ℕ) → k < words → AllBits (replicate n k)
+bits-replicate zero k h i = lit< tt
+bits-replicate (suc n) k h zero = h
+bits-replicate (suc n) k h (suc i) = bits-replicate n k h i
+
+-- element i of the numbers, and of the bits
+pub numbers-at : (l : List ℕ) (i : ℕ) → getD (map (toZ w32) l) i (pos 0) ≡ toZ w32 (getD l i 0)
+numbers-at l i = List·getD-map (toZ w32) l i 0
+
+pub bits-at : (l : List ℤ) (i : ℕ) → getD (map (ofZ w32) l) i 0 ≡ ofZ w32 (getD l i (pos 0))
+bits-at l i = List·getD-map (ofZ w32) l i (pos 0)
+
+pub numbers-words : (l : List ℕ) → AllBits l → AllWords (map (toZ w32) l)
+numbers-words l h i = subst IsWord (sym (numbers-at l i)) (number-word (getD l i 0) (h i))
+
+pub bits-bits : (l : List ℤ) → AllWords l → AllBits (map (ofZ w32) l)
+bits-bits l h i = subst (λ n. n < words) (sym (bits-at l i)) (bits-lt (getD l i (pos 0)) (h i))
+
+-- there and back
+pub bits-numbers : (l : List ℕ) → AllBits l → map (ofZ w32) (map (toZ w32) l) ≡ l
+bits-numbers [] h = refl
+bits-numbers (x ∷ l) h = λ j. bits-number x (h 0) j ∷ bits-numbers l (λ i. h (suc i)) j
+
+pub numbers-bits : (l : List ℤ) → AllWords l → map (toZ w32) (map (ofZ w32) l) ≡ l
+numbers-bits [] h = refl
+numbers-bits (x ∷ l) h = λ j. number-bits x (h 0) j ∷ numbers-bits l (λ i. h (suc i)) j
+
+-- so lists of words with the same bits are one, and lists of bits with the same numbers
+pub words-same : (l m : List ℤ) → AllWords l → AllWords m → map (ofZ w32) l ≡ map (ofZ w32) m → l ≡ m
+words-same l m h g e = sym (numbers-bits l h) ∙ ap (map (toZ w32)) e ∙ numbers-bits m g
+
+pub bits-same : (l m : List ℕ) → AllBits l → AllBits m → map (toZ w32) l ≡ map (toZ w32) m → l ≡ m
+bits-same l m h g e = sym (bits-numbers l h) ∙ ap (map (ofZ w32)) e ∙ bits-numbers m g
+
+-- words as far as they have been read
+pub words-take : (n : ℕ) (l : List ℤ) → ((i : ℕ) → i < n → IsWord (getD l i (pos 0))) → AllWords (take n l)
+words-take zero l h i = lit< tt
+words-take (suc n) [] h i = lit< tt
+words-take (suc n) (x ∷ l) h zero = h 0 (suc-le-suc zero-le)
+words-take (suc n) (x ∷ l) h (suc i) = words-take n l (λ k p. h (suc k) (suc-le-suc p)) i
+
+-- a list that was read whole
+pub words-whole : (n : ℕ) (l : List ℤ) → length l ≤ n → AllWords (take n l) → AllWords l
+words-whole n l h w = subst AllWords (take-all n l h) w
+
+-- words copied in over the front of bits, and those bits copied out over the words again: the words stay
+pub copied-back : (l : List ℤ) (own : List ℕ) → length l ≤ length own → AllWords l → laid (toZ w32) (laid (ofZ w32) l own) l ≡ l
+copied-back l own h w =
+    laid-full (toZ w32) (laid (ofZ w32) l own) l (rw (laid-length (ofZ w32) l own) h)
+    ∙ ap (map (toZ w32)) (take-laid (ofZ w32) l own h) ∙ numbers-bits l w
+
+-- bits over bits are bits
+pub laid-bits : (l : List ℤ) (own : List ℕ) → AllWords (take (length own) l) → AllBits own → AllBits (laid (ofZ w32) l own)
+unfolding laid
+laid-bits l [] w b i = subst (λ r. getD r i 0 < words) (sym (drop-nil (length l))) (lit< tt)
+laid-bits [] (y ∷ own) w b i = b i
+laid-bits (x ∷ l) (y ∷ own) w b zero = bits-lt x (w 0)
+laid-bits (x ∷ l) (y ∷ own) w b (suc i) = laid-bits l own (λ k. w (suc k)) (λ k. b (suc k)) i
+
+-- and numbers over words are words
+pub laid-words : (own : List ℕ) (l : List ℤ) → AllBits own → AllWords l → AllWords (laid (toZ w32) own l)
+unfolding laid
+laid-words own [] b w i = subst (λ r. IsWord (getD r i (pos 0))) (sym (drop-nil (length own))) (lit< tt)
+laid-words [] (x ∷ l) b w i = w i
+laid-words (y ∷ own) (x ∷ l) b w zero = number-word y (b 0)
+laid-words (y ∷ own) (x ∷ l) b w (suc i) = laid-words own l (λ k. b (suc k)) (λ k. w (suc k)) i
