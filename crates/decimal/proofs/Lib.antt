@@ -1,0 +1,12 @@
+-- The laws of fields and paths. The two theorems stand in Fields and Paths; what a caller learns from an answer in Answers;
+-- ReadLaws, WriteLaws and PathLaws are what the functions' own proofs cite.
+pub mod Justified
+pub mod Digits
+pub mod Fields
+pub mod PathNumbers
+pub mod Paths
+pub mod Answers
+pub mod ReadLaws
+pub mod WriteLaws
+pub mod PathLaws
+mod Examples
