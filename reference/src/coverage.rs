@@ -1,0 +1,152 @@
+//! What cases cover: counts over kinds, operators, grounds, strides, lists, events, rows.
+
+use crate::event::{Event, EVENT};
+use crate::flow::Flow;
+use crate::grounds::Ground;
+use crate::limits;
+use crate::rules::Rules;
+use crate::session;
+use crate::slips::Slip;
+use crate::state::State;
+use std::collections::BTreeMap;
+use std::fmt;
+
+/// How often each number came up.
+#[derive(Clone, Debug, Default)]
+pub struct Tally(BTreeMap<usize, usize>);
+
+impl Tally {
+    pub fn add(&mut self, number: usize) {
+        *self.0.entry(number).or_default() += 1;
+    }
+
+    pub fn of(&self, number: usize) -> usize {
+        self.0.get(&number).copied().unwrap_or(0)
+    }
+
+    pub fn total(&self) -> usize {
+        self.0.values().sum()
+    }
+
+    pub fn least(&self) -> Option<usize> {
+        self.0.keys().next().copied()
+    }
+
+    pub fn most(&self) -> Option<usize> {
+        self.0.keys().next_back().copied()
+    }
+}
+
+impl fmt::Display for Tally {
+    fn fmt(&self, out: &mut fmt::Formatter<'_>) -> fmt::Result {
+        for (number, count) in &self.0 {
+            write!(out, " {number}:{count}")?;
+        }
+        Ok(())
+    }
+}
+
+/// What sessions cover.
+#[derive(Clone, Debug, Default)]
+pub struct Coverage {
+    /// Answers of load, 0 an accepted sheet.
+    pub sheets: Tally,
+    /// Of accepted sheets: rows, rows of each kind, operators, most binders and marks above a
+    /// row, leaves of the flow's own type.
+    pub rows: Tally,
+    pub kinds: Tally,
+    pub operators: Tally,
+    pub binders: Tally,
+    pub marks: Tally,
+    pub leaves: Tally,
+    /// Answers to events, and the actions of those accepted.
+    pub events: Tally,
+    pub actions: Tally,
+    /// Path lengths of accepted events.
+    pub paths: Tally,
+    /// Strides of start and of accepted events.
+    pub strides: Tally,
+    /// Entries, failing flags and value flags of the screens.
+    pub entries: Tally,
+    pub failing: Tally,
+    pub values: Tally,
+}
+
+impl Coverage {
+    pub fn of(cases: impl Iterator<Item = Vec<u8>>) -> Self {
+        let mut coverage = Coverage::default();
+        cases.for_each(|input| coverage.add(&input));
+        coverage
+    }
+
+    /// Runs a session and counts what it covers.
+    pub fn add(&mut self, mut input: &[u8]) {
+        let loaded = session::load(&mut input, Rules::default()).expect("memory is read");
+        self.sheets.add(answer(loaded.as_ref().err()));
+        let Ok(flow) = loaded else { return };
+        self.add_flow(&flow);
+        let (mut state, strides) = State::start(&flow);
+        self.strides.add(strides);
+        self.add_screen(&state);
+        for event in input.chunks(EVENT) {
+            let handled = state.handle(event);
+            self.events.add(answer(handled.as_ref().err()));
+            if let (Ok(strides), Some(event)) = (handled, Event::read(event, Slip::None)) {
+                self.strides.add(strides);
+                self.actions.add(event.action.number() as usize);
+                self.paths.add(event.path.len());
+            }
+            self.add_screen(&state);
+        }
+    }
+
+    fn add_flow(&mut self, flow: &Flow) {
+        self.rows.add(flow.rows.len());
+        for row in &flow.rows {
+            self.kinds.add(row.kind as usize);
+            if row.kind == 24 {
+                self.operators.add(row.operands[0] as usize);
+            }
+        }
+        let enclosing = limits::enclosing(&flow.rows, Slip::None);
+        self.binders.add(enclosing.iter().map(|of| of.binders).max().unwrap_or(0));
+        self.marks.add(enclosing.iter().map(|of| of.marks).max().unwrap_or(0));
+        self.leaves.add(flow.own_type.leaves());
+    }
+
+    fn add_screen(&mut self, state: &State) {
+        let look = state.look();
+        self.entries.add(look.entries.len());
+        self.failing.add(look.failing.into());
+        self.values.add(look.value.is_some().into());
+    }
+}
+
+fn answer(ground: Option<&Ground>) -> usize {
+    ground.map_or(0, |ground| ground.number() as usize)
+}
+
+impl fmt::Display for Coverage {
+    fn fmt(&self, out: &mut fmt::Formatter<'_>) -> fmt::Result {
+        let tallies = [
+            ("sheets by answer", &self.sheets),
+            ("rows of accepted sheets", &self.rows),
+            ("kinds", &self.kinds),
+            ("operators", &self.operators),
+            ("most binders above a row", &self.binders),
+            ("most marks above a row", &self.marks),
+            ("leaves of the own type", &self.leaves),
+            ("events by answer", &self.events),
+            ("actions accepted", &self.actions),
+            ("path lengths accepted", &self.paths),
+            ("strides", &self.strides),
+            ("entries shown", &self.entries),
+            ("failing flag", &self.failing),
+            ("value flag", &self.values),
+        ];
+        for (name, tally) in tallies {
+            writeln!(out, "{name} ({}):{tally}", tally.total())?;
+        }
+        Ok(())
+    }
+}

@@ -1,0 +1,122 @@
+//! Evaluation (01, "The rules"; the paper's rules E-): left to right, carrying the store.
+
+use crate::operators::Operator;
+use crate::rules::Rules;
+use crate::slips::Slip;
+use crate::syntax::{Code, Plain};
+use crate::task::{Env, Origin, Side, Store, Task};
+use crate::value::Value;
+
+impl Rules {
+    /// The value of a plain expression.
+    pub fn plain(&self, env: &Env, store: &mut Store, expression: &Plain) -> Value {
+        match expression {
+            Plain::Unit => Value::Unit,
+            Plain::Truth(truth) => Value::Truth(*truth),
+            Plain::Number(number) => Value::Number(*number),
+            Plain::Binder(outward) => self.binder(env, *outward as usize).clone(),
+            Plain::Operation(operator, left, right) => {
+                if self.slip == Slip::ShortCircuit {
+                    let known = self.plain(env, &mut store.clone(), left);
+                    if matches!(
+                        (operator, &known),
+                        (Operator::And, Value::Truth(false)) | (Operator::Or, Value::Truth(true))
+                    ) {
+                        return self.plain(env, store, left);
+                    }
+                }
+                let (left, right) = self.in_turn(env, store, left, right);
+                operator.apply(&left, &right, self.slip)
+            }
+            Plain::Condition(condition, then, otherwise) => {
+                let holds = self.plain(env, store, condition).truth();
+                let (taken, other) = if holds { (then, otherwise) } else { (otherwise, then) };
+                if self.slip == Slip::BothSidesOfCondition {
+                    self.plain(env, store, other);
+                }
+                self.plain(env, store, taken)
+            }
+            Plain::Pair(first, second) => {
+                let (first, second) = self.in_turn(env, store, first, second);
+                Value::pair(first, second)
+            }
+            Plain::First(pair) => self.plain(env, store, pair).parts().0.clone(),
+            Plain::Second(pair) => self.plain(env, store, pair).parts().1.clone(),
+            Plain::Read(cell) => store.read(*cell).clone(),
+            Plain::Write(cell, content) => {
+                let content = self.plain(env, store, content);
+                let cell = if self.slip == Slip::WritesFirstCell { store.first_like(*cell) } else { *cell };
+                store.write(cell, content);
+                Value::Unit
+            }
+            Plain::Bind(bound, body) => {
+                let bound = self.plain(env, store, bound);
+                self.plain(&env.with(&bound), store, body)
+            }
+        }
+    }
+
+    /// The value of binder `outward`, 0 the nearest.
+    fn binder<'s>(&self, env: &Env<'s>, outward: usize) -> &'s Value {
+        let value = env.get(outward).expect("reaches a binder, by ground 7");
+        if self.slip == Slip::BinderNextOut {
+            return env.get(outward + 1).filter(|next| next.type_of() == value.type_of()).unwrap_or(value);
+        }
+        value
+    }
+
+    /// The left value and then, from the store that it leaves, the right.
+    fn in_turn(&self, env: &Env, store: &mut Store, left: &Plain, right: &Plain) -> (Value, Value) {
+        if self.slip == Slip::RightOperandFirst {
+            let right = self.plain(env, store, right);
+            return (self.plain(env, store, left), right);
+        }
+        let left = self.plain(env, store, left);
+        (left, self.plain(env, store, right))
+    }
+
+    /// The task of a task expression. Steps evaluate A only; 48 evaluates neither branch.
+    pub fn evaluate<'c>(&self, env: &Env, store: &mut Store, code: &'c Code) -> Task<'c> {
+        match code {
+            Code::Filled(content) => Task::Filled(self.plain(env, store, content)),
+            Code::Empty(of) => Task::Empty(of),
+            Code::Shared(cell) => Task::Shared(*cell),
+            Code::Step(going, left, right) => Task::Step(*going, self.part(env, store, left), right),
+            Code::Fail(_) => Task::Fail,
+            Code::Both(left, right) => {
+                if self.slip == Slip::RightPartFirst {
+                    let right = self.part(env, store, right);
+                    return Task::Both(self.part(env, store, left), right);
+                }
+                let left = self.part(env, store, left);
+                Task::Both(left, self.part(env, store, right))
+            }
+            Code::Choice(left, right) => {
+                let left = self.part(env, store, left);
+                Task::Choice(left, self.part(env, store, right))
+            }
+            Code::Pick(left, right) => {
+                if self.slip == Slip::PickEvaluates {
+                    self.evaluate(env, store, left);
+                }
+                Task::Pick(left, right)
+            }
+            Code::Condition(condition, then, otherwise) => {
+                let (side, code) = match self.plain(env, store, condition).truth() {
+                    true => (Side::Left, then),
+                    false => (Side::Right, otherwise),
+                };
+                Task::Became(Origin::Decided(side), self.part(env, store, code))
+            }
+            Code::Bind(bound, body) => {
+                let bound = self.plain(env, store, bound);
+                let body = self.part(&env.with(&bound), store, body);
+                Task::Became(Origin::Bound(bound), body)
+            }
+        }
+    }
+
+    fn part<'c>(&self, env: &Env, store: &mut Store, code: &'c Code) -> Box<Task<'c>> {
+        Box::new(self.evaluate(env, store, code))
+    }
+}

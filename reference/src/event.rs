@@ -1,0 +1,113 @@
+//! Events and list entries as bytes (01, "Touches and what is shown").
+
+use crate::field;
+use crate::limits::LEAVES;
+use crate::slips::Slip;
+use crate::value::Leaves;
+use std::io::{self, Write};
+
+/// Bytes an event, and columns of a path, an action and a leaf.
+pub const EVENT: usize = PATH + ACTION + LEAVES * LEAF + 1;
+pub const PATH: usize = 16;
+pub const ACTION: usize = 2;
+pub const LEAF: usize = 12;
+
+#[derive(Clone, Copy, Debug, PartialEq, Eq)]
+pub enum Action {
+    Value = 1,
+    Continue = 2,
+    Left = 3,
+    Right = 4,
+}
+
+impl Action {
+    pub const ALL: [Action; 4] = [Action::Value, Action::Continue, Action::Left, Action::Right];
+
+    pub const fn number(self) -> i32 {
+        self as i32
+    }
+
+    fn of_number(number: i32) -> Option<Self> {
+        Self::ALL.into_iter().find(|action| action.number() == number)
+    }
+}
+
+/// A readable event. The path's digits stand as the bytes `1` and `2`, outermost first.
+#[derive(Clone, Copy, Debug, PartialEq, Eq)]
+pub struct Event<'e> {
+    pub path: &'e [u8],
+    pub action: Action,
+    pub leaves: Leaves,
+}
+
+impl<'e> Event<'e> {
+    /// The event in these bytes; none where ground 8 holds.
+    pub fn read(bytes: &'e [u8], slip: Slip) -> Option<Self> {
+        let (last, fields) = bytes.split_last()?;
+        if bytes.len() != EVENT || (*last != b'\n' && slip != Slip::EventByteTenUnread) {
+            return None;
+        }
+        let path = read_path(&fields[..PATH], slip)?;
+        let action = Action::of_number(field::read(&fields[PATH..PATH + ACTION], slip)?)?;
+        let mut leaves = [0; LEAVES];
+        for (leaf, columns) in leaves.iter_mut().zip(fields[PATH + ACTION..].chunks_exact(LEAF)) {
+            *leaf = field::read(columns, slip)?;
+        }
+        let unused = action != Action::Value && leaves != [0; LEAVES];
+        match slip {
+            Slip::LeafAtContinueIgnored => Some(Event { path, action, leaves }),
+            // Read as a value, which nothing takes at a path that long.
+            Slip::LeafAtContinueIsNine if unused => {
+                Some(Event { path: &[b'1'; PATH + 2], action: Action::Value, leaves })
+            }
+            _ => (!unused).then_some(Event { path, action, leaves }),
+        }
+    }
+}
+
+/// The path's digits: none for `0` alone, else 1 to 16 digits 1 and 2.
+fn read_path(field: &[u8], slip: Slip) -> Option<&[u8]> {
+    let mut digits = field::after_spaces(field);
+    if slip == Slip::ZeroBeforePath && digits.len() > 1 {
+        digits = digits.strip_prefix(b"0").unwrap_or(digits);
+    }
+    match digits {
+        b"0" => Some(b""),
+        b"" if slip == Slip::BlankPath => Some(b""),
+        b"" => None,
+        _ => digits.iter().all(|digit| matches!(digit, b'1' | b'2')).then_some(digits),
+    }
+}
+
+/// An entry of the list: what may be touched.
+#[derive(Clone, Debug, PartialEq, Eq)]
+pub struct Entry {
+    pub path: Vec<u8>,
+    pub action: Action,
+    pub kinds: Leaves,
+}
+
+impl Entry {
+    /// Path and action as in an event, four leaf kinds of 2 columns, byte 10.
+    pub fn write(&self, out: &mut impl Write) -> io::Result<()> {
+        write_path(out, &self.path)?;
+        field::write(out, self.action.number(), ACTION)?;
+        for kind in self.kinds {
+            field::write(out, kind, 2)?;
+        }
+        out.write_all(b"\n")
+    }
+}
+
+/// The bytes of an event; path and action may be any text and number.
+pub fn write(path: &str, action: i32, leaves: Leaves) -> Vec<u8> {
+    let path = if path.is_empty() { "0" } else { path };
+    let [a, b, c, d] = leaves;
+    format!("{path:>PATH$}{action:>ACTION$}{a:>LEAF$}{b:>LEAF$}{c:>LEAF$}{d:>LEAF$}\n").into_bytes()
+}
+
+/// Writes a path right-justified, `0` for the empty one.
+pub fn write_path(out: &mut impl Write, path: &[u8]) -> io::Result<()> {
+    let digits = if path.is_empty() { b"0" } else { path };
+    write!(out, "{:>PATH$}", String::from_utf8_lossy(digits))
+}

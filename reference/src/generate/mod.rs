@@ -1,0 +1,86 @@
+//! Cases from a seed: inputs of sessions.
+//!
+//! [`draft`] makes well-typed flows out of [`plain`] expressions and [`tasks`], some of them in
+//! the [`shapes`] and with the [`effects`] that slips hide in; [`layout`] writes them as rows;
+//! [`faults`] breaks sheets near each ground; [`touches`] makes events, most of them from the list
+//! shown.
+
+pub mod draft;
+pub mod effects;
+pub mod faults;
+pub mod layout;
+pub mod plain;
+pub mod shapes;
+pub mod tasks;
+pub mod touches;
+
+use crate::event::{Action, Entry};
+use crate::flow::Flow;
+use crate::random::Random;
+use crate::rules::Rules;
+use crate::session;
+use crate::sheet::{self, Row};
+use crate::state::State;
+
+/// The inputs of cases 0 to `count` - 1 under a seed.
+pub fn cases(seed: u64, count: u64) -> impl Iterator<Item = Vec<u8>> {
+    (0..count).map(move |at| case(&mut Random::of_case(seed, at)))
+}
+
+/// One session's input.
+fn case(random: &mut Random) -> Vec<u8> {
+    let mut input = if random.chance(30) { faults::sheet(random) } else { counted(&accepted(random)) };
+    if let Ok(Ok(flow)) = session::load(&mut &input[..], Rules::default()) {
+        input.extend(events(random, &flow));
+    }
+    input
+}
+
+/// The rows of an accepted sheet.
+pub fn accepted(random: &mut Random) -> Vec<Row> {
+    loop {
+        let draft = draft::Draft::new(random, draft::Limits::default()).flow();
+        if let Some(rows) = layout::rows(random, &draft) {
+            return rows;
+        }
+    }
+}
+
+/// A row count and a sheet.
+pub fn counted(rows: &[Row]) -> Vec<u8> {
+    let mut input = format!("{:>4}\n", rows.len()).into_bytes();
+    input.extend(sheet::write(rows));
+    input
+}
+
+/// Events for a flow, made while it runs.
+fn events(random: &mut Random, flow: &Flow) -> Vec<u8> {
+    let (mut state, _) = State::start(flow);
+    let mut events = Vec::new();
+    let count = if random.chance(5) { 100 } else { random.below(20) };
+    for _ in 0..count {
+        let entries = state.look().entries;
+        if random.chance(weariness(&entries)) {
+            break;
+        }
+        let event = touches::event(random, &entries);
+        // A refused event leaves the state as it is.
+        let _ = state.handle(&event);
+        events.extend(event);
+    }
+    if random.chance(10) {
+        let event = touches::event(random, &state.look().entries);
+        events.extend_from_slice(&event[..1 + random.below(event.len() - 1)]);
+    }
+    events
+}
+
+/// How soon a session ends: little happens any more where nothing, or nothing but editors, is
+/// shown.
+fn weariness(entries: &[Entry]) -> usize {
+    match entries {
+        [] => 25,
+        _ if entries.iter().all(|entry| entry.action == Action::Value) => 8,
+        _ => 0,
+    }
+}

@@ -1,0 +1,109 @@
+//! Events: most from the list shown, some near it, some that cannot be read.
+
+use crate::event::{self, Action, Entry, EVENT, PATH};
+use crate::limits::LEAVES;
+use crate::random::Random;
+use crate::value::Leaves;
+
+/// Texts that are no field.
+pub const NO_FIELDS: [&str; 12] =
+    ["", "+1", "01", "-0", "1 ", "\t1", "1x", "-", "2147483648", "-2147483649", "1 1", "00"];
+
+/// An event for a screen with this list.
+pub fn event(random: &mut Random, entries: &[Entry]) -> Vec<u8> {
+    // Continue, Left and Right are fewer than editors, so they come first half of the time.
+    let moving: Vec<&Entry> = entries.iter().filter(|entry| entry.action != Action::Value).collect();
+    let moving = random.pick(&moving).copied().filter(|_| random.chance(50));
+    let Some(entry) = moving.or_else(|| random.pick(entries)) else { return stray(random) };
+    let path = String::from_utf8_lossy(&entry.path).into_owned();
+    let leaves = fitting(random, entry.kinds);
+    match random.below(100) {
+        0..=57 => event::write(&path, entry.action.number(), leaves),
+        58..=71 => near(random, path, entry.action, leaves, entry.kinds),
+        72..=86 => pressing(random, entries),
+        87..=91 => stray(random),
+        _ => unreadable(random, event::write(&path, entry.action.number(), leaves)),
+    }
+}
+
+/// Leaves that meet these kinds.
+fn fitting(random: &mut Random, kinds: Leaves) -> Leaves {
+    kinds.map(|kind| match kind {
+        2 => random.between(0, 1),
+        3 => random.word(),
+        _ => 0,
+    })
+}
+
+/// An event of the list with one thing changed.
+fn near(random: &mut Random, mut path: String, action: Action, mut leaves: Leaves, kinds: Leaves) -> Vec<u8> {
+    let mut action = action.number();
+    match random.below(6) {
+        0 => path.push(if random.chance(50) { '1' } else { '2' }),
+        1 => drop(path.pop()),
+        2 if !path.is_empty() => {
+            let at = random.below(path.len());
+            let other = if &path[at..=at] == "1" { "2" } else { "1" };
+            path.replace_range(at..=at, other);
+        }
+        2 | 3 => {
+            action = random.between(1, 4);
+            if action != 1 {
+                leaves = [0; LEAVES];
+            }
+        }
+        4 => {
+            // A leaf that does not meet its kind, where there is one.
+            let at = random.below(LEAVES);
+            leaves[at] = if kinds[at] == 3 { random.word() } else { random.between(-1, 3) };
+        }
+        _ => {
+            let at = random.below(LEAVES);
+            leaves[at] = random.word();
+        }
+    }
+    path.truncate(PATH);
+    event::write(&path, action, leaves)
+}
+
+/// Continue, Left or Right where something is shown, often to be refused.
+fn pressing(random: &mut Random, entries: &[Entry]) -> Vec<u8> {
+    let path = random.pick(entries).map_or(String::new(), |entry| String::from_utf8_lossy(&entry.path).into_owned());
+    event::write(&path, random.weighed(&[(3, 2), (1, 3), (1, 4)]), [0; LEAVES])
+}
+
+/// Any path and action.
+fn stray(random: &mut Random) -> Vec<u8> {
+    let longest = if random.chance(10) { PATH } else { 3 };
+    let length = random.below(longest + 1);
+    let path: String = (0..length).map(|_| if random.chance(50) { '1' } else { '2' }).collect();
+    let leaf = if random.chance(20) { random.word() } else { 0 };
+    event::write(&path, random.between(0, 5), [leaf, 0, 0, 0])
+}
+
+/// An event with something in it that cannot be read, or mostly so.
+fn unreadable(random: &mut Random, mut event: Vec<u8>) -> Vec<u8> {
+    let paths = ["", "00", "01", "10", "3", "1 2", "011", "1x", "-1", "12 "];
+    match random.below(5) {
+        0 => event[EVENT - 1] = *random.pick(b" \r0").expect("bytes"),
+        1 => {
+            let at = random.below(EVENT);
+            event[at] = random.draw() as u8;
+        }
+        2 => put(&mut event[..PATH], random.pick(&paths).expect("paths")),
+        3 => {
+            let from = PATH + 2 + 12 * random.below(LEAVES);
+            put(&mut event[from..from + 12], random.pick(&NO_FIELDS).expect("fields"));
+        }
+        _ => {
+            put(&mut event[PATH..PATH + 2], random.pick(&["", "0", "5", "-1", "01", "+1", "1 ", "x"]).expect("actions"))
+        }
+    }
+    event
+}
+
+/// Puts a text right-justified into columns.
+pub fn put(columns: &mut [u8], text: &str) {
+    let width = columns.len();
+    columns.copy_from_slice(&format!("{text:>width$}").as_bytes()[..width]);
+}

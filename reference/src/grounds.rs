@@ -1,0 +1,31 @@
+//! The grounds on which a call is refused (01, "Grounds in the input").
+
+/// A ground, with its number in 01. Grounds 20 to 24 speak of lent words, which this
+/// implementation does not have.
+#[derive(Clone, Copy, Debug, PartialEq, Eq, PartialOrd, Ord)]
+pub enum Ground {
+    /// 1: sheet length not 45 times 1 to 256, or a row count unreadable or not met.
+    Length = 1,
+    /// 2: a field or byte 10 unreadable, or a wrong row number.
+    Unreadable = 2,
+    /// 3: a kind, operator, truth or unused operand not as listed.
+    NotListed = 3,
+    /// 4: an operand not a lower row, or not of the sort asked.
+    Sort = 4,
+    /// 5: the naming rule broken, or a last row that is no task by its kind.
+    Naming = 5,
+    /// 6: a type row over 4 leaves, or over 16 binders or marks.
+    Limit = 6,
+    /// 7: no typing for the last row as a task.
+    Typing = 7,
+    /// 8: an event that cannot be read.
+    Event = 8,
+    /// 9: no handling rule derives a step.
+    Handling = 9,
+}
+
+impl Ground {
+    pub const fn number(self) -> i32 {
+        self as i32
+    }
+}

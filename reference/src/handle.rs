@@ -1,0 +1,132 @@
+//! Handling an event (01, "The rules"; the paper's rules H-).
+
+use crate::event::{Action, Event};
+use crate::observe::Attempt;
+use crate::rules::Rules;
+use crate::slips::Slip;
+use crate::syntax::{Code, Going};
+use crate::task::{Env, Origin, Side, Store, Task};
+use crate::value::Value;
+
+impl Rules {
+    /// Handles the event, before normalising: task and store change only where a rule derives a
+    /// step. Gives the strides inside the rule, which 01 does not count; none where no rule
+    /// derives a step.
+    pub fn handle(&self, env: &Env, store: &mut Store, task: &mut Task, event: Event) -> Option<usize> {
+        let at_end = event.path.is_empty();
+        match task {
+            Task::Filled(_) | Task::Empty(_) | Task::Shared(_) => {
+                let here = at_end || self.slip == Slip::DigitsLeftOver;
+                (here && event.action == Action::Value).then_some(())?;
+                self.edit(store, task, event)
+            }
+            Task::Step(going, left, right) => {
+                if at_end && event.action == Action::Continue && *going == Going::AtContinue {
+                    if let Some(taken) = self.go_on(env, store, left, right) {
+                        *task = taken;
+                        return Some(0);
+                    }
+                    if self.slip == Slip::ContinueNotPassed {
+                        return None;
+                    }
+                }
+                self.handle(env, store, left, event)
+            }
+            Task::Both(left, right) | Task::Choice(left, right) => {
+                let (part, rest) = self.marked(left, right, event.path)?;
+                self.handle(env, store, part, Event { path: rest, ..event })
+            }
+            Task::Pick(left, right) => {
+                let (side, code) = match event.action {
+                    Action::Left => (Side::Left, *left),
+                    Action::Right => (Side::Right, *right),
+                    _ => return None,
+                };
+                let here = at_end || self.slip == Slip::DigitsLeftOver;
+                let picked = here.then(|| self.pick(env, store, code))??;
+                if self.slip != Slip::LeftDropsStore {
+                    *store = picked.store;
+                }
+                *task = Task::Became(Origin::Picked(side), Box::new(picked.task));
+                Some(picked.strides)
+            }
+            Task::Fail => None,
+            Task::Became(origin, task) => {
+                let mut path = event.path;
+                if let (Origin::Chosen(side), Slip::ChosenKeepsMark) = (&*origin, self.slip) {
+                    path = path.strip_prefix(mark(*side))?;
+                }
+                self.handle(&origin.within(env), store, task, Event { path, ..event })
+            }
+        }
+    }
+
+    /// An editor takes a value of its type: 41 becomes filled, 42 writes its cell.
+    fn edit(&self, store: &mut Store, task: &mut Task, event: Event) -> Option<usize> {
+        let of = match task {
+            Task::Filled(content) => &content.type_of(),
+            Task::Empty(of) => *of,
+            Task::Shared(cell) => &store.read(*cell).type_of(),
+            _ => return None,
+        };
+        let content = Value::of_leaves(of, &event.leaves, self.slip)?;
+        match task {
+            Task::Shared(cell) if self.slip != Slip::SharedBecomesFilled => store.write(*cell, content),
+            _ => *task = Task::Filled(content),
+        }
+        Some(0)
+    }
+
+    /// 44 takes Continue if A has a value and B evaluated under it does not fail. B is evaluated
+    /// and not normalised.
+    fn go_on<'c>(&self, env: &Env, store: &mut Store, left: &Task, right: &'c Code) -> Option<Task<'c>> {
+        let value = self.value(store, left)?;
+        let mut tried = self.right_side(env, store, &value, right);
+        if tried.fails && self.slip != Slip::ContinueTakenUntried {
+            if self.slip == Slip::RefusedContinueWrites {
+                *store = tried.store;
+            }
+            return None;
+        }
+        if self.slip != Slip::ContinueDropsStore {
+            *store = tried.store;
+        }
+        if self.slip == Slip::ContinueNormalises {
+            self.normalise(&env.with(&value), store, &mut tried.task);
+        }
+        Some(Task::Became(Origin::Taken(value), Box::new(tried.task)))
+    }
+
+    /// 48 takes Left or Right if that branch, normalised, does not fail.
+    fn pick<'c>(&self, env: &Env, store: &Store, code: &'c Code) -> Option<Attempt<'c>> {
+        let mut picked = self.branch(env, store, code);
+        if self.slip == Slip::LeftEvaluates {
+            picked.store = store.clone();
+            picked.task = self.evaluate(env, &mut picked.store, code);
+        }
+        (!picked.fails || self.slip == Slip::LeftTakenThoughFailing).then_some(picked)
+    }
+
+    /// 46 and 47 take mark 1 or 2 and pass the rest of the path on.
+    fn marked<'t, 'c, 'p>(
+        &self,
+        left: &'t mut Task<'c>,
+        right: &'t mut Task<'c>,
+        path: &'p [u8],
+    ) -> Option<(&'t mut Task<'c>, &'p [u8])> {
+        if path.is_empty() && self.slip == Slip::MarkMissing {
+            return Some((left, path));
+        }
+        let (digit, rest) = path.split_first()?;
+        let first = (*digit == b'1') != (self.slip == Slip::MarksExchangedInHandling);
+        Some((if first { left } else { right }, rest))
+    }
+}
+
+/// The digit that leads to this side.
+pub fn mark(side: Side) -> &'static [u8] {
+    match side {
+        Side::Left => b"1",
+        Side::Right => b"2",
+    }
+}

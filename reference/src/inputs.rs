@@ -1,0 +1,106 @@
+//! The list: what may be touched (01, "Touches and what is shown"; the paper's Fig. 15).
+
+use crate::event::{Action, Entry};
+use crate::handle::mark;
+use crate::limits::LEAVES;
+use crate::rules::Rules;
+use crate::slips::Slip;
+use crate::syntax::{Code, Going, Type};
+use crate::task::{Env, Origin, Side, Store, Task};
+use crate::value::leaf_kinds;
+
+/// The list being written, and the path to the task at hand.
+#[derive(Default)]
+struct List {
+    path: Vec<u8>,
+    entries: Vec<Entry>,
+}
+
+impl List {
+    fn editor(&mut self, of: &Type) {
+        self.entries.push(Entry { path: self.path.clone(), action: Action::Value, kinds: leaf_kinds(of) });
+    }
+
+    fn action(&mut self, action: Action) {
+        self.entries.push(Entry { path: self.path.clone(), action, kinds: [0; LEAVES] });
+    }
+}
+
+impl Rules {
+    /// The entries of a task at rest, in order: A before B, A's entries before Continue, Left
+    /// before Right.
+    pub fn inputs(&self, env: &Env, store: &Store, task: &Task) -> Vec<Entry> {
+        let mut list = List::default();
+        self.list(env, store, task, &mut list);
+        list.entries
+    }
+
+    fn list(&self, env: &Env, store: &Store, task: &Task, list: &mut List) {
+        match task {
+            Task::Filled(content) => list.editor(&content.type_of()),
+            Task::Empty(of) => list.editor(of),
+            Task::Shared(cell) => list.editor(&store.read(*cell).type_of()),
+            Task::Step(Going::ByItself, left, _) => self.list(env, store, left, list),
+            Task::Step(Going::AtContinue, left, right) => {
+                let goes_on = self.may_go_on(env, store, left, right);
+                if goes_on && self.slip == Slip::ContinueShownFirst {
+                    list.action(Action::Continue);
+                }
+                self.list(env, store, left, list);
+                if goes_on && self.slip != Slip::ContinueShownFirst {
+                    list.action(Action::Continue);
+                }
+            }
+            Task::Fail => {}
+            Task::Both(left, right) | Task::Choice(left, right) => {
+                let mut parts = [(Side::Left, left), (Side::Right, right)];
+                if self.slip == Slip::RightPartShownFirst {
+                    parts.reverse();
+                }
+                for (side, part) in parts {
+                    self.list_marked(env, store, part, side, list);
+                }
+            }
+            Task::Pick(left, right) => {
+                let mut branches = [(Action::Left, *left), (Action::Right, *right)];
+                if self.slip == Slip::RightShownFirst {
+                    branches.reverse();
+                }
+                for (action, code) in branches {
+                    if !self.branch(env, store, code).fails || self.slip == Slip::LeftShownThoughFailing {
+                        list.action(action);
+                    }
+                }
+            }
+            Task::Became(origin, task) => {
+                let env = origin.within(env);
+                match origin {
+                    Origin::Chosen(side) if self.slip == Slip::ChosenKeepsMark => {
+                        self.list_marked(&env, store, task, *side, list);
+                    }
+                    _ => self.list(&env, store, task, list),
+                }
+            }
+        }
+    }
+
+    /// The entries of a part, with its mark in front of what follows.
+    fn list_marked(&self, env: &Env, store: &Store, part: &Task, side: Side, list: &mut List) {
+        let shown = match (self.slip, side) {
+            (Slip::MarksExchangedInList, Side::Left) => Side::Right,
+            (Slip::MarksExchangedInList, Side::Right) => Side::Left,
+            _ => side,
+        };
+        list.path.extend_from_slice(mark(shown));
+        self.list(env, store, part, list);
+        list.path.pop();
+    }
+
+    /// Whether a 44 with this A and B takes Continue.
+    fn may_go_on(&self, env: &Env, store: &Store, left: &Task, right: &Code) -> bool {
+        let value = self.value(store, left);
+        value.is_some_and(|value| {
+            self.slip == Slip::ContinueShownUntried || !self.right_side(env, store, &value, right).fails
+        })
+    }
+}

@@ -1,0 +1,101 @@
+//! The command line: see `reference/README.md`.
+#![forbid(unsafe_code)]
+
+use reference::compare;
+use reference::coverage::Coverage;
+use reference::generate;
+use reference::rules::Rules;
+use reference::session;
+use reference::slips::Slip;
+use std::io::{self, BufWriter, Read, Write};
+use std::path::Path;
+use std::process::ExitCode;
+use std::{env, fs};
+
+const USAGE: &str = "usage:
+  reference session              a session: input on standard input, screens on standard output
+  reference cases SEED COUNT DIR a file N.in, and N.out with its screens, for each case
+  reference stream SEED COUNT    the inputs, framed, on standard output
+  reference replay               framed inputs on standard input, framed screens on standard output
+  reference coverage SEED COUNT  what the cases cover
+  reference slips SEED COUNT     how many cases catch each slip, and the first that does";
+
+fn main() -> ExitCode {
+    let arguments: Vec<String> = env::args().skip(1).collect();
+    let words: Vec<&str> = arguments.iter().map(String::as_str).collect();
+    match run(&words) {
+        Ok(()) => ExitCode::SUCCESS,
+        Err(error) => {
+            eprintln!("{error}");
+            ExitCode::FAILURE
+        }
+    }
+}
+
+fn run(words: &[&str]) -> io::Result<()> {
+    let mut output = BufWriter::new(io::stdout().lock());
+    match *words {
+        ["session"] => session::run(io::stdin().lock(), output, Rules::default()),
+        ["cases", seed, count, directory] => write_cases(number(seed)?, number(count)?, Path::new(directory)),
+        ["stream", seed, count] => {
+            generate::cases(number(seed)?, number(count)?).try_for_each(|input| write_framed(&mut output, &input))?;
+            output.flush()
+        }
+        ["replay"] => replay(&mut io::stdin().lock(), &mut output),
+        ["coverage", seed, count] => {
+            write!(output, "{}", Coverage::of(generate::cases(number(seed)?, number(count)?)))?;
+            output.flush()
+        }
+        ["slips", seed, count] => report_slips(&mut output, number(seed)?, number(count)?),
+        _ => Err(invalid(USAGE)),
+    }
+}
+
+fn invalid(told: &str) -> io::Error {
+    io::Error::new(io::ErrorKind::InvalidInput, told)
+}
+
+fn number(word: &str) -> io::Result<u64> {
+    word.parse().map_err(|_| invalid(USAGE))
+}
+
+/// Writes `000000.in`, `000000.out` and so on.
+fn write_cases(seed: u64, count: u64, directory: &Path) -> io::Result<()> {
+    fs::create_dir_all(directory)?;
+    for (at, case) in compare::cases(seed, count).iter().enumerate() {
+        fs::write(directory.join(format!("{at:06}.in")), &case.input)?;
+        fs::write(directory.join(format!("{at:06}.out")), &case.screens)?;
+    }
+    Ok(())
+}
+
+/// A frame: the length in 8 columns, byte 10, and that many bytes.
+fn write_framed(output: &mut impl Write, bytes: &[u8]) -> io::Result<()> {
+    writeln!(output, "{:>8}", bytes.len())?;
+    output.write_all(bytes)
+}
+
+/// Runs each framed session and frames its screens.
+fn replay(input: &mut impl Read, output: &mut impl Write) -> io::Result<()> {
+    let mut frames = Vec::new();
+    input.read_to_end(&mut frames)?;
+    let mut rest = &frames[..];
+    while !rest.is_empty() {
+        let (head, bytes) = rest.split_at_checked(9).ok_or_else(|| invalid("a frame without a length"))?;
+        let length = number(String::from_utf8_lossy(head).trim())? as usize;
+        let (session, after) = bytes.split_at_checked(length).ok_or_else(|| invalid("a short frame"))?;
+        write_framed(output, &session::screens(session, Rules::default()))?;
+        rest = after;
+    }
+    output.flush()
+}
+
+fn report_slips(output: &mut impl Write, seed: u64, count: u64) -> io::Result<()> {
+    let cases = compare::cases(seed, count);
+    for (slip, told) in Slip::ALL {
+        let caught: Vec<usize> = compare::differing(&cases, Rules::slipping(*slip)).collect();
+        let first = caught.first().map_or("-".to_string(), usize::to_string);
+        writeln!(output, "{:>6} {first:>6}  {slip:?}: {told}", caught.len())?;
+    }
+    output.flush()
+}

@@ -1,0 +1,97 @@
+//! The program (01, "A session in full").
+
+use crate::event::{EVENT, LEAF};
+use crate::field;
+use crate::flow::Flow;
+use crate::grounds::Ground;
+use crate::limits::LEAVES;
+use crate::rules::Rules;
+use crate::sheet::{LINE, LINES};
+use crate::slips::Slip;
+use crate::state::{Look, State};
+use std::io::{self, BufReader, Read, Write};
+
+/// Bytes of the row count with its byte 10.
+pub const COUNT: usize = 5;
+
+/// Reads the row count, a sheet and events, and prints a screen after start and each event.
+pub fn run<R: Read>(input: R, mut output: impl Write, rules: Rules) -> io::Result<()> {
+    let mut input = BufReader::new(input);
+    let flow = match load(&mut input, rules)? {
+        Ok(flow) => flow,
+        Err(ground) => {
+            let nothing = Look { value: None, failing: false, entries: Vec::new() };
+            print(&mut output, Err(ground), &nothing, rules.slip)?;
+            return output.flush();
+        }
+    };
+    let (mut state, strides) = State::start(&flow);
+    print(&mut output, Ok(strides), &state.look(), rules.slip)?;
+    let mut event = Vec::with_capacity(EVENT);
+    loop {
+        if input.buffer().is_empty() {
+            output.flush()?;
+        }
+        // Events are cut every 67 bytes, with no looking for byte 10; a short last one answers 8.
+        read_up_to(&mut input, EVENT, &mut event)?;
+        if event.is_empty() || (event.len() < EVENT && rules.slip == Slip::ShortEventSkipped) {
+            return output.flush();
+        }
+        let answer = state.handle(&event);
+        print(&mut output, answer, &state.look(), rules.slip)?;
+    }
+}
+
+/// The screens that an input gives.
+pub fn screens(input: &[u8], rules: Rules) -> Vec<u8> {
+    let mut output = Vec::new();
+    run(input, &mut output, rules).expect("memory is read and written");
+    output
+}
+
+/// Reads the row count and a sheet, and loads it.
+pub fn load(input: &mut impl Read, rules: Rules) -> io::Result<Result<Flow, Ground>> {
+    let sheet = read_sheet(input, rules.slip)?;
+    Ok(sheet.ok_or(Ground::Length).and_then(|sheet| Flow::load(&sheet, rules)))
+}
+
+/// The counted lines; none where the row count is unreadable, not 1 to 256, or not met.
+fn read_sheet(input: &mut impl Read, slip: Slip) -> io::Result<Option<Vec<u8>>> {
+    let mut text = Vec::new();
+    read_up_to(input, COUNT, &mut text)?;
+    let Some(lines) = row_count(&text, slip) else { return Ok(None) };
+    read_up_to(input, lines * LINE, &mut text)?;
+    Ok((text.len() == lines * LINE).then_some(text))
+}
+
+fn row_count(text: &[u8], slip: Slip) -> Option<usize> {
+    let [columns @ .., b'\n'] = text else { return None };
+    let count = field::read(columns, slip).filter(|_| text.len() == COUNT)?;
+    let most = LINES + usize::from(slip == Slip::Lines257);
+    usize::try_from(count).ok().filter(|count| (1..=most).contains(count))
+}
+
+/// Reads `length` bytes into `bytes`, fewer only where the input ends.
+fn read_up_to(input: &mut impl Read, length: usize, bytes: &mut Vec<u8>) -> io::Result<()> {
+    bytes.clear();
+    input.take(length as u64).read_to_end(bytes).map(|_| ())
+}
+
+/// Answer (4), strides (4), failing (2), value flag (2), leaves (4 of 12), entry count (4), byte
+/// 10, then the entries.
+fn print(output: &mut impl Write, answer: Result<usize, Ground>, look: &Look, slip: Slip) -> io::Result<()> {
+    let (number, strides) = match answer {
+        Ok(strides) => (0, strides as i32),
+        Err(ground) => (ground.number(), 0),
+    };
+    field::write(output, number, 4)?;
+    field::write(output, strides, 4)?;
+    field::write(output, look.failing.into(), 2)?;
+    field::write(output, look.value.is_some().into(), 2)?;
+    for leaf in look.value.as_ref().map_or([0; LEAVES], |value| value.leaves(slip)) {
+        field::write(output, leaf, LEAF)?;
+    }
+    field::write(output, look.entries.len() as i32, 4)?;
+    output.write_all(b"\n")?;
+    look.entries.iter().try_for_each(|entry| entry.write(output))
+}

@@ -1,0 +1,70 @@
+//! Types, plain expressions and tasks as trees: what the rows of an accepted sheet say.
+
+use crate::operators::Operator;
+use std::rc::Rc;
+
+#[derive(Clone, Debug, PartialEq, Eq)]
+pub enum Type {
+    Unit,
+    Truth,
+    Number,
+    Pair(Rc<(Type, Type)>),
+}
+
+impl Type {
+    pub fn pair(first: Type, second: Type) -> Self {
+        Type::Pair(Rc::new((first, second)))
+    }
+
+    pub fn leaves(&self) -> usize {
+        match self {
+            Type::Pair(parts) => parts.0.leaves() + parts.1.leaves(),
+            _ => 1,
+        }
+    }
+}
+
+/// A cell of the store, by its place among the cells.
+pub type Cell = usize;
+
+/// Plain expressions, kinds 20 to 31.
+#[derive(Clone, Debug, PartialEq, Eq)]
+pub enum Plain {
+    Unit,
+    Truth(bool),
+    Number(i32),
+    /// The value of a binder, counted outward: any number, ground 7 if it reaches none.
+    Binder(i32),
+    Operation(Operator, Box<Plain>, Box<Plain>),
+    Condition(Box<Plain>, Box<Plain>, Box<Plain>),
+    Pair(Box<Plain>, Box<Plain>),
+    First(Box<Plain>),
+    Second(Box<Plain>),
+    Read(Cell),
+    Write(Cell, Box<Plain>),
+    Bind(Box<Plain>, Box<Plain>),
+}
+
+/// Whether a step goes on by itself (43) or waits for Continue (44).
+#[derive(Clone, Copy, Debug, PartialEq, Eq)]
+pub enum Going {
+    ByItself,
+    AtContinue,
+}
+
+/// Task expressions, kinds 40 to 48, and 25 and 31 where they are tasks.
+#[derive(Clone, Debug, PartialEq, Eq)]
+pub enum Code {
+    Filled(Plain),
+    Empty(Type),
+    Shared(Cell),
+    Step(Going, Box<Code>, Box<Code>),
+    Fail(Type),
+    Both(Box<Code>, Box<Code>),
+    /// 47, the internal choice.
+    Choice(Box<Code>, Box<Code>),
+    /// 48, the external choice.
+    Pick(Box<Code>, Box<Code>),
+    Condition(Plain, Box<Code>, Box<Code>),
+    Bind(Plain, Box<Code>),
+}

@@ -1,0 +1,81 @@
+//! Running tasks and the store (01, "A task of a row is"; the paper's Fig. 8).
+
+use crate::binders::Binders;
+use crate::syntax::{Cell, Code, Going, Type};
+use crate::value::Value;
+
+/// What the binders in scope stand for.
+pub type Env<'s> = Binders<'s, Value>;
+
+#[derive(Clone, Copy, Debug, PartialEq, Eq)]
+pub enum Side {
+    Left,
+    Right,
+}
+
+/// A task of a code, which it borrows what is not evaluated from.
+#[derive(Clone, Debug, PartialEq, Eq)]
+pub enum Task<'c> {
+    /// 40, and 41 once filled.
+    Filled(Value),
+    Empty(&'c Type),
+    /// 42: its content is the cell's.
+    Shared(Cell),
+    Step(Going, Box<Task<'c>>, &'c Code),
+    Fail,
+    Both(Box<Task<'c>>, Box<Task<'c>>),
+    Choice(Box<Task<'c>>, Box<Task<'c>>),
+    Pick(&'c Code, &'c Code),
+    /// What a step, choice, condition or binding became. It hands value, failing, striding,
+    /// entries and handling on to that task, and has no mark of its own.
+    Became(Origin, Box<Task<'c>>),
+}
+
+/// What a task became from.
+#[derive(Clone, Debug, PartialEq, Eq)]
+pub enum Origin {
+    /// A 43 or 44 that was taken with this value.
+    Taken(Value),
+    /// A 31 of this value.
+    Bound(Value),
+    /// A 47 of which this side was chosen.
+    Chosen(Side),
+    /// A 48 of which this side was picked.
+    Picked(Side),
+    /// A 25 of which this side, B left and C right, holds.
+    Decided(Side),
+}
+
+impl Origin {
+    /// The binders in scope within.
+    pub fn within<'s>(&'s self, env: &'s Env<'s>) -> Env<'s> {
+        match self {
+            Origin::Taken(value) | Origin::Bound(value) => env.with(value),
+            Origin::Chosen(_) | Origin::Picked(_) | Origin::Decided(_) => *env,
+        }
+    }
+}
+
+/// The cells' contents.
+#[derive(Clone, Debug, PartialEq, Eq)]
+pub struct Store(Vec<Value>);
+
+impl Store {
+    pub fn new(contents: &[Value]) -> Self {
+        Store(contents.to_vec())
+    }
+
+    pub fn read(&self, cell: Cell) -> &Value {
+        &self.0[cell]
+    }
+
+    pub fn write(&mut self, cell: Cell, content: Value) {
+        self.0[cell] = content;
+    }
+
+    /// The first cell of the type of this one.
+    pub fn first_like(&self, cell: Cell) -> Cell {
+        let of = self.0[cell].type_of();
+        self.0.iter().position(|content| content.type_of() == of).unwrap_or(cell)
+    }
+}

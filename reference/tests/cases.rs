@@ -1,0 +1,122 @@
+//! The cases from a fixed seed: what they cover, that both ways of asking print the same, and that
+//! they catch every slip.
+
+use reference::compare::{self, Case};
+use reference::coverage::{Coverage, Tally};
+use reference::event::EVENT;
+use reference::flow::Flow;
+use reference::generate;
+use reference::random::Random;
+use reference::rules::{Asking, Rules};
+use reference::session;
+use reference::sheet;
+use reference::slips::Slip;
+use reference::state::State;
+
+const SEED: u64 = 1;
+const COUNT: u64 = 3000;
+
+fn cases() -> Vec<Case> {
+    compare::cases(SEED, COUNT)
+}
+
+fn at_least(tally: &Tally, numbers: impl IntoIterator<Item = usize>, least: usize, of: &str) {
+    for number in numbers {
+        assert!(tally.of(number) >= least, "{of} {number}: {} < {least}", tally.of(number));
+    }
+}
+
+#[test]
+fn cases_cover_the_document() {
+    let coverage = Coverage::of(cases().into_iter().map(|case| case.input));
+    at_least(&coverage.sheets, [0], 2000, "accepted sheets");
+    at_least(&coverage.sheets, 1..=7, 30, "sheets with ground");
+    at_least(&coverage.kinds, (1..=4).chain([10]).chain(20..=31).chain(40..=48), 400, "kind");
+    at_least(&coverage.operators, 1..=8, 200, "operator");
+    assert_eq!((coverage.rows.least(), coverage.rows.most()), (Some(2), Some(256)));
+    at_least(&coverage.rows, 2..=90, 1, "rows");
+    at_least(&coverage.rows, [256], 200, "rows");
+    assert_eq!((coverage.binders.most(), coverage.marks.most()), (Some(16), Some(16)));
+    at_least(&coverage.binders, (0..=6).chain([16]), 50, "binders");
+    at_least(&coverage.marks, (0..=4).chain([16]), 40, "marks");
+    at_least(&coverage.leaves, 1..=4, 150, "leaves");
+    at_least(&coverage.events, [0, 8, 9], 1500, "events answered");
+    at_least(&coverage.actions, 1..=4, 400, "actions accepted");
+    at_least(&coverage.paths, 0..=16, 3, "path length accepted");
+    at_least(&coverage.strides, 1..=5, 15, "strides");
+    at_least(&coverage.strides, [17], 20, "strides");
+    assert!(coverage.strides.most() >= Some(30));
+    at_least(&coverage.entries, 0..=17, 10, "entries");
+    at_least(&coverage.failing, 0..=1, 250, "failing flag");
+    at_least(&coverage.values, 0..=1, 5000, "value flag");
+}
+
+#[test]
+fn both_ways_of_asking_print_the_same() {
+    let cases = cases();
+    let differing: Vec<usize> = compare::differing(&cases, Rules::asking(Asking::Literally)).collect();
+    assert_eq!(differing, []);
+}
+
+/// Each slip gives other screens than the rules in some case.
+#[test]
+fn every_slip_is_caught() {
+    assert!(Slip::ALL.len() >= 30);
+    let cases = cases();
+    let caught = |slip: Slip| compare::differing(&cases, Rules::slipping(slip)).next().is_some();
+    let missed: Vec<_> = Slip::ALL.iter().filter(|(slip, _)| !caught(*slip)).collect();
+    assert!(missed.is_empty(), "{missed:?}");
+}
+
+/// Cases follow from the seed alone, and others from another.
+#[test]
+fn cases_follow_from_the_seed() {
+    let inputs = |seed| compare::cases(seed, 20).into_iter().map(|case| case.input).collect::<Vec<_>>();
+    assert_eq!(inputs(7), inputs(7));
+    assert_ne!(inputs(7), inputs(8));
+}
+
+#[test]
+fn drafts_within_the_limits_are_accepted() {
+    for at in 0..COUNT {
+        let rows = generate::accepted(&mut Random::of_case(SEED, at));
+        let loaded = Flow::load(&sheet::write(&rows), Rules::default());
+        assert!(loaded.is_ok(), "{at}: {loaded:?}");
+    }
+}
+
+/// What 01 and the paper say of every rest: strides bounded by the rows of kind 43 and 47; a list
+/// that is empty exactly where the task fails; a rest that normalising does not change; entries
+/// that stand once.
+#[test]
+fn every_screen_keeps_the_theorems() {
+    for case in cases() {
+        let mut input = &case.input[..];
+        let Ok(Ok(flow)) = session::load(&mut input, Rules::default()) else { continue };
+        let bound = 1 + flow.rows.iter().filter(|row| matches!(row.kind, 43 | 47)).count();
+        let (mut state, strides) = State::start(&flow);
+        assert!(strides <= bound);
+        check_rest(&flow, &state);
+        for event in input.chunks(EVENT) {
+            let before = state.clone();
+            match state.handle(event) {
+                Ok(strides) => assert!((1..=bound).contains(&strides)),
+                Err(_) => assert_eq!(state, before),
+            }
+            check_rest(&flow, &state);
+        }
+    }
+}
+
+fn check_rest(flow: &Flow, state: &State) {
+    let look = state.look();
+    assert_eq!(look.failing, look.entries.is_empty());
+    assert!(look.entries.len() <= 2 * flow.rows.len());
+    for (at, entry) in look.entries.iter().enumerate() {
+        assert!(look.entries[..at].iter().all(|other| (&other.path, other.action) != (&entry.path, entry.action)));
+    }
+    if let Some(value) = look.value {
+        assert_eq!(value.type_of(), flow.own_type);
+    }
+    assert!(state.rests());
+}

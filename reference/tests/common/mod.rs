@@ -1,0 +1,153 @@
+//! Sheets, touches and screens for the tests.
+#![allow(dead_code)]
+
+use reference::event;
+use reference::flow::Flow;
+use reference::rules::Rules;
+use reference::session;
+use reference::sheet::{self, Row};
+
+/// A sheet being written, row by row.
+#[derive(Clone, Default)]
+pub struct Sheet(pub Vec<Row>);
+
+impl Sheet {
+    /// Adds a row and gives its number.
+    pub fn row(&mut self, kind: i32, a: i32, b: i32, c: i32) -> i32 {
+        self.0.push(Row::new(kind, a, b, c));
+        self.0.len() as i32 - 1
+    }
+
+    /// A filled editor of a number.
+    pub fn filled(&mut self, number: i32) -> i32 {
+        let number = self.row(22, number, 0, 0);
+        self.row(40, number, 0, 0)
+    }
+
+    /// An empty editor of a number. Row 0 must be the type number.
+    pub fn empty(&mut self) -> i32 {
+        self.row(41, 0, 0, 0)
+    }
+
+    /// The fail of type number. Row 0 must be the type number.
+    pub fn fail(&mut self) -> i32 {
+        self.row(45, 0, 0, 0)
+    }
+
+    /// A plain write of a number into `cell`.
+    pub fn write(&mut self, cell: i32, number: i32) -> i32 {
+        let number = self.row(22, number, 0, 0);
+        self.row(30, cell, number, 0)
+    }
+
+    /// A task that first writes a number into `cell`; `then` is added after the write's rows.
+    pub fn writing(&mut self, cell: i32, number: i32, then: impl FnOnce(&mut Self) -> i32) -> i32 {
+        let write = self.write(cell, number);
+        let then = then(self);
+        self.row(31, write, then, 0)
+    }
+
+    /// A filled editor if `left` (a plain row) equals `number`, else fail.
+    pub fn filled_if(&mut self, left: i32, number: i32, content: i32) -> i32 {
+        let right = self.row(22, number, 0, 0);
+        let equal = self.row(24, 6, left, right);
+        let filled = self.filled(content);
+        let fail = self.fail();
+        self.row(25, equal, filled, fail)
+    }
+
+    pub fn text(&self) -> Vec<u8> {
+        sheet::write(&self.0)
+    }
+}
+
+/// A sheet that starts with the type number at row 0.
+pub fn numbers() -> Sheet {
+    let mut sheet = Sheet::default();
+    sheet.row(3, 0, 0, 0);
+    sheet
+}
+
+/// What load answers.
+pub fn loads(text: &[u8]) -> i32 {
+    Flow::load(text, Rules::default()).map_or_else(|ground| ground.number(), |_| 0)
+}
+
+pub fn value(path: &str, number: i32) -> Vec<u8> {
+    event::write(path, 1, [number, 0, 0, 0])
+}
+
+pub fn go_on(path: &str) -> Vec<u8> {
+    event::write(path, 2, [0; 4])
+}
+
+pub fn left(path: &str) -> Vec<u8> {
+    event::write(path, 3, [0; 4])
+}
+
+pub fn right(path: &str) -> Vec<u8> {
+    event::write(path, 4, [0; 4])
+}
+
+/// A session's input.
+pub fn input(sheet: &[u8], events: &[Vec<u8>]) -> Vec<u8> {
+    let count = sheet.len() / sheet::LINE;
+    let mut input = format!("{count:>4}\n").into_bytes();
+    input.extend_from_slice(sheet);
+    input.extend(events.iter().flatten());
+    input
+}
+
+/// A screen, read back from what the session printed.
+#[derive(Clone, Debug, PartialEq, Eq)]
+pub struct Screen {
+    pub answer: i32,
+    pub strides: i32,
+    pub failing: bool,
+    pub value: Option<[i32; 4]>,
+    /// Path, action and leaf kinds, one space between.
+    pub entries: Vec<String>,
+}
+
+impl Screen {
+    pub fn leaf(&self) -> Option<i32> {
+        self.value.map(|leaves| leaves[0])
+    }
+}
+
+/// The screens of a session with this sheet and these events.
+pub fn screens(sheet: &Sheet, events: &[Vec<u8>]) -> Vec<Screen> {
+    read_screens(&session::screens(&input(&sheet.text(), events), Rules::default()))
+}
+
+/// The last of the screens.
+pub fn last_screen(sheet: &Sheet, events: &[Vec<u8>]) -> Screen {
+    screens(sheet, events).pop().expect("a session prints a screen")
+}
+
+pub fn read_screens(output: &[u8]) -> Vec<Screen> {
+    let text = std::str::from_utf8(output).expect("screens are text");
+    let mut lines = text.lines();
+    let mut screens = Vec::new();
+    while let Some(head) = lines.next() {
+        assert_eq!(head.len(), 64);
+        let number = |from: usize, to: usize| head[from..to].trim().parse::<i32>().expect("a number");
+        let leaves = [number(12, 24), number(24, 36), number(36, 48), number(48, 60)];
+        let entries = lines.by_ref().take(number(60, 64) as usize).map(words).collect();
+        let value = (number(10, 12) == 1).then_some(leaves);
+        assert!(value.is_some() || leaves == [0; 4]);
+        screens.push(Screen {
+            answer: number(0, 4),
+            strides: number(4, 8),
+            failing: number(8, 10) == 1,
+            value,
+            entries,
+        });
+    }
+    screens
+}
+
+fn words(entry: &str) -> String {
+    assert_eq!(entry.len(), 26);
+    entry.split_whitespace().collect::<Vec<_>>().join(" ")
+}
