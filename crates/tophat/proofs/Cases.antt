@@ -1,0 +1,242 @@
+-- 01's proved cases, P1 to P12, as one computed check: what the definitions give for each flow and its touches is what 01
+-- says. A screen is written in 01's numbers and in 01's order. Rests on the Compute files.
+use mathlib.Core.Path.{_≡_, refl}
+use mathlib.Core.Bool.{Bool, true, false}
+use mathlib.Core.Option.{Option, none, some}
+use mathlib.Core.List.{List, [], _∷_, map}
+use Prim.Native.Nat.{ℕ}
+use lib.IntN.{ℤ, pos, negsuc}
+use native.Mathlib.Decide.{decLe}
+use Rattle.word.specs.Word.{wrap, residue}
+use Rattle.decimal.specs.Path.{Mark, first, second, Path}
+use Rattle.tophat.specs.Syntax.{leaves, moves, Ty, number, pair, sum, product, lessEqual, equal, Exp, enumber, ebinder, eop, eassign}
+use Rattle.tophat.specs.Syntax.{Code, edit, enter, update, then, next, fail, and, or, xor, if, let', TaskOf, Val, vnumber, Store}
+use Rattle.tophat.specs.Normalising.{value, pairOf}
+use Rattle.tophat.specs.Handling.{leavesOf, padded, continue, left, right, Action, give, press}
+use Rattle.tophat.specs.Showing.{Leaf, noLeaf, unitLeaf, truthLeaf, numberLeaf, Offer, fill, button, leafKinds, marked, offers, lit}
+use Rattle.tophat.proofs.ComputeTyping.{inferTask, infer, bind, ask, nth, numberTo, opTo, takes, gives, sameTo, ifTo, typeTo, assignTo}
+use Rattle.tophat.proofs.ComputeEvaluation.{eval, branch, isTrue, apply, leaf}
+use Rattle.tophat.proofs.ComputeNormalising.{failing, normalise, settle, strides, unlessStill, goOn, goOnWith, chooseRight, chooseLeft}
+use Rattle.tophat.proofs.ComputeHandling.{typeOf, handle, valueOf, meetsLeaf, meets, given, mapTask, thenSome, atEditor, atSides, atContinue, unlessFailing}
+use Rattle.tophat.proofs.ComputeEntries.{entries, litContinue}
+
+-- Screens, as 01 prints them.
+
+-- path, action, leaf kinds
+pub data Line : Type 0 where
+  line : List ℕ → ℕ → List ℕ → Line
+
+-- answer, strides, failing, value flag, leaves, entries
+pub data Screen : Type 0 where
+  screen : ℕ → ℕ → ℕ → ℕ → List ℤ → List Line → Screen
+
+unfoldable pub digit : Mark → ℕ
+digit first = 1
+digit second = 2
+
+unfoldable pub kind : Leaf → ℕ
+kind noLeaf = 0
+kind unitLeaf = 1
+kind truthLeaf = 2
+kind numberLeaf = 3
+
+unfoldable pub lineOf : Path → Offer → Line
+lineOf p (fill ks) = line (map digit p) 1 (map kind ks)
+lineOf p (button continue) = line (map digit p) 2 (0 ∷ 0 ∷ 0 ∷ 0 ∷ [])
+lineOf p (button left) = line (map digit p) 3 (0 ∷ 0 ∷ 0 ∷ 0 ∷ [])
+lineOf p (button right) = line (map digit p) 4 (0 ∷ 0 ∷ 0 ∷ 0 ∷ [])
+
+unfoldable pub flag : Bool → ℕ
+flag true = 1
+flag false = 0
+
+unfoldable pub valueFlag : Option Val → ℕ
+valueFlag none = 0
+valueFlag (some v) = 1
+
+unfoldable pub valueLeaves : Option Val → List ℤ
+valueLeaves none = padded (pos 0) []
+valueLeaves (some v) = padded (pos 0) (leavesOf v)
+
+unfoldable pub screenOf : (c : Code) → ℕ → ℕ → TaskOf c → Store → Screen
+screenOf c answer n t s =
+    screen answer n (flag (failing c [] s t)) (valueFlag (value c t s)) (valueLeaves (value c t s)) (map (λ e. lineOf (e .0) (e .1)) (entries c [] s t))
+
+-- A case: a flow, its cells and its events; and what 01 says of it: its type, the screens after start and after each event,
+-- and the cells in the end.
+pub record Case : Type 0 where
+  pub flow : Code
+  pub cells : Store
+  pub events : List (Path × Action)
+  pub type : Option Ty
+  pub shown : List Screen
+  pub kept : Store
+
+abbrev pub Outcome : Type 0
+Outcome = Option Ty × List Screen × Store
+
+unfoldable pub expected : Case → Outcome
+expected k = (k .type, k .shown, k .kept)
+
+-- answer, strides, task and store after an event
+unfoldable pub taken : (c : Code) → TaskOf c → Store → Option (TaskOf c × Store) → ℕ × ℕ × TaskOf c × Store
+taken c t s none = (9, 0, t, s)
+taken c t s (some r) = let (t₁, s₁, n) = normalise c [] (r .1) (r .0) in (0, n, t₁, s₁)
+
+unfoldable pub screens : (c : Code) → ℕ × ℕ × TaskOf c × Store → List (Path × Action) → List Screen × Store
+screens c (answer, n, t, s) [] = (screenOf c answer n t s ∷ [], s)
+screens c (answer, n, t, s) ((p, x) ∷ xs) =
+    let (ss, s₁) = screens c (taken c t s (handle c [] s t p x)) xs in
+    (screenOf c answer n t s ∷ ss, s₁)
+
+unfoldable pub computed : Case → Outcome
+computed k =
+    let c = k .flow in
+    let (t, s, n) = settle c [] (k .cells) in
+    let (ss, s₁) = screens c (0, n, t, s) (k .events) in
+    (inferTask (map typeOf (k .cells)) [] c, ss, s₁)
+
+-- numbers in flows, cells and events, and as the first of four leaves
+abbrev pub num : ℕ → Exp
+num n = enumber (pos n)
+
+abbrev pub cell : ℕ → Store
+cell n = vnumber (pos n) ∷ []
+
+abbrev pub single : ℤ → List ℤ
+single n = n ∷ pos 0 ∷ pos 0 ∷ pos 0 ∷ []
+
+abbrev pub value1 : ℕ → Path × Action
+value1 n = ([], give (single (pos n)))
+
+-- the entry of an editor of numbers at a path, and Left's at the empty path
+abbrev pub editor : List ℕ → Line
+editor p = line p 1 (3 ∷ 0 ∷ 0 ∷ 0 ∷ [])
+
+abbrev pub leftLine : Line
+leftLine = line [] 3 (0 ∷ 0 ∷ 0 ∷ 0 ∷ [])
+
+-- P1 to P4: 01's session: started, value 12, value 4, Continue
+abbrev pub p1-p4 : Case
+p1-p4 = record {
+  flow = then (enter number) (if (eop lessEqual (ebinder 0) (num 9)) (edit (eop product (ebinder 0) (num 30))) (fail number));
+  cells = [];
+  events = value1 12 ∷ value1 4 ∷ ([], press continue) ∷ [];
+  type = some number;
+  shown =
+      screen 0 1 0 0 (single (pos 0)) (editor [] ∷ [])
+      ∷ screen 0 1 0 0 (single (pos 0)) (editor [] ∷ [])
+      ∷ screen 0 2 0 1 (single (pos 120)) (editor [] ∷ [])
+      ∷ screen 9 0 0 1 (single (pos 120)) (editor [] ∷ [])
+      ∷ [];
+  kept = [];
+}
+
+-- P5: choice 47 of filled 1 and 2: 1 alone
+abbrev pub p5 : Case
+p5 = record {
+  flow = or (edit (num 1)) (edit (num 2));
+  cells = [];
+  events = [];
+  type = some number;
+  shown = screen 0 2 0 1 (single (pos 1)) (editor [] ∷ []) ∷ [];
+  kept = [];
+}
+
+-- P6: of empty and filled 2: 2 alone
+abbrev pub p6 : Case
+p6 = record {
+  flow = or (enter number) (edit (num 2));
+  cells = [];
+  events = [];
+  type = some number;
+  shown = screen 0 2 0 1 (single (pos 2)) (editor [] ∷ []) ∷ [];
+  kept = [];
+}
+
+-- P7: both of two fails: failing, no entries
+abbrev pub p7 : Case
+p7 = record {
+  flow = and (fail number) (fail number);
+  cells = [];
+  events = [];
+  type = some (pair number number);
+  shown = screen 0 1 1 0 (single (pos 0)) [] ∷ [];
+  kept = [];
+}
+
+-- P8: choice 48 of filled and fail: Left only; here Right and then Left are touched
+abbrev pub p8 : Case
+p8 = record {
+  flow = xor (edit (num 1)) (fail number);
+  cells = [];
+  events = ([], press right) ∷ ([], press left) ∷ [];
+  type = some number;
+  shown =
+      screen 0 1 0 0 (single (pos 0)) (leftLine ∷ [])
+      ∷ screen 9 0 0 0 (single (pos 0)) (leftLine ∷ [])
+      ∷ screen 0 1 0 1 (single (pos 1)) (editor [] ∷ [])
+      ∷ [];
+  kept = [];
+}
+
+-- P9: filled 1, Continue to fail: one entry, the editor's; here Continue is touched
+abbrev pub p9 : Case
+p9 = record {
+  flow = next (edit (num 1)) (fail number);
+  cells = [];
+  events = ([], press continue) ∷ [];
+  type = some number;
+  shown =
+      screen 0 1 0 0 (single (pos 0)) (editor [] ∷ [])
+      ∷ screen 9 0 0 0 (single (pos 0)) (editor [] ∷ [])
+      ∷ [];
+  kept = [];
+}
+
+-- P10: cell 7; filled 1, internal step that writes 3 and fails: cell 7
+abbrev pub p10 : Case
+p10 = record {
+  flow = then (edit (num 1)) (let' (eassign 0 (num 3)) (fail number));
+  cells = cell 7;
+  events = [];
+  type = some number;
+  shown = screen 0 1 0 0 (single (pos 0)) (editor [] ∷ []) ∷ [];
+  kept = cell 7;
+}
+
+-- P11: cell 0; both of (shared, step to filled 1 if the value is 1, else fail) and (filled 1, step that writes 1, then
+-- filled 0): value (1, 0), 3 strides
+abbrev pub p11 : Case
+p11 = record {
+  flow = and (then (update 0) (if (eop equal (ebinder 0) (num 1)) (edit (num 1)) (fail number))) (then (edit (num 1)) (let' (eassign 0 (num 1)) (edit (num 0))));
+  cells = cell 0;
+  events = [];
+  type = some (pair number number);
+  shown = screen 0 3 0 1 (pos 1 ∷ pos 0 ∷ pos 0 ∷ pos 0 ∷ []) (editor (1 ∷ []) ∷ editor (2 ∷ []) ∷ []) ∷ [];
+  kept = cell 1;
+}
+
+-- P12: 2147483647 plus 1 is -2147483648
+abbrev pub p12 : Case
+p12 = record {
+  flow = edit (eop sum (num 2147483647) (num 1));
+  cells = [];
+  events = [];
+  type = some number;
+  shown = screen 0 1 0 1 (single (negsuc 2147483647)) (editor [] ∷ []) ∷ [];
+  kept = [];
+}
+
+unfoldable pub cases : List Case
+cases = p1-p4 ∷ p5 ∷ p6 ∷ p7 ∷ p8 ∷ p9 ∷ p10 ∷ p11 ∷ p12 ∷ []
+
+-- P1 to P12: what is computed is what 01 says
+pub cases-hold : map computed cases ≡ map expected cases
+unfolding
+    cases computed expected screens taken screenOf flag valueFlag valueLeaves lineOf digit kind inferTask infer
+    bind ask nth numberTo opTo takes gives sameTo ifTo typeTo assignTo decLe leaves moves settle normalise strides
+    unlessStill goOn goOnWith chooseRight chooseLeft failing eval branch isTrue apply leaf value pairOf
+    leavesOf padded leafKinds marked offers lit typeOf valueOf meetsLeaf meets given mapTask thenSome atEditor
+    atSides atContinue unlessFailing handle litContinue entries wrap residue
+cases-hold = refl

@@ -1,0 +1,116 @@
+-- Handling as a function that computes: an event's leaves as a value of a type, and what a task that takes the event
+-- becomes. Rests on ComputeNormalising; HandlingSound and HandlingComplete tie it to the rules.
+use mathlib.Core.Bool.{Bool, true, false, _&&_, _||_, cond}
+use mathlib.Core.Option.{Option, none, some}
+use mathlib.Core.List.{List, [], _∷_}
+use lib.Dec.{ltb}
+use lib.IntN.{ℤ, pos}
+use lib.Signed.{mag}
+use lib.ListN.{getD, set, drop}
+use Rattle.word.specs.Word.{half, eqZ}
+use Rattle.decimal.specs.Path.{first, second, Path}
+use Rattle.tophat.specs.Syntax.{Ty, unit, truth, number, pair, leaves, Code, edit, enter, update, then, next, fail, and, or, xor, if, let', Val, vunit, vtruth, vnumber, vpair, Env, Store}
+use Rattle.tophat.specs.Syntax.{TaskOf, filled, entered, shared, before, after, both, either, orLeft, orRight, unpicked, pickedLeft, pickedRight, ifTrue, ifFalse, bound}
+use Rattle.tophat.specs.Normalising.{value}
+use Rattle.tophat.specs.Handling.{padded, continue, left, right, Action, give, press}
+use Rattle.tophat.specs.Showing.{Leaf, noLeaf, unitLeaf, truthLeaf, numberLeaf, leafKinds}
+use Rattle.tophat.proofs.ComputeEvaluation.{evaluate}
+use Rattle.tophat.proofs.ComputeNormalising.{failing, settle}
+
+unfoldable pub typeOf : Val → Ty
+typeOf vunit = unit
+typeOf (vtruth b) = truth
+typeOf (vnumber n) = number
+typeOf (vpair v w) = pair (typeOf v) (typeOf w)
+
+-- the value of a type whose leaves stand first in a list
+unfoldable pub valueOf : Ty → List ℤ → Val
+valueOf unit ls = vunit
+valueOf truth ls = vtruth (eqZ (getD ls 0 (pos 0)) (pos 1))
+valueOf number ls = vnumber (getD ls 0 (pos 0))
+valueOf (pair τ υ) ls = vpair (valueOf τ ls) (valueOf υ (drop (leaves τ) ls))
+
+unfoldable pub meetsLeaf : Leaf → ℤ → Bool
+meetsLeaf noLeaf n = eqZ n (pos 0)
+meetsLeaf unitLeaf n = eqZ n (pos 0)
+meetsLeaf truthLeaf n = eqZ n (pos 0) || eqZ n (pos 1)
+meetsLeaf numberLeaf n = ltb (mag n) half
+
+unfoldable pub meets : List Leaf → List ℤ → Bool
+meets [] [] = true
+meets [] (n ∷ ls) = false
+meets (k ∷ ks) [] = false
+meets (k ∷ ks) (n ∷ ls) = meetsLeaf k n && meets ks ls
+
+-- an event's four leaves as a value of a type
+unfoldable pub given : Ty → List ℤ → Option Val
+given τ ls = cond (meets (padded noLeaf (leafKinds τ)) ls) (some (valueOf τ ls)) none
+
+unfoldable pub mapTask : {A C : Type 0} → (A → C) → Option (A × Store) → Option (C × Store)
+mapTask K none = none
+mapTask K (some r) = some (K (r .0), r .1)
+
+unfoldable pub thenSome : {A B : Type 0} → Option A → (A → B) → Option B
+thenSome none f = none
+thenSome (some a) f = some (f a)
+
+module _ {X : Type 0} where
+  -- an editor takes a value at the path's end
+  unfoldable pub atEditor : Path → Action → (List ℤ → Option X) → Option X
+  atEditor [] (give ls) f = f ls
+  atEditor [] (press b) f = none
+  atEditor (m ∷ p) x f = none
+
+  -- 46 and 47 take a mark
+  unfoldable pub atMark : Path → (Path → Option X) → (Path → Option X) → Option X
+  atMark [] f g = none
+  atMark (first ∷ p) f g = f p
+  atMark (second ∷ p) f g = g p
+
+  -- an unpicked 48 takes Left and Right at the path's end
+  unfoldable pub atSides : Path → Action → (Unit {0} → Option X) → (Unit {0} → Option X) → Option X
+  atSides [] (give ls) f g = none
+  atSides [] (press continue) f g = none
+  atSides [] (press left) f g = f tt
+  atSides [] (press right) f g = g tt
+  atSides (m ∷ p) x f g = none
+
+  -- a 44 takes Continue at the path's end where A has a value, and passes everything else
+  unfoldable pub atContinue : Path → Action → Option Val → (Val → Option X) → (Unit {0} → Option X) → Option X
+  atContinue [] (give ls) o f g = g tt
+  atContinue [] (press continue) none f g = g tt
+  atContinue [] (press continue) (some v) f g = f v
+  atContinue [] (press left) o f g = g tt
+  atContinue [] (press right) o f g = g tt
+  atContinue (m ∷ p) x o f g = g tt
+
+-- what is taken where it does not fail
+unfoldable pub unlessFailing : {A C : Type 0} → Bool → (A → C) → A → Store → Option (C × Store)
+unlessFailing true K t s = none
+unlessFailing false K t s = some (K t, s)
+
+unfoldable pub handle : (c : Code) → Env → Store → TaskOf c → Path → Action → Option (TaskOf c × Store)
+handle (edit e) ρ s (filled w) p x = atEditor p x λ ls. thenSome (given (typeOf w) ls) λ v. (filled v, s)
+handle (enter τ) ρ s t p x = atEditor p x λ ls. thenSome (given τ ls) λ v. (entered v, s)
+handle (update n) ρ s t p x = atEditor p x λ ls. thenSome (given (typeOf (getD s n vunit)) ls) λ v. (shared, set s n v)
+handle (then a b) ρ s (before t) p x = mapTask before (handle a ρ s t p x)
+handle (then a b) ρ s (after v u) p x = mapTask (after v) (handle b (v ∷ ρ) s u p x)
+handle (next a b) ρ s (before t) p x =
+    atContinue p x (value a t s)
+    (λ v. let (u, s₁) = evaluate b (v ∷ ρ) s in unlessFailing (failing b (v ∷ ρ) s₁ u) (after v) u s₁)
+    (λ _. mapTask before (handle a ρ s t p x))
+handle (next a b) ρ s (after v u) p x = mapTask (after v) (handle b (v ∷ ρ) s u p x)
+handle (fail τ) ρ s t p x = none
+handle (and a b) ρ s (both t u) p x = atMark p (λ q. mapTask (λ t. both t u) (handle a ρ s t q x)) (λ q. mapTask (λ u. both t u) (handle b ρ s u q x))
+handle (or a b) ρ s (either t u) p x = atMark p (λ q. mapTask (λ t. either t u) (handle a ρ s t q x)) (λ q. mapTask (λ u. either t u) (handle b ρ s u q x))
+handle (or a b) ρ s (orLeft t) p x = mapTask orLeft (handle a ρ s t p x)
+handle (or a b) ρ s (orRight u) p x = mapTask orRight (handle b ρ s u p x)
+handle (xor a b) ρ s unpicked p x =
+    atSides p x
+    (λ _. let (t, s₁, n) = settle a ρ s in unlessFailing (failing a ρ s₁ t) pickedLeft t s₁)
+    (λ _. let (u, s₁, n) = settle b ρ s in unlessFailing (failing b ρ s₁ u) pickedRight u s₁)
+handle (xor a b) ρ s (pickedLeft t) p x = mapTask pickedLeft (handle a ρ s t p x)
+handle (xor a b) ρ s (pickedRight u) p x = mapTask pickedRight (handle b ρ s u p x)
+handle (if e a b) ρ s (ifTrue t) p x = mapTask ifTrue (handle a ρ s t p x)
+handle (if e a b) ρ s (ifFalse u) p x = mapTask ifFalse (handle b ρ s u p x)
+handle (let' e b) ρ s (bound v u) p x = mapTask (bound v) (handle b (v ∷ ρ) s u p x)

@@ -1,0 +1,113 @@
+-- A task shows at most as many entries as its code has task rows. Rests on ComputeEntries.
+use mathlib.Core.Path.{_≡_, refl, ap}
+use mathlib.Core.Bool.{Bool, true, false, not}
+use mathlib.Core.Option.{Option, none, some}
+use mathlib.Core.List.{List, [], _∷_, _++_}
+use Prim.Native.Nat.{ℕ, suc, _+_, _≤_}
+use native.Mathlib.Omega.{arith}
+use lib.ListN.{length, length-append}
+use Rattle.decimal.specs.Path.{Mark, first, second}
+use Rattle.tophat.specs.Syntax.{Code, edit, enter, update, then, next, fail, and, or, xor, if, let', Val, Env, Store}
+use Rattle.tophat.specs.Syntax.{TaskOf, filled, before, after, both, either, orLeft, orRight, unpicked, pickedLeft, pickedRight, ifTrue, ifFalse, bound}
+use Rattle.tophat.specs.Normalising.{value}
+use Rattle.tophat.specs.Handling.{Button, continue, left, right}
+use Rattle.tophat.specs.Showing.{Entry, marked, offers, lit}
+use Rattle.tophat.proofs.ComputeEvaluation.{evaluate}
+use Rattle.tophat.proofs.ComputeNormalising.{failing, settle}
+use Rattle.tophat.proofs.ComputeEntries.{litContinue, entries}
+
+-- the rows that are tasks
+unfoldable pub taskRows : Code → ℕ
+taskRows (edit e) = 1
+taskRows (enter τ) = 1
+taskRows (update n) = 1
+taskRows (then a b) = 1 + taskRows a + taskRows b
+taskRows (next a b) = 1 + taskRows a + taskRows b
+taskRows (fail τ) = 1
+taskRows (and a b) = 1 + taskRows a + taskRows b
+taskRows (or a b) = 1 + taskRows a + taskRows b
+taskRows (xor a b) = 1 + taskRows a + taskRows b
+taskRows (if e a b) = 1 + taskRows a + taskRows b
+taskRows (let' e b) = 1 + taskRows b
+
+some-row : (c : Code) → 1 ≤ taskRows c
+unfolding taskRows
+some-row (edit e) = omega arith
+some-row (enter τ) = omega arith
+some-row (update n) = omega arith
+some-row (then a b) = omega arith
+some-row (next a b) = omega arith
+some-row (fail τ) = omega arith
+some-row (and a b) = omega arith
+some-row (or a b) = omega arith
+some-row (xor a b) = omega arith
+some-row (if e a b) = omega arith
+some-row (let' e b) = omega arith
+
+length-marked : (m : Mark) (es : List Entry) → length (marked m es) ≡ length es
+unfolding marked
+length-marked m [] = refl
+length-marked m (e ∷ es) = ap suc (length-marked m es)
+
+length-lit : (x : Bool) (b : Button) → length (lit x b) ≤ 1
+unfolding lit
+length-lit true b = omega arith
+length-lit false b = omega arith
+
+marked-both : (es gs : List Entry) → length (marked first es ++ marked second gs) ≡ length es + length gs
+marked-both es gs =
+    let e = length-append (marked first es) (marked second gs) in
+    let h = length-marked first es in
+    let k = length-marked second gs in
+    omega arith
+
+with-continue : (es : List Entry) (o : Option Val) (F : Val → Bool) → length (es ++ litContinue o F) ≤ 1 + length es
+unfolding litContinue
+with-continue es none F = let e = length-append es [] in omega arith
+with-continue es (some v) F = let e = length-append es (lit (not (F v)) continue) in let h = length-lit (not (F v)) continue in omega arith
+
+two-lit : (x y : Bool) → length (lit x left ++ lit y right) ≤ 2
+two-lit x y =
+    let e = length-append (lit x left) (lit y right) in
+    let h = length-lit x left in
+    let k = length-lit y right in
+    omega arith
+
+-- at most one entry for each task row
+pub entries-bound : (c : Code) (ρ : Env) (s : Store) (t : TaskOf c) → length (entries c ρ s t) ≤ taskRows c
+unfolding entries taskRows offers
+entries-bound (edit e) ρ s (filled v) = omega arith
+entries-bound (enter τ) ρ s t = omega arith
+entries-bound (update n) ρ s t = omega arith
+entries-bound (then a b) ρ s (before t) = let h = entries-bound a ρ s t in omega arith
+entries-bound (then a b) ρ s (after v u) = let h = entries-bound b (v ∷ ρ) s u in omega arith
+entries-bound (next a b) ρ s (before t) =
+    let h = entries-bound a ρ s t in
+    let k = with-continue (entries a ρ s t) (value a t s) (λ v. let (u, s₁) = evaluate b (v ∷ ρ) s in failing b (v ∷ ρ) s₁ u) in
+    omega arith
+entries-bound (next a b) ρ s (after v u) = let h = entries-bound b (v ∷ ρ) s u in omega arith
+entries-bound (fail τ) ρ s t = omega arith
+entries-bound (and a b) ρ s (both t u) =
+    let h = entries-bound a ρ s t in
+    let k = entries-bound b ρ s u in
+    let e = marked-both (entries a ρ s t) (entries b ρ s u) in
+    omega arith
+entries-bound (or a b) ρ s (either t u) =
+    let h = entries-bound a ρ s t in
+    let k = entries-bound b ρ s u in
+    let e = marked-both (entries a ρ s t) (entries b ρ s u) in
+    omega arith
+entries-bound (or a b) ρ s (orLeft t) = let h = entries-bound a ρ s t in omega arith
+entries-bound (or a b) ρ s (orRight u) = let h = entries-bound b ρ s u in omega arith
+entries-bound (xor a b) ρ s unpicked =
+    let (t, s₁, m) = settle a ρ s in
+    let (u, s₂, n) = settle b ρ s in
+    let h = two-lit (not (failing a ρ s₁ t)) (not (failing b ρ s₂ u)) in
+    let k = some-row a in
+    let l = some-row b in
+    omega arith
+entries-bound (xor a b) ρ s (pickedLeft t) = let h = entries-bound a ρ s t in omega arith
+entries-bound (xor a b) ρ s (pickedRight u) = let h = entries-bound b ρ s u in omega arith
+entries-bound (if e a b) ρ s (ifTrue t) = let h = entries-bound a ρ s t in omega arith
+entries-bound (if e a b) ρ s (ifFalse u) = let h = entries-bound b ρ s u in omega arith
+entries-bound (let' e b) ρ s (bound v u) = let h = entries-bound b (v ∷ ρ) s u in omega arith

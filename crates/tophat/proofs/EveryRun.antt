@@ -1,0 +1,140 @@
+-- The theorem on all lists of look and handle calls, on trees (01, "Four lines on the contracts", 3).
+-- A rest is a task and a store of the code's types that normalising does not change. In every rest (`rest-stands`) the
+-- rules accept or refuse each event, and an accepted one they carry to a normal form, in at most one stride more than the
+-- code has rows of kind 43 and 47; they give the task a list of entries, which covers exactly the accepted events, each by
+-- one entry; and that list is empty exactly when the task fails, which they decide. A typed code, evaluated and normalised in
+-- a store of the cells' types, comes to a rest (`started-rest`). From a rest every list of calls runs, and ends in a rest
+-- (`every-run`); it ends in no other state (`run-one`), so whatever run the rules derive ends in a rest (`run-stands`).
+-- Rests on HandlingSound, HandlingComplete, EntriesAgree, EntriesCover, EntriesFailing and Bound.
+use mathlib.Core.Path.{_≡_, refl, subst}
+use mathlib.Core.Bool.{true, false}
+use mathlib.Core.Logic.{_⊎_, inl, inr, _↔_}
+use mathlib.Core.Option.{Option, none, some}
+use mathlib.Core.List.{List, [], _∷_}
+use Prim.Native.Nat.{ℕ, _+_, _≤_}
+use Rattle.decimal.specs.Path.{Path}
+use Rattle.tophat.specs.Syntax.{moves, Ty, Code, Store, TaskOf}
+use Rattle.tophat.specs.Typing.{CodeType, v-nil, ValueTypes}
+use Rattle.tophat.specs.Evaluation.{EvaluatesTask}
+use Rattle.tophat.specs.Normalising.{Fails, Normalises}
+use Rattle.tophat.specs.Handling.{Action, Handles}
+use Rattle.tophat.specs.Runs.{Call, look, touch, Accepts, Refuses, Leaves, l-look, l-taken, l-refused, Runs, r-end, r-call, Rest, Stands}
+use Rattle.tophat.proofs.Basics.{apart, by-truth, All, all-none, all-some, all-is}
+use Rattle.tophat.proofs.ComputeNormalising.{failing, settle}
+use Rattle.tophat.proofs.ComputeHandling.{handle}
+use Rattle.tophat.proofs.ComputeEntries.{entries}
+use Rattle.tophat.proofs.TaskEvaluationAgrees.{evaluate-good}
+use Rattle.tophat.proofs.NormalisingSound.{fails-sound, normalise-sound}
+use Rattle.tophat.proofs.NormalisingComplete.{fails-is, normalises-one}
+use Rattle.tophat.proofs.Bound.{normalises-bound, normal-rest}
+use Rattle.tophat.proofs.HandlingComplete.{handles-is, handles-one, refuses}
+use Rattle.tophat.proofs.HandlingSound.{GoodHandling, handles-sound}
+use Rattle.tophat.proofs.Lights.{Covered}
+use Rattle.tophat.proofs.EntriesCover.{covered-taken, taken-covered, covered-once}
+use Rattle.tophat.proofs.EntriesFailing.{empty-failing}
+use Rattle.tophat.proofs.EntriesAgree.{shows-is, shows-sound}
+
+module _ {Σ : List Ty} {c : Code} {τ : Ty} {t : TaskOf c} {s : Store} (r : Rest Σ c τ t s) where
+  -- what `handle` answers in a rest
+  handled : (p : Path) (x : Action) → All (GoodHandling Σ [] τ c [] s t p x) (handle c [] s t p x)
+  handled p x = handles-sound c [] s t p x (r .task) v-nil (r .store)
+
+  decide : (p : Path) (x : Action) (o : Option (TaskOf c × Store)) → handle c [] s t p x ≡ o → All (GoodHandling Σ [] τ c [] s t p x) o → Accepts c t s p x ⊎ Refuses c t s p x
+  decide p x none e all-none = inr (refuses c s t p x e)
+  decide p x (some q) e (all-some g) = inl (q .0, q .1, g .derived)
+
+  follow : (p : Path) (x : Action) (t₁ : TaskOf c) (s₁ : Store) → Handles c [] s t p x t₁ s₁ → (t₂ : TaskOf c) × (s₂ : Store) × (n : ℕ) × Normalises c [] s₁ t₁ t₂ s₂ n × (n ≤ 1 + moves c)
+  follow p x t₁ s₁ d =
+      let g = all-is (handled p x) (handles-is d) in
+      let n = normalise-sound c [] s₁ t₁ (g .task) v-nil (g .store) in
+      (_, _, _, n .derived, normalises-bound (n .derived))
+
+  accepted-covered : (p : Path) (x : Action) → Accepts c t s p x ↔ Covered (entries c [] s t) p x
+  accepted-covered p x = (
+    λ (t₁, s₁, d). taken-covered c [] s t (handles-is d),
+    λ (i, e, a, k). let (q, h) = covered-taken c [] s t a k in let g = all-is (handled p x) h in (q .0, q .1, g .derived),
+  )
+
+  fails : Fails c [] s t (failing c [] s t)
+  fails = fails-sound c [] s t (r .task) v-nil (r .store)
+
+  empty-fails : (entries c [] s t ≡ []) ↔ Fails c [] s t true
+  empty-fails =
+      let e = empty-failing c [] s t in
+      (λ h. subst (λ x. Fails c [] s t x) (e .0 h) fails, λ d. e .1 (fails-is d))
+
+  some-lives : (entries c [] s t ≡ [] → ⊥) ↔ Fails c [] s t false
+  some-lives =
+      let e = empty-failing c [] s t in (
+        λ n. by-truth (failing c [] s t) (λ h. absurd (n (e .1 h))) (λ h. subst (λ x. Fails c [] s t x) h fails),
+        λ d h. apart (e .0 h) (fails-is d),
+      )
+
+  -- what holds of every rest
+  pub rest-stands : Stands Σ c τ t s
+  rest-stands = record {
+    rest = r;
+    decided = λ p x. decide p x _ refl (handled p x);
+    one = λ p x t₁ t₂ s₁ s₂ d e. handles-one d e;
+    outcome = follow;
+    shown = entries c [] s t;
+    shows = shows-sound c [] s t (r .task) v-nil (r .store);
+    sole = λ es d. shows-is d;
+    lit = accepted-covered;
+    once = λ i j e f p x d k g h. covered-once c [] s t d k g h;
+    dark = empty-fails;
+    live = some-lives;
+  }
+
+  taken-rest : (p : Path) (x : Action) (o : Option (TaskOf c × Store)) → handle c [] s t p x ≡ o → All (GoodHandling Σ [] τ c [] s t p x) o → (t₁ : TaskOf c) × (s₁ : Store) × Leaves c t s (touch p x) t₁ s₁ × Rest Σ c τ t₁ s₁
+  taken-rest p x none e all-none = (t, s, l-refused (refuses c s t p x e), r)
+  taken-rest p x (some q) e (all-some g) =
+      let n = normalise-sound c [] (q .1) (q .0) (g .task) v-nil (g .store) in
+      (_, _, l-taken (g .derived) (n .derived), record { task = n .task; store = n .store; still = normal-rest (n .derived) })
+
+  -- every call leaves a rest
+  call-rest : (k : Call) → (t₁ : TaskOf c) × (s₁ : Store) × Leaves c t s k t₁ s₁ × Rest Σ c τ t₁ s₁
+  call-rest look = (t, s, l-look, r)
+  call-rest (touch p x) = taken-rest p x _ refl (handled p x)
+
+-- a typed code, evaluated and normalised in a store of the cells' types, is at rest
+pub started-rest : {Σ : List Ty} {c : Code} {τ : Ty} → CodeType Σ [] c τ → (s : Store) → ValueTypes s Σ
+    → let (t₁, s₁, n) = settle c [] s in (t₀ : TaskOf c) × (s₀ : Store) × EvaluatesTask c [] s t₀ s₀ × Normalises c [] s₀ t₀ t₁ s₁ n × Rest Σ c τ t₁ s₁
+unfolding settle
+started-rest {c = c} d s h =
+    let k = evaluate-good d [] s v-nil h in
+    let n = normalise-sound c [] _ _ (k .task) v-nil (k .store) in
+    (_, _, k .derived, n .derived, record { task = n .task; store = n .store; still = normal-rest (n .derived) })
+
+-- from a rest every list of calls runs, and what it leaves stands
+pub every-run : {Σ : List Ty} {c : Code} {τ : Ty} {t : TaskOf c} {s : Store} → Rest Σ c τ t s → (ks : List Call) → (t₁ : TaskOf c) × (s₁ : Store) × Runs c t s ks t₁ s₁ × Stands Σ c τ t₁ s₁
+every-run {t = t} {s = s} r [] = (t, s, r-end, rest-stands r)
+every-run r (k ∷ ks) =
+    let (t₁, s₁, l, q) = call-rest r k in
+    let (t₂, s₂, d, z) = every-run q ks in
+    (t₂, s₂, r-call l d, z)
+
+-- a call leaves one state
+leaves-one : {c : Code} {t t₁ t₂ : TaskOf c} {s s₁ s₂ : Store} {k : Call} → Leaves c t s k t₁ s₁ → Leaves c t s k t₂ s₂ → (t₁ ≡ t₂) × (s₁ ≡ s₂)
+leaves-one l-look l-look = (refl, refl)
+leaves-one (l-taken d n) (l-taken e m) =
+    let (p, q) = handles-one d e in
+    let (i, j, k) = normalises-one (rw (p, q) at n) m in
+    (i, j)
+leaves-one (l-taken d n) (l-refused r) = absurd (r _ _ d)
+leaves-one (l-refused r) (l-taken d n) = absurd (r _ _ d)
+leaves-one (l-refused r) (l-refused q) = (refl, refl)
+
+-- a list of calls has one end
+pub run-one : {c : Code} {t t₁ t₂ : TaskOf c} {s s₁ s₂ : Store} {ks : List Call} → Runs c t s ks t₁ s₁ → Runs c t s ks t₂ s₂ → (t₁ ≡ t₂) × (s₁ ≡ s₂)
+run-one r-end r-end = (refl, refl)
+run-one (r-call l d) (r-call k e) =
+    let (p, q) = leaves-one l k in
+    run-one (rw (p, q) at d) e
+
+-- so whatever run is derived from a rest leaves what stands
+pub run-stands : {Σ : List Ty} {c : Code} {τ : Ty} {t t₁ : TaskOf c} {s s₁ : Store} {ks : List Call} → Rest Σ c τ t s → Runs c t s ks t₁ s₁ → Stands Σ c τ t₁ s₁
+run-stands {ks = ks} r d =
+    let (t₂, s₂, e, z) = every-run r ks in
+    let (p, q) = run-one e d in
+    rw (p, q) at z

@@ -1,0 +1,233 @@
+-- Striding and normalising do not change whether a task fails: one with a value does not fail, one that fails does not
+-- move, and what has moved does not fail, in the store that it leaves. Rests on Progress.
+use mathlib.Core.Path.{_≡_, refl, sym, ap₂, _∙_}
+use mathlib.Core.Bool.{Bool, true, false, _&&_, _||_}
+use mathlib.Core.Option.{Option, none, some}
+use mathlib.Core.List.{_∷_}
+use Prim.Native.Nat.{ℕ, zero, suc, _<_}
+use native.Mathlib.Omega.{arith}
+use Rattle.tophat.specs.Syntax.{moves, Code, edit, enter, update, then, next, fail, and, or, xor, if, let', Val, Env, Store}
+use Rattle.tophat.specs.Syntax.{TaskOf, before, after, both, either, orLeft, orRight, unpicked, pickedLeft, pickedRight, ifTrue, ifFalse, bound}
+use Rattle.tophat.specs.Normalising.{pairOf, firstOf, value}
+use Rattle.tophat.proofs.Basics.{apart, by-truth, no-some}
+use Rattle.tophat.proofs.ComputeEvaluation.{evaluate}
+use Rattle.tophat.proofs.ComputeNormalising.{unlessStill, strides, goOn, goOnWith, chooseRight, chooseLeft, failing, stride, normalise, settle}
+use Rattle.tophat.proofs.Progress.{flag-is}
+
+and-left : (x y : Bool) → x && y ≡ true → x ≡ true
+and-left true y e = refl
+and-left false y e = e
+
+and-right : (x y : Bool) → x && y ≡ true → y ≡ true
+and-right true y e = e
+and-right false y e = apart e refl
+
+right-false : (x y : Bool) → y ≡ false → x && y ≡ false
+right-false true y e = e
+right-false false y e = refl
+
+paired : (o p : Option Val) (x y : Bool) {v : Val} → ((w : Val) → o ≡ some w → x ≡ false) → pairOf o p ≡ some v → x && y ≡ false
+unfolding pairOf
+paired none p x y h e = no-some e
+paired (some w) p x y h e = let k = h w refl in rw k
+
+chosen : (o p : Option Val) (x y : Bool) {v : Val} → ((w : Val) → o ≡ some w → x ≡ false) → ((w : Val) → p ≡ some w → y ≡ false) → firstOf o p ≡ some v → x && y ≡ false
+unfolding firstOf
+chosen none p x y {v} h k e = right-false x y (k v e)
+chosen (some w) p x y h k e = let l = h w refl in rw l
+
+-- a task with a value does not fail
+pub value-lives : (c : Code) (ρ : Env) (s : Store) (t : TaskOf c) (v : Val) → value c t s ≡ some v → failing c ρ s t ≡ false
+unfolding value failing
+value-lives (edit e) ρ s t v h = refl
+value-lives (enter τ) ρ s t v h = refl
+value-lives (update n) ρ s t v h = refl
+value-lives (then a b) ρ s (before t) v h = no-some h
+value-lives (then a b) ρ s (after w u) v h = value-lives b (w ∷ ρ) s u v h
+value-lives (next a b) ρ s (before t) v h = no-some h
+value-lives (next a b) ρ s (after w u) v h = value-lives b (w ∷ ρ) s u v h
+value-lives (fail τ) ρ s t v h = no-some h
+value-lives (and a b) ρ s (both t u) v h = paired (value a t s) (value b u s) (failing a ρ s t) (failing b ρ s u) (value-lives a ρ s t) h
+value-lives (or a b) ρ s (either t u) v h = chosen (value a t s) (value b u s) (failing a ρ s t) (failing b ρ s u) (value-lives a ρ s t) (value-lives b ρ s u) h
+value-lives (or a b) ρ s (orLeft t) v h = value-lives a ρ s t v h
+value-lives (or a b) ρ s (orRight u) v h = value-lives b ρ s u v h
+value-lives (xor a b) ρ s unpicked v h = no-some h
+value-lives (xor a b) ρ s (pickedLeft t) v h = value-lives a ρ s t v h
+value-lives (xor a b) ρ s (pickedRight u) v h = value-lives b ρ s u v h
+value-lives (if e a b) ρ s (ifTrue t) v h = value-lives a ρ s t v h
+value-lives (if e a b) ρ s (ifFalse u) v h = value-lives b ρ s u v h
+value-lives (let' e b) ρ s (bound w u) v h = value-lives b (w ∷ ρ) s u v h
+
+none-else : (o : Option Val) → ((v : Val) → o ≡ some v → none ≡ some v) → o ≡ none
+none-else none f = refl
+none-else (some v) f = no-some (f v refl)
+
+-- so a task that fails and does not move has no value where its stride leaves it
+no-value : (c : Code) (ρ : Env) (s : Store) (t : TaskOf c) → failing c ρ s t ≡ true → stride c ρ s t .2 ≡ false → value c (stride c ρ s t .0) (stride c ρ s t .1) ≡ none
+no-value c ρ s t h k = let q = flag-is c ρ s t .0 k in ap₂ (value c) (q .0) (q .1) ∙ none-else (value c t s) (λ v e. apart h (value-lives c ρ s t v e))
+
+-- a task that fails does not move
+pub failing-still : (c : Code) (ρ : Env) (s : Store) (t : TaskOf c) → failing c ρ s t ≡ true → stride c ρ s t .2 ≡ false
+unfolding failing stride goOnWith chooseLeft chooseRight
+failing-still (edit e) ρ s t h = refl
+failing-still (enter τ) ρ s t h = refl
+failing-still (update n) ρ s t h = refl
+failing-still (then a b) ρ s (before t) h = let k = failing-still a ρ s t h in let e = no-value a ρ s t h k in rw (e, k)
+failing-still (then a b) ρ s (after v u) h = failing-still b (v ∷ ρ) s u h
+failing-still (next a b) ρ s (before t) h = failing-still a ρ s t h
+failing-still (next a b) ρ s (after v u) h = failing-still b (v ∷ ρ) s u h
+failing-still (fail τ) ρ s t h = refl
+failing-still (and a b) ρ s (both t u) h =
+    let k = failing-still a ρ s t (and-left (failing a ρ s t) (failing b ρ s u) h) in
+    let e = flag-is a ρ s t .0 k .1 in
+    let l = failing-still b ρ s u (and-right (failing a ρ s t) (failing b ρ s u) h) in
+    rw (k, e, l)
+failing-still (or a b) ρ s (either t u) h =
+    let f = and-left (failing a ρ s t) (failing b ρ s u) h in
+    let g = and-right (failing a ρ s t) (failing b ρ s u) h in
+    let k = failing-still a ρ s t f in
+    let l = failing-still b ρ s u g in
+    let i = no-value a ρ s t f k in
+    let j = no-value b ρ s u g l in
+    let e = flag-is a ρ s t .0 k .1 in
+    rw (i, e, j, k, l)
+failing-still (or a b) ρ s (orLeft t) h = failing-still a ρ s t h
+failing-still (or a b) ρ s (orRight u) h = failing-still b ρ s u h
+failing-still (xor a b) ρ s unpicked h = refl
+failing-still (xor a b) ρ s (pickedLeft t) h = failing-still a ρ s t h
+failing-still (xor a b) ρ s (pickedRight u) h = failing-still b ρ s u h
+failing-still (if e a b) ρ s (ifTrue t) h = failing-still a ρ s t h
+failing-still (if e a b) ρ s (ifFalse u) h = failing-still b ρ s u h
+failing-still (let' e b) ρ s (bound v u) h = failing-still b (v ∷ ρ) s u h
+
+-- what a stride leaves, where it moved
+abbrev LivesIfMoved : (c : Code) → Env → TaskOf c × Store × Bool → Type 0
+LivesIfMoved c ρ r = r .2 ≡ true → failing c ρ (r .1) (r .0) ≡ false
+
+module _ (a b : Code) (ρ : Env) where
+  go-on : (v : Val) (t : TaskOf a) (s : Store) (m : Bool) (r : TaskOf b × Store) (x : Bool) → failing b (v ∷ ρ) (r .1) (r .0) ≡ x
+      → LivesIfMoved a ρ (t, s, m) → LivesIfMoved (then a b) ρ (goOn v t s m r x)
+  unfolding goOn failing
+  go-on v t s m r true f h = h
+  go-on v t s m r false f h = λ e. f
+
+  go-on-with : (o : Option Val) (t : TaskOf a) (s : Store) (m : Bool) → LivesIfMoved a ρ (t, s, m)
+      → LivesIfMoved (then a b) ρ (goOnWith o t s m (λ v. evaluate b (v ∷ ρ) s) (λ v r. failing b (v ∷ ρ) (r .1) (r .0)))
+  unfolding goOnWith failing
+  go-on-with none t s m h = h
+  go-on-with (some v) t s m h = go-on v t s m (evaluate b (v ∷ ρ) s) (failing b (v ∷ ρ) (evaluate b (v ∷ ρ) s .1) (evaluate b (v ∷ ρ) s .0)) refl h
+
+  -- two parts, the second at u in s and strided from there: if it did not move, the store is still s
+  two : (t : TaskOf a) (s : Store) (m : Bool) (u : TaskOf b) → LivesIfMoved a ρ (t, s, m) → LivesIfMoved b ρ (stride b ρ s u) → m || stride b ρ s u .2 ≡ true
+      → failing a ρ (stride b ρ s u .1) t && failing b ρ (stride b ρ s u .1) (stride b ρ s u .0) ≡ false
+  two t s m u h k e =
+      by-truth (stride b ρ s u .2)
+      (λ f. right-false (failing a ρ (stride b ρ s u .1) t) (failing b ρ (stride b ρ s u .1) (stride b ρ s u .0)) (k f))
+      (λ f. let g = flag-is b ρ s u .0 f .1 in let l : m ≡ true = moved m (stride b ρ s u .2) f e in let i = h l in rw (g, i))
+    where
+      moved : (x y : Bool) → y ≡ false → x || y ≡ true → x ≡ true
+      moved true y f e = refl
+      moved false y f e = apart e f
+
+  choose-right : (o : Option Val) (t : TaskOf a) (s : Store) (m : Bool) (u : TaskOf b) → value b (stride b ρ s u .0) (stride b ρ s u .1) ≡ o
+      → LivesIfMoved a ρ (t, s, m) → LivesIfMoved b ρ (stride b ρ s u)
+      → LivesIfMoved (or a b) ρ (chooseRight o t (stride b ρ s u .0) (stride b ρ s u .1) (m || stride b ρ s u .2))
+  unfolding chooseRight failing
+  choose-right none t s m u f h k = two t s m u h k
+  choose-right (some w) t s m u f h k = λ e. value-lives b ρ (stride b ρ s u .1) (stride b ρ s u .0) w f
+
+  choose-left : (o : Option Val) (t : TaskOf a) (s : Store) (m : Bool) (u : TaskOf b) → value a t s ≡ o → LivesIfMoved a ρ (t, s, m)
+      → LivesIfMoved b ρ (stride b ρ s u) → LivesIfMoved (or a b) ρ (chooseLeft o t u s m (λ s u. stride b ρ s u) (λ u s. value b u s))
+  unfolding chooseLeft failing
+  choose-left none t s m u f h k = choose-right (value b (stride b ρ s u .0) (stride b ρ s u .1)) t s m u refl h k
+  choose-left (some v) t s m u f h k = λ e. value-lives a ρ s t v f
+
+-- a stride that moved leaves a task that does not fail, in the store that it leaves
+pub moved-lives : (c : Code) (ρ : Env) (s : Store) (t : TaskOf c) → stride c ρ s t .2 ≡ true → failing c ρ (stride c ρ s t .1) (stride c ρ s t .0) ≡ false
+unfolding failing stride
+moved-lives (edit e) ρ s t h = refl
+moved-lives (enter τ) ρ s t h = refl
+moved-lives (update n) ρ s t h = refl
+moved-lives (then a b) ρ s (before t) h =
+    go-on-with a b ρ (value a (stride a ρ s t .0) (stride a ρ s t .1)) (stride a ρ s t .0) (stride a ρ s t .1) (stride a ρ s t .2) (moved-lives a ρ s t) h
+moved-lives (then a b) ρ s (after v u) h = moved-lives b (v ∷ ρ) s u h
+moved-lives (next a b) ρ s (before t) h = moved-lives a ρ s t h
+moved-lives (next a b) ρ s (after v u) h = moved-lives b (v ∷ ρ) s u h
+moved-lives (fail τ) ρ s t h = sym h
+moved-lives (and a b) ρ s (both t u) h =
+    two a b ρ (stride a ρ s t .0) (stride a ρ s t .1) (stride a ρ s t .2) u (moved-lives a ρ s t) (moved-lives b ρ (stride a ρ s t .1) u) h
+moved-lives (or a b) ρ s (either t u) h =
+    choose-left a b ρ (value a (stride a ρ s t .0) (stride a ρ s t .1)) (stride a ρ s t .0) (stride a ρ s t .1) (stride a ρ s t .2) u refl
+    (moved-lives a ρ s t) (moved-lives b ρ (stride a ρ s t .1) u) h
+moved-lives (or a b) ρ s (orLeft t) h = moved-lives a ρ s t h
+moved-lives (or a b) ρ s (orRight u) h = moved-lives b ρ s u h
+moved-lives (xor a b) ρ s unpicked h = apart h refl
+moved-lives (xor a b) ρ s (pickedLeft t) h = moved-lives a ρ s t h
+moved-lives (xor a b) ρ s (pickedRight u) h = moved-lives b ρ s u h
+moved-lives (if e a b) ρ s (ifTrue t) h = moved-lives a ρ s t h
+moved-lives (if e a b) ρ s (ifFalse u) h = moved-lives b ρ s u h
+moved-lives (let' e b) ρ s (bound v u) h = moved-lives b (v ∷ ρ) s u h
+
+module _ (c : Code) (ρ : Env) where
+  -- a stride does not change whether a task fails
+  pub stride-failing : (s : Store) (t : TaskOf c) → failing c ρ (stride c ρ s t .1) (stride c ρ s t .0) ≡ failing c ρ s t
+  stride-failing s t =
+      by-truth (stride c ρ s t .2)
+      (λ m. moved-lives c ρ s t m ∙ by-truth (failing c ρ s t) (λ h. apart m (failing-still c ρ s t h)) sym)
+      (λ m. let q = flag-is c ρ s t .0 m in ap₂ (failing c ρ) (q .1) (q .0))
+
+  unless-failing : (m : Bool) (t : TaskOf c) (s : Store) (x : Bool) (k : TaskOf c → Store → TaskOf c × Store × ℕ) → failing c ρ s t ≡ x
+      → failing c ρ (k t s .1) (k t s .0) ≡ failing c ρ s t → failing c ρ (unlessStill m t s k .1) (unlessStill m t s k .0) ≡ x
+  unfolding unlessStill
+  unless-failing false t s x k e h = e
+  unless-failing true t s x k e h = h ∙ e
+
+  -- nor do strides, up to any limit
+  pub strides-failing : (n : ℕ) (s : Store) (t : TaskOf c) → let r = strides (λ s t. stride c ρ s t) n s t in failing c ρ (r .1) (r .0) ≡ failing c ρ s t
+  unfolding strides
+  strides-failing zero s t = refl
+  strides-failing (suc n) s t =
+      unless-failing (stride c ρ s t .2) (stride c ρ s t .0) (stride c ρ s t .1) (failing c ρ s t) (λ t s. strides (λ s t. stride c ρ s t) n s t)
+      (stride-failing s t) (strides-failing n (stride c ρ s t .1) (stride c ρ s t .0))
+
+  unless-lives : (m : Bool) (t : TaskOf c) (s : Store) (k : TaskOf c → Store → TaskOf c × Store × ℕ) → LivesIfMoved c ρ (t, s, m)
+      → failing c ρ (k t s .1) (k t s .0) ≡ failing c ρ s t → 1 < unlessStill m t s k .2 → failing c ρ (unlessStill m t s k .1) (unlessStill m t s k .0) ≡ false
+  unfolding unlessStill
+  unless-lives false t s k h e l = absurd (omega arith)
+  unless-lives true t s k h e l = e ∙ h refl
+
+  -- strides of which more than one are counted leave a task that does not fail
+  pub strides-live : (n : ℕ) (s : Store) (t : TaskOf c) → let r = strides (λ s t. stride c ρ s t) n s t in 1 < r .2 → failing c ρ (r .1) (r .0) ≡ false
+  unfolding strides
+  strides-live zero s t l = absurd (omega arith)
+  strides-live (suc n) s t l =
+      unless-lives (stride c ρ s t .2) (stride c ρ s t .0) (stride c ρ s t .1) (λ t s. strides (λ s t. stride c ρ s t) n s t)
+      (moved-lives c ρ s t) (strides-failing n (stride c ρ s t .1) (stride c ρ s t .0)) l
+
+  -- normalising does not change whether a task fails
+  pub normalise-failing : (s : Store) (t : TaskOf c) → let r = normalise c ρ s t in failing c ρ (r .1) (r .0) ≡ failing c ρ s t
+  unfolding normalise
+  normalise-failing s t = strides-failing (suc (moves c)) s t
+
+  -- a normalisation of more than one stride leaves a task that does not fail
+  pub normalise-lives : (s : Store) (t : TaskOf c) → let r = normalise c ρ s t in 1 < r .2 → failing c ρ (r .1) (r .0) ≡ false
+  unfolding normalise
+  normalise-lives s t l = strides-live (suc (moves c)) s t l
+
+  -- the same where a code is evaluated first
+  pub settle-failing : (s : Store) → let r = settle c ρ s in failing c ρ (r .1) (r .0) ≡ failing c ρ (evaluate c ρ s .1) (evaluate c ρ s .0)
+  unfolding settle
+  settle-failing s = normalise-failing (evaluate c ρ s .1) (evaluate c ρ s .0)
+
+  pub settle-lives : (s : Store) → let r = settle c ρ s in 1 < r .2 → failing c ρ (r .1) (r .0) ≡ false
+  unfolding settle
+  settle-lives s l = normalise-lives (evaluate c ρ s .1) (evaluate c ρ s .0) l
+
+-- an unpicked choice fails exactly where both branches, evaluated and not yet strided, do
+pub xor-failing : (a b : Code) (ρ : Env) (s : Store)
+    → failing (xor a b) ρ s unpicked ≡ failing a ρ (evaluate a ρ s .1) (evaluate a ρ s .0) && failing b ρ (evaluate b ρ s .1) (evaluate b ρ s .0)
+unfolding failing
+xor-failing a b ρ s =
+    ap₂ _&&_
+    (strides-failing a ρ (suc (moves a)) (evaluate a ρ s .1) (evaluate a ρ s .0))
+    (strides-failing b ρ (suc (moves b)) (evaluate b ρ s .1) (evaluate b ρ s .0))

@@ -1,0 +1,72 @@
+-- What the rules derive on handling is what `handle` answers, so an event has at most one outcome, and is refused where
+-- `handle` answers none. No typing is needed. Rests on EntriesCover and NormalisingComplete.
+use mathlib.Core.Path.{_≡_, refl, sym, ap, _∙_}
+use mathlib.Core.Option.{Option, none, some}
+use mathlib.Core.List.{[], _∷_}
+use Rattle.decimal.specs.Path.{Path}
+use Rattle.tophat.specs.Syntax.{Code, Val, Env, Store, TaskOf}
+use Rattle.tophat.specs.Normalising.{value}
+use Rattle.tophat.specs.Handling.{continue, left, right, Action, give, press, Handles, h-change, h-fill, h-update, h-pass-then, h-then-after, h-pass-next, h-next, h-next-after}
+use Rattle.tophat.specs.Handling.{h-first-and, h-second-and, h-first-or, h-second-or, h-or-left, h-or-right, h-pick-left, h-pick-right, h-picked-left, h-picked-right, h-if-true, h-if-false, h-let}
+use Rattle.tophat.specs.Runs.{Refuses}
+use Rattle.tophat.proofs.Basics.{no-some}
+use Rattle.tophat.proofs.ComputeNormalising.{settle}
+use Rattle.tophat.proofs.ComputeHandling.{mapTask, thenSome, atEditor, atMark, atSides, atContinue, unlessFailing, handle}
+use Rattle.tophat.proofs.EvaluationAgrees.{at-getD}
+use Rattle.tophat.proofs.TaskEvaluationAgrees.{evaluate-is}
+use Rattle.tophat.proofs.NormalisingComplete.{fails-is, normalises-is}
+use Rattle.tophat.proofs.Leaves.{type-of, gives-given}
+use Rattle.tophat.proofs.EntriesCover.{valued-no-continue}
+
+-- a 44 passes what its A takes: where A takes Continue, it has no value
+passes : {X : Type 0} {q : Option X} {r : X} (p : Path) (x : Action) (o : Option Val) (f : Val → Option X)
+    → ((v : Val) → o ≡ some v → p ≡ [] → x ≡ press continue → ⊥) → q ≡ some r → atContinue p x o f (λ _. q) ≡ some r
+unfolding atContinue
+passes [] (give ls) o f n h = h
+passes [] (press continue) none f n h = h
+passes [] (press continue) (some v) f n h = absurd (n v refl refl refl)
+passes [] (press left) o f n h = h
+passes [] (press right) o f n h = h
+passes (m ∷ p) x o f n h = h
+
+no-continue : (c : Code) (ρ : Env) (s : Store) (t : TaskOf c) (p : Path) (x : Action) {r : TaskOf c × Store} {v : Val} → handle c ρ s t p x ≡ some r → value c t s ≡ some v → p ≡ [] → x ≡ press continue → ⊥
+no-continue c ρ s t p x h e k l = no-some (sym (valued-no-continue c ρ s t e) ∙ (rw (k, l) at h))
+
+-- a derived handling is what `handle` answers
+pub handles-is : {c : Code} {ρ : Env} {s s₁ : Store} {t t₁ : TaskOf c} {p : Path} {x : Action} → Handles c ρ s t p x t₁ s₁ → handle c ρ s t p x ≡ some (t₁, s₁)
+unfolding handle thenSome mapTask atEditor atMark atSides atContinue unlessFailing settle
+handles-is (h-change h g) = let e = type-of h in let f = gives-given g in rw (e, f)
+handles-is (h-fill g) = let f = gives-given g in rw f
+handles-is (h-update d h g) = let k = at-getD d in let e = type-of h in let f = gives-given g in rw (k, e, f)
+handles-is (h-pass-then d) = let e = handles-is d in rw e
+handles-is (h-then-after d) = let e = handles-is d in rw e
+handles-is (h-pass-next {ρ = ρ} {s = s} {a = a} {t = t} {p = p} {x = x} d) =
+    let e = handles-is d in
+    passes p x (value a t s) _ (λ v. no-continue a ρ s t p x e) (rw e)
+handles-is (h-next h d f) = let e = evaluate-is d in let k = fails-is f in rw (h, e, k)
+handles-is (h-next-after d) = let e = handles-is d in rw e
+handles-is (h-first-and d) = let e = handles-is d in rw e
+handles-is (h-second-and d) = let e = handles-is d in rw e
+handles-is (h-first-or d) = let e = handles-is d in rw e
+handles-is (h-second-or d) = let e = handles-is d in rw e
+handles-is (h-or-left d) = let e = handles-is d in rw e
+handles-is (h-or-right d) = let e = handles-is d in rw e
+handles-is (h-pick-left d n f) = let e = evaluate-is d in let k = normalises-is n in let l = fails-is f in rw (e, k, l)
+handles-is (h-pick-right d n f) = let e = evaluate-is d in let k = normalises-is n in let l = fails-is f in rw (e, k, l)
+handles-is (h-picked-left d) = let e = handles-is d in rw e
+handles-is (h-picked-right d) = let e = handles-is d in rw e
+handles-is (h-if-true d) = let e = handles-is d in rw e
+handles-is (h-if-false d) = let e = handles-is d in rw e
+handles-is (h-let d) = let e = handles-is d in rw e
+
+-- an event has at most one outcome
+pub handles-one : {c : Code} {ρ : Env} {s s₁ s₂ : Store} {t t₁ t₂ : TaskOf c} {p : Path} {x : Action} → Handles c ρ s t p x t₁ s₁ → Handles c ρ s t p x t₂ s₂ → (t₁ ≡ t₂) × (s₁ ≡ s₂)
+handles-one {c} {s₁ = s₁} {s₂ = s₂} {t₁ = t₁} {t₂ = t₂} d e =
+    let h = handles-is d in
+    let k = handles-is e in
+    let p : _≡_ {A = TaskOf c × Store} (t₁, s₁) (t₂, s₂) = cc in
+    (ap (λ r. r .0) p, ap (λ r. r .1) p)
+
+-- an event that `handle` does not take is refused
+pub refuses : (c : Code) (s : Store) (t : TaskOf c) (p : Path) (x : Action) → handle c [] s t p x ≡ none → Refuses c t s p x
+refuses c s t p x h = λ t₁ s₁ d. no-some (sym h ∙ handles-is d)

@@ -1,0 +1,116 @@
+-- The value of a task (the paper's Fig. 9), failing (Fig. 10), striding (Fig. 12) and normalising with the number of
+-- strides (Fig. 11). Failing asks for normal forms, normalising for strides, striding for failing: one mutual definition.
+-- What has been taken, named or picked, and 25 and 31, hand on to the task that they became. Rests on Evaluation.
+use mathlib.Core.Path.{_≡_}
+use mathlib.Core.Bool.{Bool, true, false, _&&_}
+use mathlib.Core.Option.{Option, none, some}
+use mathlib.Core.List.{_∷_}
+use Prim.Native.Nat.{ℕ, suc}
+use lib.ListN.{getD}
+use Rattle.tophat.specs.Syntax.{Ty, Exp, Code, edit, enter, update, then, next, fail, and, or, xor, if, let', Val, vunit, vpair, Env, Store}
+use Rattle.tophat.specs.Syntax.{TaskOf, filled, blank, entered, before, after, both, either, orLeft, orRight, unpicked, pickedLeft, pickedRight, ifTrue, ifFalse, bound}
+use Rattle.tophat.specs.Evaluation.{EvaluatesTask}
+
+-- 46: two values are paired, else there is none
+unfoldable pub pairOf : Option Val → Option Val → Option Val
+pairOf none y = none
+pairOf (some v) none = none
+pairOf (some v) (some w) = some (vpair v w)
+
+-- 47: the left value, else the right
+unfoldable pub firstOf : Option Val → Option Val → Option Val
+firstOf none y = y
+firstOf (some v) y = some v
+
+-- the paper's 𝒱(t, s)
+unfoldable pub value : (c : Code) → TaskOf c → Store → Option Val
+value (edit e) (filled v) s = some v
+value (enter τ) blank s = none
+value (enter τ) (entered v) s = some v
+value (update n) t s = some (getD s n vunit)
+value (then a b) (before t) s = none
+value (then a b) (after v u) s = value b u s
+value (next a b) (before t) s = none
+value (next a b) (after v u) s = value b u s
+value (fail τ) t s = none
+value (and a b) (both t u) s = pairOf (value a t s) (value b u s)
+value (or a b) (either t u) s = firstOf (value a t s) (value b u s)
+value (or a b) (orLeft t) s = value a t s
+value (or a b) (orRight u) s = value b u s
+value (xor a b) unpicked s = none
+value (xor a b) (pickedLeft t) s = value a t s
+value (xor a b) (pickedRight u) s = value b u s
+value (if e a b) (ifTrue t) s = value a t s
+value (if e a b) (ifFalse u) s = value b u s
+value (let' e b) (bound v u) s = value b u s
+
+mutual
+  -- `Fails c ρ s t x`: the paper's ℱ(t, s) is x
+  pub data Fails : (c : Code) → Env → Store → TaskOf c → Bool → Type 0 where
+    f-edit : {ρ : Env} {s : Store} {e : Exp} {t : TaskOf (edit e)} → Fails (edit e) ρ s t false
+    f-enter : {ρ : Env} {s : Store} {τ : Ty} {t : TaskOf (enter τ)} → Fails (enter τ) ρ s t false
+    f-update : {ρ : Env} {s : Store} {n : ℕ} {t : TaskOf (update n)} → Fails (update n) ρ s t false
+    f-then : {ρ : Env} {s : Store} {a b : Code} {t : TaskOf a} {x : Bool} → Fails a ρ s t x → Fails (then a b) ρ s (before t) x
+    f-then-after : {ρ : Env} {s : Store} {a b : Code} {v : Val} {u : TaskOf b} {x : Bool} → Fails b (v ∷ ρ) s u x → Fails (then a b) ρ s (after v u) x
+    f-next : {ρ : Env} {s : Store} {a b : Code} {t : TaskOf a} {x : Bool} → Fails a ρ s t x → Fails (next a b) ρ s (before t) x
+    f-next-after : {ρ : Env} {s : Store} {a b : Code} {v : Val} {u : TaskOf b} {x : Bool} → Fails b (v ∷ ρ) s u x → Fails (next a b) ρ s (after v u) x
+    f-fail : {ρ : Env} {s : Store} {τ : Ty} {t : TaskOf (fail τ)} → Fails (fail τ) ρ s t true
+    f-and : {ρ : Env} {s : Store} {a b : Code} {t : TaskOf a} {u : TaskOf b} {x y z : Bool}
+        → Fails a ρ s t x → Fails b ρ s u y → x && y ≡ z → Fails (and a b) ρ s (both t u) z
+    f-or : {ρ : Env} {s : Store} {a b : Code} {t : TaskOf a} {u : TaskOf b} {x y z : Bool}
+        → Fails a ρ s t x → Fails b ρ s u y → x && y ≡ z → Fails (or a b) ρ s (either t u) z
+    f-or-left : {ρ : Env} {s : Store} {a b : Code} {t : TaskOf a} {x : Bool} → Fails a ρ s t x → Fails (or a b) ρ s (orLeft t) x
+    f-or-right : {ρ : Env} {s : Store} {a b : Code} {u : TaskOf b} {x : Bool} → Fails b ρ s u x → Fails (or a b) ρ s (orRight u) x
+    -- 01: "48 if both branches, each normalised from the present store, fail"
+    f-xor : {ρ : Env} {s s₁ s₂ s₃ s₄ : Store} {a b : Code} {t t₁ : TaskOf a} {u u₁ : TaskOf b} {m n : ℕ} {x y z : Bool}
+        → EvaluatesTask a ρ s t s₁ → Normalises a ρ s₁ t t₁ s₂ m → Fails a ρ s₂ t₁ x
+        → EvaluatesTask b ρ s u s₃ → Normalises b ρ s₃ u u₁ s₄ n → Fails b ρ s₄ u₁ y
+        → x && y ≡ z → Fails (xor a b) ρ s unpicked z
+    f-picked-left : {ρ : Env} {s : Store} {a b : Code} {t : TaskOf a} {x : Bool} → Fails a ρ s t x → Fails (xor a b) ρ s (pickedLeft t) x
+    f-picked-right : {ρ : Env} {s : Store} {a b : Code} {u : TaskOf b} {x : Bool} → Fails b ρ s u x → Fails (xor a b) ρ s (pickedRight u) x
+    f-if-true : {ρ : Env} {s : Store} {e : Exp} {a b : Code} {t : TaskOf a} {x : Bool} → Fails a ρ s t x → Fails (if e a b) ρ s (ifTrue t) x
+    f-if-false : {ρ : Env} {s : Store} {e : Exp} {a b : Code} {u : TaskOf b} {x : Bool} → Fails b ρ s u x → Fails (if e a b) ρ s (ifFalse u) x
+    f-let : {ρ : Env} {s : Store} {e : Exp} {b : Code} {v : Val} {u : TaskOf b} {x : Bool} → Fails b (v ∷ ρ) s u x → Fails (let' e b) ρ s (bound v u) x
+
+  -- `Strides c ρ s t t₁ s₁`: one stride takes t in s to t₁ in s₁
+  pub data Strides : (c : Code) → Env → Store → TaskOf c → TaskOf c → Store → Type 0 where
+    s-edit : {ρ : Env} {s : Store} {e : Exp} {t : TaskOf (edit e)} → Strides (edit e) ρ s t t s
+    s-fill : {ρ : Env} {s : Store} {τ : Ty} {t : TaskOf (enter τ)} → Strides (enter τ) ρ s t t s
+    s-update : {ρ : Env} {s : Store} {n : ℕ} {t : TaskOf (update n)} → Strides (update n) ρ s t t s
+    s-fail : {ρ : Env} {s : Store} {τ : Ty} {t : TaskOf (fail τ)} → Strides (fail τ) ρ s t t s
+    s-then-stay : {ρ : Env} {s s₁ : Store} {a b : Code} {t t₁ : TaskOf a}
+        → Strides a ρ s t t₁ s₁ → value a t₁ s₁ ≡ none → Strides (then a b) ρ s (before t) (before t₁) s₁
+    -- 01: "if that fails, its store is dropped and the step waits"
+    s-then-fail : {ρ : Env} {s s₁ s₂ : Store} {a b : Code} {t t₁ : TaskOf a} {u : TaskOf b} {v : Val}
+        → Strides a ρ s t t₁ s₁ → value a t₁ s₁ ≡ some v → EvaluatesTask b (v ∷ ρ) s₁ u s₂ → Fails b (v ∷ ρ) s₂ u true
+        → Strides (then a b) ρ s (before t) (before t₁) s₁
+    s-then-cont : {ρ : Env} {s s₁ s₂ : Store} {a b : Code} {t t₁ : TaskOf a} {u : TaskOf b} {v : Val}
+        → Strides a ρ s t t₁ s₁ → value a t₁ s₁ ≡ some v → EvaluatesTask b (v ∷ ρ) s₁ u s₂ → Fails b (v ∷ ρ) s₂ u false
+        → Strides (then a b) ρ s (before t) (after v u) s₂
+    s-then-after : {ρ : Env} {s s₁ : Store} {a b : Code} {v : Val} {u u₁ : TaskOf b} → Strides b (v ∷ ρ) s u u₁ s₁ → Strides (then a b) ρ s (after v u) (after v u₁) s₁
+    s-next : {ρ : Env} {s s₁ : Store} {a b : Code} {t t₁ : TaskOf a} → Strides a ρ s t t₁ s₁ → Strides (next a b) ρ s (before t) (before t₁) s₁
+    s-next-after : {ρ : Env} {s s₁ : Store} {a b : Code} {v : Val} {u u₁ : TaskOf b} → Strides b (v ∷ ρ) s u u₁ s₁ → Strides (next a b) ρ s (after v u) (after v u₁) s₁
+    s-and : {ρ : Env} {s s₁ s₂ : Store} {a b : Code} {t t₁ : TaskOf a} {u u₁ : TaskOf b}
+        → Strides a ρ s t t₁ s₁ → Strides b ρ s₁ u u₁ s₂ → Strides (and a b) ρ s (both t u) (both t₁ u₁) s₂
+    s-or-left : {ρ : Env} {s s₁ : Store} {a b : Code} {t t₁ : TaskOf a} {u : TaskOf b} {v : Val}
+        → Strides a ρ s t t₁ s₁ → value a t₁ s₁ ≡ some v → Strides (or a b) ρ s (either t u) (orLeft t₁) s₁
+    s-or-right : {ρ : Env} {s s₁ s₂ : Store} {a b : Code} {t t₁ : TaskOf a} {u u₁ : TaskOf b} {v : Val}
+        → Strides a ρ s t t₁ s₁ → value a t₁ s₁ ≡ none → Strides b ρ s₁ u u₁ s₂ → value b u₁ s₂ ≡ some v
+        → Strides (or a b) ρ s (either t u) (orRight u₁) s₂
+    s-or-none : {ρ : Env} {s s₁ s₂ : Store} {a b : Code} {t t₁ : TaskOf a} {u u₁ : TaskOf b}
+        → Strides a ρ s t t₁ s₁ → value a t₁ s₁ ≡ none → Strides b ρ s₁ u u₁ s₂ → value b u₁ s₂ ≡ none
+        → Strides (or a b) ρ s (either t u) (either t₁ u₁) s₂
+    s-or-left-on : {ρ : Env} {s s₁ : Store} {a b : Code} {t t₁ : TaskOf a} → Strides a ρ s t t₁ s₁ → Strides (or a b) ρ s (orLeft t) (orLeft t₁) s₁
+    s-or-right-on : {ρ : Env} {s s₁ : Store} {a b : Code} {u u₁ : TaskOf b} → Strides b ρ s u u₁ s₁ → Strides (or a b) ρ s (orRight u) (orRight u₁) s₁
+    s-xor : {ρ : Env} {s : Store} {a b : Code} → Strides (xor a b) ρ s unpicked unpicked s
+    s-picked-left : {ρ : Env} {s s₁ : Store} {a b : Code} {t t₁ : TaskOf a} → Strides a ρ s t t₁ s₁ → Strides (xor a b) ρ s (pickedLeft t) (pickedLeft t₁) s₁
+    s-picked-right : {ρ : Env} {s s₁ : Store} {a b : Code} {u u₁ : TaskOf b} → Strides b ρ s u u₁ s₁ → Strides (xor a b) ρ s (pickedRight u) (pickedRight u₁) s₁
+    s-if-true : {ρ : Env} {s s₁ : Store} {e : Exp} {a b : Code} {t t₁ : TaskOf a} → Strides a ρ s t t₁ s₁ → Strides (if e a b) ρ s (ifTrue t) (ifTrue t₁) s₁
+    s-if-false : {ρ : Env} {s s₁ : Store} {e : Exp} {a b : Code} {u u₁ : TaskOf b} → Strides b ρ s u u₁ s₁ → Strides (if e a b) ρ s (ifFalse u) (ifFalse u₁) s₁
+    s-let : {ρ : Env} {s s₁ : Store} {e : Exp} {b : Code} {v : Val} {u u₁ : TaskOf b} → Strides b (v ∷ ρ) s u u₁ s₁ → Strides (let' e b) ρ s (bound v u) (bound v u₁) s₁
+
+  -- `Normalises c ρ s t t₁ s₁ n`: n strides, the last included, take t in s to rest at t₁ in s₁
+  pub data Normalises : (c : Code) → Env → Store → TaskOf c → TaskOf c → Store → ℕ → Type 0 where
+    n-done : {ρ : Env} {s : Store} {c : Code} {t : TaskOf c} → Strides c ρ s t t s → Normalises c ρ s t t s 1
+    n-repeat : {ρ : Env} {s s₁ s₂ : Store} {c : Code} {t t₁ t₂ : TaskOf c} {n : ℕ}
+        → Strides c ρ s t t₁ s₁ → ¬ ((t ≡ t₁) × (s ≡ s₁)) → Normalises c ρ s₁ t₁ t₂ s₂ n → Normalises c ρ s t t₂ s₂ (suc n)
