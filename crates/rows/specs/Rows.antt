@@ -1,0 +1,158 @@
+-- Rows of words, four a row (kind, A, B, C), and grounds 3, 4 and 5 over them (01, "Grounds in the input"). A word is given
+-- by its bits: a negative one is 2 ^ 31 or more, so it is no kind, no truth, and never a lower row. Rests on Kinds.
+use Prim.Native.Nat.{ℕ, zero, suc, _+_, _*_}
+use mathlib.Core.Bool.{Bool, true, false, not, _&&_, _||_, cond}
+use mathlib.Core.List.{List, [], _∷_, _++_}
+use lib.Dec.{leb, ltb, eqb}
+use lib.ListN.{getD}
+use Rattle.rows.specs.Kinds.{Kind, kindOf, Ask, unused, operator, truth, anyWord, aType, aBasic, aCell, aPlain, aTask, aBranch, likeB}
+use Rattle.rows.specs.Kinds.{Sort, typeS, basicS, cellS, plainS, taskS, noS, is, asB, Shape, shape, noShape, shapeOf}
+
+-- 01: "1 to 256 lines"
+abbrev pub maxRows : ℕ
+maxRows = 256
+
+-- 01: "4 words a row (kind, A, B, C)"
+abbrev pub rowWords : ℕ
+rowWords = 4
+
+abbrev pub word : List ℕ → ℕ → ℕ → ℕ
+word rs i k = getD rs (i * rowWords + k) 0
+
+abbrev pub kindAt : List ℕ → ℕ → Kind
+kindAt rs i = kindOf (word rs i 0)
+
+abbrev pub opA : List ℕ → ℕ → ℕ
+opA rs i = word rs i 1
+
+abbrev pub opB : List ℕ → ℕ → ℕ
+opB rs i = word rs i 2
+
+abbrev pub opC : List ℕ → ℕ → ℕ
+opC rs i = word rs i 3
+
+-- a test of each row below n
+unfoldable pub every : ℕ → (ℕ → Bool) → Bool
+every zero p = true
+every (suc n) p = every n p && p n
+
+-- ---- ground 3: a kind, operator, truth or unused operand not as listed
+
+unfoldable pub listedAs : Ask → ℕ → Bool
+listedAs unused w = eqb w 0
+listedAs operator w = leb 1 w && leb w 8
+listedAs truth w = leb w 1
+listedAs anyWord w = true
+listedAs aType w = true
+listedAs aBasic w = true
+listedAs aCell w = true
+listedAs aPlain w = true
+listedAs aTask w = true
+listedAs aBranch w = true
+listedAs likeB w = true
+
+unfoldable pub listed : Shape → ℕ → ℕ → ℕ → Bool
+listed (shape p q r o x) a b c = listedAs p a && (listedAs q b && listedAs r c)
+listed noShape a b c = false
+
+-- 01: "in a cell whose A is a lower row of kind 2"
+unfoldable pub truthCell : List ℕ → ℕ → Bool
+truthCell rs i = cond (eqb (word rs i 0) 10 && (ltb (opA rs i) i && eqb (word rs (opA rs i) 0) 2)) (leb (opB rs i) 1) true
+
+unfoldable pub rowListed : List ℕ → ℕ → Bool
+rowListed rs i = listed (shapeOf (kindAt rs i)) (opA rs i) (opB rs i) (opC rs i) && truthCell rs i
+
+-- ---- ground 4: an operand not a lower row, or not of the sort asked
+
+unfoldable pub sortBy : Shape → Sort → Sort
+sortBy (shape p q r (is s) x) b = s
+sortBy (shape p q r asB x) b = b
+sortBy noShape b = noS
+
+-- the sorts of the rows below n, the first row first
+unfoldable pub sorts : List ℕ → ℕ → List Sort
+sorts rs zero = []
+sorts rs (suc i) = let l = sorts rs i in l ++ sortBy (shapeOf (kindAt rs i)) (getD l (opB rs i) noS) ∷ []
+
+-- the sort of row w, where it is lower than row i
+abbrev pub sortBelow : List ℕ → ℕ → ℕ → Sort
+sortBelow rs i w = getD (sorts rs i) w noS
+
+unfoldable pub sortNumber : Sort → ℕ
+sortNumber noS = 0
+sortNumber typeS = 1
+sortNumber basicS = 2
+sortNumber cellS = 3
+sortNumber plainS = 4
+sortNumber taskS = 5
+
+abbrev pub sameSort : Sort → Sort → Bool
+sameSort s t = eqb (sortNumber s) (sortNumber t)
+
+-- an operand's sort is the one asked, where B's sort is b
+unfoldable pub sortedAs : Ask → Sort → Sort → Bool
+sortedAs unused s b = true
+sortedAs operator s b = true
+sortedAs truth s b = true
+sortedAs anyWord s b = true
+sortedAs aType s b = sameSort s typeS || sameSort s basicS
+sortedAs aBasic s b = sameSort s basicS
+sortedAs aCell s b = sameSort s cellS
+sortedAs aPlain s b = sameSort s plainS
+sortedAs aTask s b = sameSort s taskS
+sortedAs aBranch s b = sameSort s plainS || sameSort s taskS
+sortedAs likeB s b = sameSort s b
+
+unfoldable pub sorted : Shape → Sort → Sort → Sort → Bool
+sorted (shape p q r o x) a b c = sortedAs p a b && (sortedAs q b b && sortedAs r c b)
+sorted noShape a b c = false
+
+unfoldable pub rowSorted : List ℕ → ℕ → Bool
+rowSorted rs i = sorted (shapeOf (kindAt rs i)) (sortBelow rs i (opA rs i)) (sortBelow rs i (opB rs i)) (sortBelow rs i (opC rs i))
+
+-- ---- ground 5: the naming rule broken, or the last row of a kind below 25 or 26 to 30
+
+-- the operand names a row
+unfoldable pub names : Ask → Bool
+names unused = false
+names operator = false
+names truth = false
+names anyWord = false
+names aType = true
+names aBasic = true
+names aCell = true
+names aPlain = true
+names aTask = true
+names aBranch = true
+names likeB = true
+
+abbrev pub count : Bool → ℕ
+count b = cond b 1 0
+
+-- the operands, of three, that name row i
+unfoldable pub namesBy : Shape → ℕ → ℕ → ℕ → ℕ → ℕ
+namesBy (shape p q r o x) a b c i = count (names p && eqb a i) + count (names q && eqb b i) + count (names r && eqb c i)
+namesBy noShape a b c i = 0
+
+-- the operands of row j that name row i, where row j is of kind 20 or more
+unfoldable pub namesIn : List ℕ → ℕ → ℕ → ℕ
+namesIn rs i j = cond (leb 20 (word rs j 0)) (namesBy (shapeOf (kindAt rs j)) (opA rs j) (opB rs j) (opC rs j) i) 0
+
+-- those of the rows below n
+unfoldable pub namings : List ℕ → ℕ → ℕ → ℕ
+namings rs i zero = 0
+namings rs i (suc j) = namings rs i j + namesIn rs i j
+
+-- 01: "Every row of kind 20 or more but the last is named exactly once, by an operand of a row of kind 20 or more"
+unfoldable pub namedOnce : List ℕ → ℕ → ℕ → Bool
+namedOnce rs n i = ltb (word rs i 0) 20 || (eqb (suc i) n || eqb (namings rs i n) 1)
+
+unfoldable pub lastFits : List ℕ → ℕ → Bool
+lastFits rs i = leb 25 (word rs i 0) && not (leb 26 (word rs i 0) && leb (word rs i 0) 30)
+
+-- ---- what bounds the strides of a call
+
+-- the rows of kind 43 and 47 below n
+unfoldable pub movers : List ℕ → ℕ → ℕ
+movers rs zero = 0
+movers rs (suc i) = movers rs i + count (eqb (word rs i 0) 43 || eqb (word rs i 0) 47)

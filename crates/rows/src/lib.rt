@@ -1,0 +1,1 @@
+// Rows of words: which of them an accepted sheet loads to.
