@@ -1,0 +1,14 @@
+use Rattle.shape.proofs.Laws.{second-no, second-yes}
+use native.Mathlib.Omega.{arith}
+use borrow.Author.Needs.{needs}
+use Rattle.shape.proofs.second_shape.Statement.{statement}
+use Rattle.shape.proofs.second_shape.Tie as tie
+
+pub second-shape-spec : {M : Type 1} → statement M
+second-shape-spec =
+    tie.close (tie.spec
+    (λ c κs. search needs)
+    (λ c. second-no (c .before .before .args .shape) (omega (arith, c .if1 .taken, c .before .leaves-of .ensures .0)))
+    (λ c κs. search needs)
+    (λ c. search needs)
+    (λ c. second-yes (c .before .before .before .args .shape) (c .first-width .result) (omega (arith, c .before .if1 .left, c .before .before .leaves-of .ensures .0)) (c .first-width .ensures .0)))

@@ -1,0 +1,32 @@
+-- The digits of a shape as the code walks them. Rests on Shape.
+use mathlib.Core.Bool.{cond}
+use mathlib.Core.List.{List, [], _∷_}
+use Prim.Native.Nat.{ℕ, zero, suc, _+_, _*_, _-_, _/_, _%_}
+use lib.Dec.{eqb}
+use lib.ListN.{set}
+use Rattle.tophat.specs.Syntax.{maxLeaves}
+
+-- the digits of a type of maxLeaves leaves
+abbrev pub maxDigits : ℕ
+maxDigits = 2 * maxLeaves - 1
+
+-- the leaves of the k types that stand first in c, if they end within d digits; more than maxLeaves if not
+unfoldable pub count : ℕ → ℕ → ℕ → ℕ
+count zero k c = cond (eqb k 0) 0 (maxLeaves + 1)
+count (suc d) k c = cond (eqb k 0) 0 (cond (eqb (c % 4) 0) (count d (k + 1) (c / 4)) (1 + count d (k - 1) (c / 4)))
+
+-- 4 to the number of digits of a type of n leaves
+unfoldable pub width : ℕ → ℕ
+width zero = 4
+width (suc zero) = 4
+width (suc (suc n)) = 16 * width (suc n)
+
+-- the digits of c that are leaves, of the first d
+unfoldable pub leafDigits : ℕ → ℕ → List ℕ
+leafDigits zero c = []
+leafDigits (suc d) c = cond (eqb (c % 4) 0) (leafDigits d (c / 4)) (c % 4 ∷ leafDigits d (c / 4))
+
+-- a list with xs stored from place i on
+unfoldable pub storedFrom : List ℕ → ℕ → List ℕ → List ℕ
+storedFrom ks i [] = ks
+storedFrom ks i (x ∷ xs) = storedFrom (set ks i x) (suc i) xs

@@ -1,0 +1,44 @@
+use Rattle.typing.proofs.TaskLaws.{task-branch, task-high, task-own, task-none, task-past}
+use borrow.Author.Needs.{needs}
+use Prim.Native.Nat.{ℕ, _<_}
+use borrow.Fn.Kinds.{In}
+use borrow.Fn.PlainCycle.{Measures, is, falls, and}
+use Rattle.typing.proofs.is_task.Reads as is-task
+use Rattle.typing.proofs.is_task.Kinds as is-task-kinds
+use Rattle.typing.proofs.+is_task.Lts-is_task as is-task-lts
+use Rattle.typing.proofs.get.Reads as get-reads
+use Rattle.typing.proofs.+is_task.{statement}
+use Rattle.typing.proofs.+is_task.Tie.{close}
+
+abbrev μ-is-task : Measures 1 is-task-kinds.ps ℕ
+μ-is-task κs a = a .1 .0
+
+abbrev is-task-at : ℕ → In 1 is-task-kinds.ps
+is-task-at t = and 1 is-task-kinds.ps (is 1 is-task-kinds.ps μ-is-task t) is-task.Pre
+
+abbrev is-task-below : ℕ → In 1 is-task-kinds.ps
+is-task-below t = and 1 is-task-kinds.ps (falls 1 is-task-kinds.ps _<_ μ-is-task t) is-task.Pre
+
+pub +is-task-spec : {M : Type 1} → statement M
++is-task-spec = close μ-is-task λ t. is-task-lts.spec (
+  get-reads.Asked,
+  get-reads.Learnt,
+  is-task-below t,
+  is-task.Post,
+)
+    (is-task-at t)
+    is-task.Post
+    (λ c κs. search needs)
+    (λ c κs. search needs)
+    (λ c. search needs)
+    (λ c κs. search needs)
+    (λ c. let q = c .before .before .before .before .before .args in
+    task-branch (q .rows .now) (q .row) (c .before .before .before .before .get .result) (c .before .before .before .before .get .ensures) (c .before .before .get2 .result) (c .is-task .result) (c .before .before .before .match .keys1) (c .before .before .get2 .ensures) (c .before .if1 .taken) (c .is-task .ensures))
+    (λ c. let q = c .before .before .before .before .args in
+    task-high (q .rows .now) (q .row) (c .before .before .before .get .result) (c .before .before .before .get .ensures) (c .before .get2 .result) (c .before .before .match .keys1) (c .before .get2 .ensures) (c .if1 .left))
+    (λ c. let q = c .before .before .before .before .args in
+    task-own (q .rows .now) (q .row) (c .before .before .before .get .result) (c .before .before .before .get .ensures) (c .before .if2 .left) (c .if3 .taken))
+    (λ c. let q = c .before .before .before .args in
+    task-none (q .rows .now) (q .row) (c .before .before .get .result) (c .before .before .get .ensures) (c .if2 .taken) (c .before .match .rest))
+    (λ c. let q = c .before .before .before .before .args in
+    task-past (q .rows .now) (q .row) (c .before .before .before .get .result) (c .before .before .before .get .ensures) (c .if3 .left))

@@ -1,0 +1,8 @@
+pub mod NodeLaws
+pub mod TypeLaws
+pub mod TaskLaws
+pub mod Cells
+pub mod Steps
+pub mod NoCode
+pub mod Agree
+pub mod TypeRows

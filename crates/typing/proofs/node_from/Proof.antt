@@ -1,0 +1,63 @@
+use Rattle.rows.specs.Kinds.{kindOf}
+use Rattle.ranges.proofs.Ranges.{nothing}
+use mathlib.Core.Path.{refl}
+use mathlib.Core.List.{[], _∷_}
+use Rattle.typing.proofs.NodeLaws.{node-one, node-range, node-choice, node-none, node-past}
+use borrow.Author.Needs.{needs}
+use Rattle.typing.proofs.node_from.Statement.{statement}
+use Rattle.typing.proofs.node_from.Tie as tie
+
+pub node-from-spec : {M : Type 1} → statement M
+unfolding kindOf
+node-from-spec =
+    tie.close
+    (tie.spec
+    (λ c κs. search needs)
+    (λ c κs. search needs)
+    (λ c κs. search needs)
+    (λ c κs. search needs)
+    (λ c κs. search needs)
+    (λ c κs. search needs)
+    (λ c κs. search needs)
+    (λ c κs. search needs)
+    (λ c κs. search needs)
+    (λ c κs. search needs)
+    (λ c κs. search needs)
+    (λ c. let q = c .before .args in node-one (q .i) (q .a) (q .b) (q .c) (1 ∷ 20 ∷ []) (q .k) (refl, (refl, nothing)) (c .match .keys1))
+    (λ c. let q = c .before .args in node-one (q .i) (q .a) (q .b) (q .c) (2 ∷ 21 ∷ []) (q .k) (refl, (refl, nothing)) (c .match .keys2))
+    (λ c. let q = c .before .args in node-one (q .i) (q .a) (q .b) (q .c) (3 ∷ 22 ∷ []) (q .k) (refl, (refl, nothing)) (c .match .keys3))
+    (λ c. let q = c .before .args in node-one (q .i) (q .a) (q .b) (q .c) (23 ∷ []) (q .k) (refl, nothing) (c .match .keys4))
+    (λ c. let q = c .before .before .args in
+    let e = c .named2 .ensures in
+    node-one (q .i) (q .a) (q .b) (q .c) (24 ∷ []) (q .k) (e, nothing) (c .before .match .keys5))
+    (λ c. let q = c .before .before .args in
+    let e = c .named3 .ensures in
+    node-one (q .i) (q .a) (q .b) (q .c) (25 ∷ []) (q .k) (e, nothing) (c .before .match .keys6))
+    (λ c. let q = c .before .before .args in
+    let e = c .named22 .ensures in
+    node-one (q .i) (q .a) (q .b) (q .c) (4 ∷ 26 ∷ 46 ∷ []) (q .k) (e, (e, (e, nothing))) (c .before .match .keys7))
+    (λ c. let q = c .before .before .args in
+    let e = c .named1 .ensures in
+    node-one (q .i) (q .a) (q .b) (q .c) (27 ∷ []) (q .k) (e, nothing) (c .before .match .keys8))
+    (λ c. let q = c .before .before .args in
+    let e = c .named12 .ensures in
+    node-one (q .i) (q .a) (q .b) (q .c) (28 ∷ []) (q .k) (e, nothing) (c .before .match .keys9))
+    (λ c. let q = c .before .before .args in
+    let e = c .named13 .ensures in
+    node-one (q .i) (q .a) (q .b) (q .c) (10 ∷ 29 ∷ 45 ∷ []) (q .k) (e, (e, (e, nothing))) (c .before .match .keys10))
+    (λ c. let q = c .before .before .args in
+    let e = c .named23 .ensures in
+    node-one (q .i) (q .a) (q .b) (q .c) (30 ∷ []) (q .k) (e, nothing) (c .before .match .keys11))
+    (λ c. let q = c .before .before .args in
+    let e = c .named24 .ensures in
+    node-one (q .i) (q .a) (q .b) (q .c) (31 ∷ []) (q .k) (e, nothing) (c .before .match .keys12))
+    (λ c. let q = c .before .before .before .before .args in
+    let e = c .named14 .ensures in
+    node-range (q .i) (q .a) (q .b) (q .c) 40 3 (q .k) (e, (e, (e, nothing))) (c .before .before .if1 .left) (c .before .if2 .taken))
+    (λ c. let q = c .before .before .before .before .before .args in
+    let e = c .named25 .ensures in
+    node-range (q .i) (q .a) (q .b) (q .c) 43 2 (q .k) (e, (e, nothing)) (c .before .before .if2 .left) (c .before .if3 .taken))
+    (λ c. let q = c .before .before .before .before .before .before .args in
+    node-choice (q .i) (q .a) (q .b) (q .c) (q .k) (c .before .before .if3 .left) (c .before .if4 .taken) (c .before .before .before .before .before .match .rest) (c .named26 .ensures))
+    (λ c. let q = c .before .before .args in node-none (q .i) (q .a) (q .b) (q .c) (q .k) (c .if1 .taken) (c .before .match .rest))
+    (λ c. let q = c .before .before .before .before .before .args in node-past (q .i) (q .a) (q .b) (q .c) (q .k) (c .if4 .left)))
