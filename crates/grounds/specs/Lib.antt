@@ -1,0 +1,4 @@
+pub mod Table
+pub mod Tables
+pub mod Counts
+pub mod Accepted

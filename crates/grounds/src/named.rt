@@ -1,0 +1,118 @@
+// Ground 5: the naming rule broken, or the last row of a kind below 25 or 26 to 30. Namings are counted in one pass.
+
+ghost use mathlib.Core.Path.{_≡_};
+ghost use mathlib.Core.Bool.{_&&_, not};
+ghost use Prim.Native.Nat.{ℕ, _+_, _-_, _<_, _≤_};
+ghost use lib.Dec.{eqb, leb};
+ghost use lib.ListN.{getD};
+ghost use Rattle.rows.specs.Rows.{maxRows, names, count, namesBy, namesIn, namings, namedOnce, lastFits, every};
+ghost use Rattle.grounds.specs.Table.{askBy, shapeBy};
+ghost use Rattle.grounds.specs.Tables.{stop, More, maxNamings};
+use crate::table::Asked;
+use crate::table::MAX_ROWS;
+use crate::table::ROW_WORDS;
+use crate::table::Shaped;
+use crate::table::names_row;
+use crate::table::shape_at;
+use crate::table::word_at;
+
+// a count of namings stops here
+const MAX_NAMINGS: u8 = 2;
+
+fn name(table: &mut [u8; MAX_ROWS], q: Asked, w: u32)
+    ensures { λ r. ⌜ More (now (table .entry)) (now (table .exit)) (λ i. count (names (askBy q) && eqb w i)) ⌝ }
+{
+    if !names_row(q) {
+        return;
+    }
+    let at = w as usize;
+    if MAX_ROWS <= at {
+        return;
+    }
+    let x = table[at];
+    if MAX_NAMINGS <= x {
+        return;
+    }
+    table[at] = x + 1;
+}
+
+fn name_operands(table: &mut [u8; MAX_ROWS], s: Shaped, a: u32, b: u32, c: u32)
+    ensures { λ r. ⌜ More (now (table .entry)) (now (table .exit)) (λ i. namesBy (shapeBy s) a b c i) ⌝ }
+{
+    let Shaped::Known(p, q, t, _, _) = s else {
+        return;
+    };
+    name(table, p, a);
+    name(table, q, b);
+    name(table, t, c);
+}
+
+fn name_row(rows: &[u32; MAX_ROWS * ROW_WORDS], table: &mut [u8; MAX_ROWS], j: usize)
+    requires { ⌜ j < maxRows ⌝ }
+    ensures { λ r. ⌜ More (now (table .entry)) (now (table .exit)) (λ i. namesIn (now (rows .entry)) i j) ⌝ }
+{
+    if word_at(rows, j, 0) < 20 {
+        return;
+    }
+    let a = word_at(rows, j, 1);
+    let b = word_at(rows, j, 2);
+    let c = word_at(rows, j, 3);
+    name_operands(table, shape_at(rows, j), a, b, c);
+}
+
+fn name_rows(rows: &[u32; MAX_ROWS * ROW_WORDS], table: &mut [u8; MAX_ROWS], n: usize)
+    requires { ⌜ n ≤ maxRows ⌝ }
+    ensures { λ r. ⌜ More (now (table .entry)) (now (table .exit)) (λ i. namings (now (rows .entry)) i n) ⌝ }
+{
+    for j in 0..n {
+        name_row(rows, table, j);
+    }
+}
+
+// row i is named as it must be, where x is its namings by n rows
+fn named_once(rows: &[u32; MAX_ROWS * ROW_WORDS], n: usize, i: usize, x: u8) -> bool
+    requires { ⌜ (i < n) × (n ≤ maxRows) × (x ≡ stop maxNamings (namings (now rows) i n)) ⌝ }
+    ensures { λ r. ⌜ r ≡ namedOnce (now (rows .entry)) n i ⌝ }
+{
+    if word_at(rows, i, 0) < 20 {
+        return true;
+    }
+    if i + 1 == n {
+        return true;
+    }
+    x == 1
+}
+
+fn all_named(rows: &[u32; MAX_ROWS * ROW_WORDS], n: usize, table: &[u8; MAX_ROWS]) -> bool
+    requires { ⌜ (n ≤ maxRows) × ((i : ℕ) → i < maxRows → getD (now table) i 0 ≡ stop maxNamings (namings (now rows) i n)) ⌝ }
+    ensures { λ r. ⌜ r ≡ every n (namedOnce (now (rows .entry)) n) ⌝ }
+{
+    for i in 0..n {
+        if !named_once(rows, n, i, table[i]) {
+            return false;
+        }
+    }
+    true
+}
+
+fn last_fits(k: u32) -> bool
+    ensures { λ r. ⌜ r ≡ (leb 25 k && not (leb 26 k && leb k 30)) ⌝ }
+{
+    match k {
+        0..=24 => false,
+        26..=30 => false,
+        _ => true,
+    }
+}
+
+pub fn named(rows: &[u32; MAX_ROWS * ROW_WORDS], n: usize) -> bool
+    requires { ⌜ (1 ≤ n) × (n ≤ maxRows) ⌝ }
+    ensures { λ r. ⌜ r ≡ (every n (namedOnce (now (rows .entry)) n) && lastFits (now (rows .entry)) (n - 1)) ⌝ }
+{
+    let mut table = [0u8; MAX_ROWS];
+    name_rows(rows, &mut table, n);
+    if !all_named(rows, n, &table) {
+        return false;
+    }
+    last_fits(word_at(rows, n - 1, 0))
+}

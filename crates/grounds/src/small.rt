@@ -1,0 +1,192 @@
+// Ground 6: a type row over 4 leaves, or over 16 binders or marks around a row. Counts stand in a table in eight bits,
+// filled from below; each stops one past its limit.
+
+ghost use mathlib.Core.Path.{_≡_};
+ghost use mathlib.Core.Bool.{cond};
+ghost use Prim.Native.Nat.{suc, _+_, _<_, _≤_, max};
+ghost use Rattle.rows.specs.Rows.{maxRows, names, every};
+ghost use Rattle.rows.specs.Enclosing.{maxBinders, bindersBy, marksBy, mostBinders, mostMarks, leavesBy, rowSmall};
+ghost use Rattle.grounds.specs.Table.{askBy, aroundBy, shapeBy};
+ghost use Rattle.grounds.specs.Tables.{stop};
+ghost use Rattle.grounds.specs.Counts.{countBy, mostOf, countOf, fewAt, CountsTo};
+use crate::table::Asked;
+use crate::table::MAX_ROWS;
+use crate::table::Owned;
+use crate::table::Puts;
+use crate::table::ROW_WORDS;
+use crate::table::Shaped;
+use crate::table::below;
+use crate::table::names_row;
+use crate::table::shape_at;
+use crate::table::word_at;
+
+const MAX_LEAVES: u8 = shape::MAX_LEAVES as u8;
+
+const MAX_BINDERS: u8 = typing::MAX_BINDERS as u8;
+
+const MAX_MARKS: u8 = 16;
+
+pub enum Counted {
+    Leaves,
+    Binders,
+    Marks,
+}
+
+fn most_of(w: Counted) -> u8
+    ensures { λ r. ⌜ r ≡ mostOf w ⌝ }
+{
+    match w {
+        Counted::Leaves => MAX_LEAVES,
+        Counted::Binders => MAX_BINDERS,
+        Counted::Marks => MAX_MARKS,
+    }
+}
+
+fn larger(a: u8, b: u8) -> u8
+    ensures { λ r. ⌜ r ≡ max a b ⌝ }
+{
+    if a <= b {
+        return b;
+    }
+    a
+}
+
+fn if_named(q: Asked, a: u8) -> u8
+    ensures { λ r. ⌜ r ≡ cond (names (askBy q)) a 0 ⌝ }
+{
+    if names_row(q) {
+        return a;
+    }
+    0
+}
+
+fn binder_of(x: Puts) -> u8
+    ensures { λ r. ⌜ (r ≡ bindersBy (aroundBy x)) × (r ≤ 1) ⌝ }
+{
+    match x {
+        Puts::Nought => 0,
+        Puts::Binder => 1,
+        Puts::Mark => 0,
+    }
+}
+
+fn mark_of(x: Puts) -> u8
+    ensures { λ r. ⌜ (r ≡ marksBy (aroundBy x)) × (r ≤ 1) ⌝ }
+{
+    match x {
+        Puts::Nought => 0,
+        Puts::Binder => 0,
+        Puts::Mark => 1,
+    }
+}
+
+// leaves of a type row: one, or those of a pair
+fn type_leaves(p: Asked, a: u8, b: u8) -> u8
+    requires { ⌜ (a ≤ suc maxBinders) × (b ≤ suc maxBinders) ⌝ }
+    ensures { λ r. ⌜ r ≡ cond (names (askBy p)) (a + b) 1 ⌝ }
+{
+    if names_row(p) {
+        return a + b;
+    }
+    1
+}
+
+fn leaves_by(s: Shaped, a: u8, b: u8, c: u8) -> u8
+    requires { ⌜ (a ≤ suc maxBinders) × (b ≤ suc maxBinders) ⌝ }
+    ensures { λ r. ⌜ r ≡ leavesBy (shapeBy s) a b c ⌝ }
+{
+    let Shaped::Known(p, _, _, o, _) = s else {
+        return 0;
+    };
+    match o {
+        Owned::OwnType => type_leaves(p, a, b),
+        Owned::OwnBasic => type_leaves(p, a, b),
+        Owned::OwnCell => 0,
+        Owned::OwnPlain => 0,
+        Owned::OwnTask => 0,
+        Owned::AsB => 0,
+    }
+}
+
+fn binders_by(s: Shaped, a: u8, b: u8, c: u8) -> u8
+    requires { ⌜ b ≤ suc maxBinders ⌝ }
+    ensures { λ r. ⌜ r ≡ mostBinders (shapeBy s) a b c ⌝ }
+{
+    let Shaped::Known(p, q, t, _, x) = s else {
+        return 0;
+    };
+    let u = if_named(p, a);
+    let v = if_named(q, binder_of(x) + b);
+    let w = if_named(t, c);
+    larger(u, larger(v, w))
+}
+
+fn marks_by(s: Shaped, a: u8, b: u8, c: u8) -> u8
+    requires { ⌜ (a ≤ suc maxBinders) × (b ≤ suc maxBinders) ⌝ }
+    ensures { λ r. ⌜ r ≡ mostMarks (shapeBy s) a b c ⌝ }
+{
+    let Shaped::Known(p, q, t, _, x) = s else {
+        return 0;
+    };
+    let m = mark_of(x);
+    let u = if_named(p, m + a);
+    let v = if_named(q, m + b);
+    let w = if_named(t, c);
+    larger(u, larger(v, w))
+}
+
+fn count_by(w: Counted, s: Shaped, a: u8, b: u8, c: u8) -> u8
+    requires { ⌜ (a ≤ suc (mostOf w)) × (b ≤ suc (mostOf w)) ⌝ }
+    ensures { λ r. ⌜ r ≡ countBy w (shapeBy s) a b c ⌝ }
+{
+    match w {
+        Counted::Leaves => leaves_by(s, a, b, c),
+        Counted::Binders => binders_by(s, a, b, c),
+        Counted::Marks => marks_by(s, a, b, c),
+    }
+}
+
+// a row's count, or one more than the limit
+fn row_count(rows: &[u32; MAX_ROWS * ROW_WORDS], table: &[u8; MAX_ROWS], i: usize, w: Counted) -> u8
+    requires { ⌜ (i < maxRows) × CountsTo w (now rows) (now table) i ⌝ }
+    ensures { λ r. ⌜ (r ≡ stop (suc (mostOf w)) (countOf w (now (rows .entry)) i)) × (r ≤ suc (mostOf w)) ⌝ }
+{
+    let a = below(table, i, word_at(rows, i, 1));
+    let b = below(table, i, word_at(rows, i, 2));
+    let c = below(table, i, word_at(rows, i, 3));
+    let x = count_by(w, shape_at(rows, i), a, b, c);
+    let most = most_of(w);
+    if x <= most {
+        return x;
+    }
+    most + 1
+}
+
+fn few(rows: &[u32; MAX_ROWS * ROW_WORDS], n: usize, w: Counted) -> bool
+    requires { ⌜ n ≤ maxRows ⌝ }
+    ensures { λ r. ⌜ r ≡ every n (fewAt w (now (rows .entry))) ⌝ }
+{
+    let mut table = [0u8; MAX_ROWS];
+    let most = most_of(w);
+    for i in 0..n {
+        let x = row_count(rows, &table, i, w);
+        if most < x {
+            return false;
+        }
+        table[i] = x;
+    }
+    true
+}
+
+pub fn small(rows: &[u32; MAX_ROWS * ROW_WORDS], n: usize) -> bool
+    requires { ⌜ n ≤ maxRows ⌝ }
+    ensures { λ r. ⌜ r ≡ every n (rowSmall (now (rows .entry))) ⌝ }
+{
+    if !few(rows, n, Counted::Leaves) {
+        return false;
+    }
+    if !few(rows, n, Counted::Binders) {
+        return false;
+    }
+    few(rows, n, Counted::Marks)
+}
