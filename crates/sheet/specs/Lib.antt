@@ -1,0 +1,4 @@
+pub mod Sheet
+pub mod Load
+pub mod Scan
+pub mod Accepted
