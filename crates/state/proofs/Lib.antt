@@ -1,0 +1,11 @@
+pub mod Words
+pub mod Frames
+pub mod Sites
+pub mod Calls
+pub mod Clearing
+pub mod Writes
+pub mod Encode
+pub mod Typed
+pub mod OneState
+pub mod SitsOf
+pub mod Reading

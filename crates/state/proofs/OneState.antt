@@ -1,0 +1,194 @@
+-- Words hold at most one task of a code, and one content of each cell: states that are written alike are the same. Rests on
+-- Words and the calculus' typing.
+use mathlib.Core.Path.{_≡_, refl, sym, ap, ap₂, _∙_, subst}
+use mathlib.Core.Bool.{true, false}
+use mathlib.Core.Logic.{_⊎_, inl, inr, ⊎-elim}
+use mathlib.Core.List.{List, [], _∷_, _++_, map}
+use Prim.Native.Nat.{ℕ, zero, suc, _+_, _*_, _-_, _≤_, _<_}
+use native.Mathlib.Decide.{ℕ-discrete}
+use native.Mathlib.Omega.{arith}
+use lib.IntN.{ℤ, pos}
+use lib.ListN.{length, getD, replicate}
+use lib.Seq.{ext-getD}
+use mir.Syntax.{w32}
+use mir.Val.{toZ, ofZ}
+use mir.Facts.{toZ-ofZ}
+use Rattle.word.specs.Word.{IsWord}
+use Rattle.tophat.specs.Syntax.{maxLeaves, Ty, unit, truth, number, leaves, Code, edit, enter, update, then, next, fail, and, or, xor, if, let', Val, vunit, Store}
+use Rattle.tophat.specs.Syntax.{TaskOf, filled, blank, entered, shared, StepT, before, after, failed, both, either, orLeft, orRight, unpicked, pickedLeft, pickedRight, ifTrue, ifFalse, bound}
+use Rattle.tophat.specs.Typing.{ValueType, v-unit, v-truth, v-number, v-pair, ValueTypes, v-nil, v-cons, TaskType, k-filled, k-blank, k-entered, k-shared, k-then-before, k-then-after}
+use Rattle.tophat.specs.Typing.{k-next-before, k-next-after, k-failed, k-both, k-either, k-or-left, k-or-right, k-unpicked, k-picked-left, k-picked-right, k-if-true, k-if-false, k-bound}
+use Rattle.tophat.proofs.TypeLeaves.{AllSmall, small-nil, small-cons, type-leaves, task-type-leaves}
+use Rattle.tophat.specs.Handling.{leavesOf, padded}
+use Rattle.tophat.proofs.ComputeHandling.{typeOf}
+use Rattle.tophat.proofs.Leaves.{type-of, gives-one}
+use Rattle.shape.proofs.Puts.{shape-inj}
+use Rattle.value.specs.Values.{asValue, leafBits}
+use Rattle.rows.specs.Kinds.{cellK}
+use Rattle.rows.specs.Rows.{word, kindAt, opA, opB, opC}
+use Rattle.rows.specs.Trees.{ReadsCell, r-cell, Cells, c-none, c-truth, c-number, c-other}
+use Rattle.rows.proofs.KindNumbers.{kindNumber, kind-is}
+use Rattle.rows.proofs.CellsAt.{cells-length, cells-small}
+use Rattle.state.specs.Layout.{valueWords}
+use Rattle.state.specs.Holds.{Cell, Row, Holds, Stores}
+use Rattle.state.specs.Words.{valueAt}
+use Rattle.state.proofs.Words.{value-at}
+
+numbered : (rs : List ℕ) (k : ℕ) → kindAt rs k ≡ cellK → Cell rs k
+unfolding kindNumber
+numbered rs k e = kind-is (word rs k 0) cellK e (omega arith)
+
+-- ---- values
+
+-- leaves that are words are read back from their bits
+abbrev EachWord : List ℤ → Type 0
+EachWord [] = Unit {0}
+EachWord (z ∷ zs) = IsWord z × EachWord zs
+
+words-append : (xs ys : List ℤ) → EachWord xs → EachWord ys → EachWord (xs ++ ys)
+words-append [] ys p q = q
+words-append (x ∷ xs) ys p q = (p .0, words-append xs ys (p .1) q)
+
+words-zero : (n : ℕ) → EachWord (replicate n (pos 0))
+words-zero zero = tt
+words-zero (suc n) = (omega arith, words-zero n)
+
+leaves-words : {v : Val} {τ : Ty} → ValueType v τ → EachWord (leavesOf v)
+unfolding leavesOf
+leaves-words v-unit = (omega arith, tt)
+leaves-words (v-truth {b = true}) = (omega arith, tt)
+leaves-words (v-truth {b = false}) = (omega arith, tt)
+leaves-words (v-number h) = (h, tt)
+leaves-words (v-pair {v = v} {w = w} g h) = words-append (leavesOf v) (leavesOf w) (leaves-words g) (leaves-words h)
+
+bits-back : (zs : List ℤ) → EachWord zs → map (toZ w32) (map (ofZ w32) zs) ≡ zs
+bits-back [] p = refl
+bits-back (z ∷ zs) p = ap₂ _∷_ (toZ-ofZ {w = w32} {z = z} (record { sfits = p .0 })) (bits-back zs (p .1))
+
+pub leaves-back : {v : Val} {τ : Ty} → ValueType v τ → map (toZ w32) (leafBits v) ≡ padded (pos 0) (leavesOf v)
+unfolding leafBits padded
+leaves-back {v} t = bits-back _ (words-append (leavesOf v) _ (leaves-words t) (words-zero (maxLeaves - length (leavesOf v))))
+
+-- a value is one by its shape and its leaves
+pub value-one : {u v : Val} {τ υ : Ty} → ValueType u τ → ValueType v υ → asValue u ≡ asValue v → u ≡ v
+unfolding asValue
+value-one {u} {v} {τ} {υ} g h e =
+    let p : typeOf u ≡ typeOf v = shape-inj (typeOf u) (typeOf v) (ap (λ x. x .shape) e) in
+    let q : υ ≡ τ = sym (type-of h) ∙ sym p ∙ type-of g in
+    let r : padded (pos 0) (leavesOf u) ≡ padded (pos 0) (leavesOf v) = sym (leaves-back g) ∙ ap (λ x. map (toZ w32) (x .leaves)) e ∙ leaves-back h in
+    gives-one {τ = τ} {ls = padded (pos 0) (leavesOf u)} (g, refl) (subst (ValueType v) q h, r)
+
+-- what a row holds
+pub row-value : {ws : List ℕ} {i x y : ℕ} {u v : Val} {τ υ : Ty} → ValueType u τ → leaves τ ≤ maxLeaves → ValueType v υ → leaves υ ≤ maxLeaves
+    → Row ws i (x ∷ valueWords u) → Row ws i (y ∷ valueWords v) → u ≡ v
+row-value g l h m p q = value-one g h (sym (value-at p g l) ∙ value-at q h m)
+
+-- ---- tasks
+
+-- a row has one tag
+clash : {A : Type 0} {ws : List ℕ} {i x y : ℕ} {xs ys : List ℕ} → Row ws i (x ∷ xs) → Row ws i (y ∷ ys) → (x ≡ y → ⊥) → A
+clash p q n = absurd (n (sym (p .words 0 (omega arith)) ∙ q .words 0 (omega arith)))
+
+module _ (rs ws : List ℕ) {Σ : List Ty} (g : AllSmall Σ) where
+  pub holds-one : {Γ Γ₁ : List Ty} {τ τ₁ : Ty} (i : ℕ) (c : Code) {t t₁ : TaskOf c} → TaskType Σ Γ c t τ → TaskType Σ Γ₁ c t₁ τ₁ → AllSmall Γ → AllSmall Γ₁
+      → Holds rs ws i c t → Holds rs ws i c t₁ → t ≡ t₁
+  holds-one i (edit e) (k-filled d v) (k-filled d₁ v₁) h h₁ p q = ap filled (row-value v (type-leaves d g h) v₁ (type-leaves d₁ g h₁) p q)
+  holds-one i (enter τ) (k-blank l) (k-blank l₁) h h₁ p q = refl
+  holds-one i (enter τ) (k-blank l) (k-entered l₁ v₁) h h₁ p q = clash p q (λ e. omega arith)
+  holds-one i (enter τ) (k-entered l v) (k-blank l₁) h h₁ p q = clash p q (λ e. omega arith)
+  holds-one i (enter τ) (k-entered l v) (k-entered l₁ v₁) h h₁ p q = ap entered (row-value v l v₁ l₁ p q)
+  holds-one i (update k) (k-shared d) (k-shared d₁) h h₁ p q = refl
+  holds-one i (then a b) (k-then-before d e) (k-then-before d₁ e₁) h h₁ p q = ap before (holds-one (opA rs i) a d d₁ h h₁ (p .1) (q .1))
+  holds-one i (then a b) (k-then-before d e) (k-then-after d₁ v₁ e₁) h h₁ p q = clash (p .0) (q .0) (λ e. omega arith)
+  holds-one i (then a b) (k-then-after d v e) (k-then-before d₁ e₁) h h₁ p q = clash (p .0) (q .0) (λ e. omega arith)
+  holds-one i (then a b) (k-then-after d v e) (k-then-after d₁ v₁ e₁) h h₁ p q =
+      let l = task-type-leaves d g h in
+      let l₁ = task-type-leaves d₁ g h₁ in
+      ap₂ after (row-value v l v₁ l₁ (p .0) (q .0)) (holds-one (opB rs i) b e e₁ (small-cons l h) (small-cons l₁ h₁) (p .2) (q .2))
+  holds-one i (next a b) (k-next-before d e) (k-next-before d₁ e₁) h h₁ p q = ap before (holds-one (opA rs i) a d d₁ h h₁ (p .1) (q .1))
+  holds-one i (next a b) (k-next-before d e) (k-next-after d₁ v₁ e₁) h h₁ p q = clash (p .0) (q .0) (λ e. omega arith)
+  holds-one i (next a b) (k-next-after d v e) (k-next-before d₁ e₁) h h₁ p q = clash (p .0) (q .0) (λ e. omega arith)
+  holds-one i (next a b) (k-next-after d v e) (k-next-after d₁ v₁ e₁) h h₁ p q =
+      let l = task-type-leaves d g h in
+      let l₁ = task-type-leaves d₁ g h₁ in
+      ap₂ after (row-value v l v₁ l₁ (p .0) (q .0)) (holds-one (opB rs i) b e e₁ (small-cons l h) (small-cons l₁ h₁) (p .2) (q .2))
+  holds-one i (fail τ) (k-failed l) (k-failed l₁) h h₁ p q = refl
+  holds-one i (and a b) (k-both d e l) (k-both d₁ e₁ l₁) h h₁ p q = ap₂ both (holds-one (opA rs i) a d d₁ h h₁ (p .1) (q .1)) (holds-one (opB rs i) b e e₁ h h₁ (p .2) (q .2))
+  holds-one i (or a b) (k-either d e) (k-either d₁ e₁) h h₁ p q = ap₂ either (holds-one (opA rs i) a d d₁ h h₁ (p .1) (q .1)) (holds-one (opB rs i) b e e₁ h h₁ (p .2) (q .2))
+  holds-one i (or a b) (k-either d e) (k-or-left d₁ e₁) h h₁ p q = clash (p .0) (q .0) (λ e. omega arith)
+  holds-one i (or a b) (k-either d e) (k-or-right d₁ e₁) h h₁ p q = clash (p .0) (q .0) (λ e. omega arith)
+  holds-one i (or a b) (k-or-left d e) (k-either d₁ e₁) h h₁ p q = clash (p .0) (q .0) (λ e. omega arith)
+  holds-one i (or a b) (k-or-left d e) (k-or-left d₁ e₁) h h₁ p q = ap orLeft (holds-one (opA rs i) a d d₁ h h₁ (p .1) (q .1))
+  holds-one i (or a b) (k-or-left d e) (k-or-right d₁ e₁) h h₁ p q = clash (p .0) (q .0) (λ e. omega arith)
+  holds-one i (or a b) (k-or-right d e) (k-either d₁ e₁) h h₁ p q = clash (p .0) (q .0) (λ e. omega arith)
+  holds-one i (or a b) (k-or-right d e) (k-or-left d₁ e₁) h h₁ p q = clash (p .0) (q .0) (λ e. omega arith)
+  holds-one i (or a b) (k-or-right d e) (k-or-right d₁ e₁) h h₁ p q = ap orRight (holds-one (opB rs i) b e e₁ h h₁ (p .2) (q .2))
+  holds-one i (xor a b) (k-unpicked d e) (k-unpicked d₁ e₁) h h₁ p q = refl
+  holds-one i (xor a b) (k-unpicked d e) (k-picked-left d₁ e₁) h h₁ p q = clash (p .0) (q .0) (λ e. omega arith)
+  holds-one i (xor a b) (k-unpicked d e) (k-picked-right d₁ e₁) h h₁ p q = clash (p .0) (q .0) (λ e. omega arith)
+  holds-one i (xor a b) (k-picked-left d e) (k-unpicked d₁ e₁) h h₁ p q = clash (p .0) (q .0) (λ e. omega arith)
+  holds-one i (xor a b) (k-picked-left d e) (k-picked-left d₁ e₁) h h₁ p q = ap pickedLeft (holds-one (opA rs i) a d d₁ h h₁ (p .1) (q .1))
+  holds-one i (xor a b) (k-picked-left d e) (k-picked-right d₁ e₁) h h₁ p q = clash (p .0) (q .0) (λ e. omega arith)
+  holds-one i (xor a b) (k-picked-right d e) (k-unpicked d₁ e₁) h h₁ p q = clash (p .0) (q .0) (λ e. omega arith)
+  holds-one i (xor a b) (k-picked-right d e) (k-picked-left d₁ e₁) h h₁ p q = clash (p .0) (q .0) (λ e. omega arith)
+  holds-one i (xor a b) (k-picked-right d e) (k-picked-right d₁ e₁) h h₁ p q = ap pickedRight (holds-one (opB rs i) b e e₁ h h₁ (p .2) (q .2))
+  holds-one i (if x a b) (k-if-true z d e) (k-if-true z₁ d₁ e₁) h h₁ p q = ap ifTrue (holds-one (opB rs i) a d d₁ h h₁ (p .1) (q .1))
+  holds-one i (if x a b) (k-if-true z d e) (k-if-false z₁ d₁ e₁) h h₁ p q = clash (p .0) (q .0) (λ e. omega arith)
+  holds-one i (if x a b) (k-if-false z d e) (k-if-true z₁ d₁ e₁) h h₁ p q = clash (p .0) (q .0) (λ e. omega arith)
+  holds-one i (if x a b) (k-if-false z d e) (k-if-false z₁ d₁ e₁) h h₁ p q = ap ifFalse (holds-one (opC rs i) b e e₁ h h₁ (p .2) (q .2))
+  holds-one i (let' x b) (k-bound d v e) (k-bound d₁ v₁ e₁) h h₁ p q =
+      let l = type-leaves d g h in
+      let l₁ = type-leaves d₁ g h₁ in
+      ap₂ bound (row-value v l v₁ l₁ (p .0) (q .0)) (holds-one (opB rs i) b e e₁ (small-cons l h) (small-cons l₁ h₁) (p .1) (q .1))
+
+-- ---- stores
+
+pub typed-at : {s : Store} {Σ : List Ty} → ValueTypes s Σ → (k : ℕ) → ValueType (getD s k vunit) (getD Σ k unit)
+typed-at v-nil k = v-unit
+typed-at (v-cons t d) zero = t
+typed-at (v-cons t d) (suc k) = typed-at d k
+
+small-at : {Σ : List Ty} → AllSmall Σ → (k : ℕ) → leaves (getD Σ k unit) ≤ maxLeaves
+unfolding leaves
+small-at small-nil k = omega arith
+small-at (small-cons l g) zero = l
+small-at (small-cons l g) (suc k) = small-at g k
+
+pub cells-one : {rs ws : List ℕ} {Σ : List Ty} {s s₁ : Store} → AllSmall Σ → ValueTypes s Σ → ValueTypes s₁ Σ → Stores rs ws s → Stores rs ws s₁
+    → (k : ℕ) → Cell rs k → getD s k vunit ≡ getD s₁ k vunit
+cells-one g h h₁ p q k c = let l = small-at g k in row-value (typed-at h k) l (typed-at h₁ k) l (p .cells k c) (q .cells k c)
+
+-- where no cell is, there is unit
+one-more : (xs : List Ty) (x : Ty) (j : ℕ) → ((j ≡ length xs) × (getD (xs ++ x ∷ []) j unit ≡ x)) ⊎ (getD (xs ++ x ∷ []) j unit ≡ getD xs j unit)
+one-more [] x zero = inl (refl, refl)
+one-more [] x (suc j) = inr refl
+one-more (y ∷ xs) x zero = inr refl
+one-more (y ∷ xs) x (suc j) = ⊎-elim (λ (e, p). inl (ap suc e, p)) inr (one-more xs x j)
+
+module _ {rs : List ℕ} where
+  at-cell : {i : ℕ} {τ : Ty} → ReadsCell rs i τ → kindAt rs i ≡ cellK
+  at-cell (r-cell k x d) = k
+
+  unit-at : {n : ℕ} {Σ : List Ty} {s : Store} → Cells rs n Σ s → (j : ℕ) → (kindAt rs j ≡ cellK → ⊥) → getD Σ j unit ≡ unit
+  unit-at c-none j n = refl
+  unit-at (c-truth {Σ = Σ} d c) j n = ⊎-elim (λ (e, p). absurd (n (subst (λ i. kindAt rs i ≡ cellK) (sym (e ∙ cells-length d .0)) (at-cell c)))) (λ p. p ∙ unit-at d j n) (one-more Σ truth j)
+  unit-at (c-number {Σ = Σ} d c) j n = ⊎-elim (λ (e, p). absurd (n (subst (λ i. kindAt rs i ≡ cellK) (sym (e ∙ cells-length d .0)) (at-cell c)))) (λ p. p ∙ unit-at d j n) (one-more Σ number j)
+  unit-at (c-other {Σ = Σ} d c) j n = ⊎-elim (λ (e, p). p) (λ p. p ∙ unit-at d j n) (one-more Σ unit j)
+
+pub only-unit : {v : Val} {τ : Ty} → ValueType v τ → τ ≡ unit → v ≡ vunit
+only-unit v-unit e = refl
+only-unit v-truth e = let z : _≡_ {A = ℕ} 0 1 = cc in absurd (omega arith)
+only-unit (v-number h) e = let z : _≡_ {A = ℕ} 0 1 = cc in absurd (omega arith)
+only-unit (v-pair g h) e = let z : _≡_ {A = ℕ} 0 1 = cc in absurd (omega arith)
+
+pub types-length : {s : Store} {Σ : List Ty} → ValueTypes s Σ → length s ≡ length Σ
+types-length v-nil = refl
+types-length (v-cons t d) = ap suc (types-length d)
+
+-- words hold one store of the cells' types
+pub stores-one : {rs ws : List ℕ} {n : ℕ} {Σ : List Ty} {s₀ s s₁ : Store} → Cells rs n Σ s₀ → ValueTypes s Σ → ValueTypes s₁ Σ → Stores rs ws s → Stores rs ws s₁ → s ≡ s₁
+stores-one {rs} {s = s} {s₁ = s₁} c h h₁ p q = ext-getD vunit s s₁ (types-length h ∙ sym (types-length h₁)) (λ k l. by k (ℕ-discrete (word rs k 0) 10))
+  where
+    by : (k : ℕ) → Dec (Cell rs k) → getD s k vunit ≡ getD s₁ k vunit
+    by k (yes e) = cells-one (cells-small c) h h₁ p q k e
+    by k (no n) = let e = unit-at c k (λ z. n (numbered rs k z)) in only-unit (typed-at h k) e ∙ sym (only-unit (typed-at h₁ k) e)

@@ -1,0 +1,5 @@
+pub mod Layout
+pub mod Holds
+pub mod Words
+pub mod Contracts
+pub mod Reading

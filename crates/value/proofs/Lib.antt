@@ -1,0 +1,4 @@
+pub mod Operators
+pub mod Parts
+pub mod Meaning
+pub mod Fitting

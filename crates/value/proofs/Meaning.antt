@@ -1,0 +1,179 @@
+-- What the functions of this crate give on values of the calculus: an operator, a test, a pair and its parts are the
+-- calculus', wherever leaves are words and a type has at most four of them. Rests on crate shape's laws.
+use mathlib.Core.Path.{_≡_, refl, sym, ap, ap₂, _∙_}
+use mathlib.Core.Bool.{Bool, true, false, cond}
+use mathlib.Core.List.{List, [], _∷_, _++_}
+use Prim.Native.Nat.{ℕ, zero, suc, _+_, _-_, _≤_, _<_}
+use native.Mathlib.Omega.{arith}
+use lib.Dec.{ltb, lit<}
+use lib.IntN.{pos}
+use lib.ListN.{length, getD, replicate, length-replicate, length-append, length-map, List·getD-append, List·getD-map}
+use lib.Seq.{getD-append-add}
+use borrow.Author.Tests.{ltb-true, ltb-false}
+use mir.Syntax.{w32}
+use mir.Val.{toZ, ofZ}
+use Rattle.word.specs.Word.{IsWord}
+use Rattle.word.proofs.TwosComplement.{number-bits}
+use Rattle.tophat.specs.Syntax.{maxLeaves, Ty, pair, leaves, Op, sum, difference, product, less, lessEqual, equal, andOp, orOp, Val, vunit, vtruth, vnumber, vpair}
+use Rattle.tophat.specs.Typing.{ValueType, v-unit, v-truth, v-number, v-pair}
+use Rattle.tophat.specs.Handling.{leavesOf, padded}
+use Rattle.tophat.proofs.ComputeEvaluation.{leaf, isTrue, apply}
+use Rattle.tophat.proofs.ComputeHandling.{typeOf}
+use Rattle.tophat.proofs.ComputeTyping.{bind, firstTo, secondTo}
+use Rattle.shape.specs.Shape as shape
+use Rattle.shape.specs.Shape.{asShape, maybeShape, pairShape, firstShape, secondShape}
+use Rattle.ranges.proofs.Ranges.{past}
+use Rattle.shape.proofs.Puts.{by-test, leaves-pos, fits, as-type}
+use Rattle.shape.proofs.Counts.{shape-leaves}
+use Rattle.value.specs.Values.{leafBits, asValue, noLeaves, leafNumber, four, joined, pairOf, firstOf, secondOf}
+
+-- ---- leaves by place
+
+module _ {A : Type 0} (d : A) where
+  zeros-at : (n i : ℕ) → getD (replicate n d) i d ≡ d
+  zeros-at zero i = refl
+  zeros-at (suc n) zero = refl
+  zeros-at (suc n) (suc i) = zeros-at n i
+
+  padded-at : (xs : List A) (n i : ℕ) → getD (xs ++ replicate n d) i d ≡ getD xs i d
+  padded-at [] n i = zeros-at n i
+  padded-at (x ∷ xs) n zero = refl
+  padded-at (x ∷ xs) n (suc i) = padded-at xs n i
+
+  append-at : (xs ys : List A) (i : ℕ) → getD (xs ++ ys) i d ≡ cond (ltb i (length xs)) (getD xs i d) (getD ys (i - length xs) d)
+  append-at xs ys i = by-test (λ z. getD (xs ++ ys) i d ≡ z) (ltb i (length xs))
+      (λ t. List·getD-append xs ys d i (ltb-true i (length xs) t))
+      (λ f. let h = ltb-false i (length xs) f in let e : i ≡ length xs + (i - length xs) = omega arith in ap (λ k. getD (xs ++ ys) k d) e ∙ getD-append-add xs ys (i - length xs) d)
+
+  front-at : (xs ys : List A) (i : ℕ) → cond (ltb i (length xs)) (getD (xs ++ ys) i d) d ≡ getD xs i d
+  front-at xs ys i = by-test (λ z. z ≡ getD xs i d) (ltb i (length xs))
+      (λ t. List·getD-append xs ys d i (ltb-true i (length xs) t))
+      (λ f. sym (past xs d i (ltb-false i (length xs) f)))
+
+cond-ap : {A B : Type 0} (f : A → B) (b : Bool) (x y : A) → f (cond b x y) ≡ cond b (f x) (f y)
+cond-ap f true x y = refl
+cond-ap f false x y = refl
+
+pub leaves-length : (v : Val) → length (leavesOf v) ≡ leaves (typeOf v)
+unfolding leavesOf leaves typeOf
+leaves-length vunit = refl
+leaves-length (vtruth true) = refl
+leaves-length (vtruth false) = refl
+leaves-length (vnumber n) = refl
+leaves-length (vpair v w) = length-append (leavesOf v) (leavesOf w) ∙ ap₂ _+_ (leaves-length v) (leaves-length w)
+
+-- the bits at a place are those of the leaf there
+pub leaf-at : (v : Val) (i : ℕ) → getD (leafBits v) i 0 ≡ ofZ w32 (getD (leavesOf v) i (pos 0))
+unfolding leafBits padded
+leaf-at v i = List·getD-map (ofZ w32) (leavesOf v ++ replicate (maxLeaves - length (leavesOf v)) (pos 0)) i (pos 0) ∙ ap (ofZ w32) (padded-at (pos 0) (leavesOf v) (maxLeaves - length (leavesOf v)) i)
+
+pub leaf-count : (v : Val) → leaves (typeOf v) ≤ maxLeaves → length (leafBits v) ≡ maxLeaves
+unfolding leafBits padded
+leaf-count v h =
+    let m = maxLeaves - length (leavesOf v) in
+    length-map (leavesOf v ++ replicate m (pos 0)) (ofZ w32) ∙ length-append (leavesOf v) (replicate m (pos 0))
+    ∙ ap (λ n. length (leavesOf v) + n) (length-replicate m (pos 0)) ∙ omega (arith, leaves-length v)
+
+four-is : (l : List ℕ) (f : ℕ → ℕ) → length l ≡ maxLeaves → ((i : ℕ) → getD l i 0 ≡ f i) → four f ≡ l
+four-is [] f h e = absurd (omega arith)
+four-is (a ∷ []) f h e = absurd (omega arith)
+four-is (a ∷ b ∷ []) f h e = absurd (omega arith)
+four-is (a ∷ b ∷ c ∷ []) f h e = absurd (omega arith)
+four-is (a ∷ b ∷ c ∷ d ∷ []) f h e = λ i. sym (e 0) i ∷ sym (e 1) i ∷ sym (e 2) i ∷ sym (e 3) i ∷ []
+four-is (a ∷ b ∷ c ∷ d ∷ x ∷ l) f h e = absurd (omega arith)
+
+-- a value of a shape and four leaves is a value of the calculus
+pub value-is : (v : Val) (s : ℕ) (f : ℕ → ℕ) → leaves (typeOf v) ≤ maxLeaves → s ≡ asShape (typeOf v) → ((i : ℕ) → f i ≡ ofZ w32 (getD (leavesOf v) i (pos 0)))
+    → record { shape = s; leaves = four f } ≡ asValue v
+unfolding asValue
+value-is v s f h e g = λ i. record { shape = e i; leaves = four-is (leafBits v) f (leaf-count v h) (λ j. leaf-at v j ∙ sym (g j)) i }
+
+-- ---- pairs and their parts
+
+module _ (v w : Val) (h : leaves (typeOf v) + leaves (typeOf w) ≤ maxLeaves) where
+  small : leaves (typeOf (vpair v w)) ≤ maxLeaves
+  unfolding leaves typeOf
+  small = h
+
+  first-small : leaves (typeOf v) ≤ maxLeaves
+  first-small = omega (arith, h)
+
+  second-small : leaves (typeOf w) ≤ maxLeaves
+  second-small = omega (arith, h)
+
+  pair-shape : pairShape (asShape (typeOf v)) (asShape (typeOf w)) ≡ asShape (typeOf (vpair v w))
+  unfolding pairShape bind maybeShape typeOf
+  pair-shape = rw (as-type (typeOf v) first-small, as-type (typeOf w) second-small, fits (pair (typeOf v) (typeOf w)) small)
+
+  first-shape : firstShape (asShape (typeOf (vpair v w))) ≡ asShape (typeOf v)
+  unfolding firstShape bind maybeShape firstTo typeOf
+  first-shape = rw (as-type (pair (typeOf v) (typeOf w)) small)
+
+  second-shape : secondShape (asShape (typeOf (vpair v w))) ≡ asShape (typeOf w)
+  unfolding secondShape bind maybeShape secondTo typeOf
+  second-shape = rw (as-type (pair (typeOf v) (typeOf w)) small)
+
+  first-count : shape.leavesOf (asShape (typeOf v)) ≡ length (leavesOf v)
+  first-count = shape-leaves (typeOf v) first-small ∙ sym (leaves-length v)
+
+  part-count : shape.leavesOf (firstShape (asShape (typeOf (vpair v w)))) ≡ length (leavesOf v)
+  part-count = ap shape.leavesOf first-shape ∙ first-count
+
+  pub pair-value : pairOf (asValue v) (asValue w) ≡ asValue (vpair v w)
+  unfolding asValue leavesOf
+  pair-value = value-is (vpair v w) _ (joined (shape.leavesOf (asShape (typeOf v))) (leafBits v) (leafBits w)) small pair-shape
+      (λ i. ap (λ n. joined n (leafBits v) (leafBits w) i) first-count
+      ∙ (λ j. cond (ltb i (length (leavesOf v))) (leaf-at v i j) (leaf-at w (i - length (leavesOf v)) j))
+      ∙ sym (cond-ap (ofZ w32) (ltb i (length (leavesOf v))) _ _) ∙ ap (ofZ w32) (sym (append-at (pos 0) (leavesOf v) (leavesOf w) i)))
+
+  pub first-value : firstOf (asValue (vpair v w)) ≡ asValue v
+  unfolding asValue leavesOf
+  first-value = value-is v _ (joined (shape.leavesOf (firstShape (asShape (typeOf (vpair v w))))) (leafBits (vpair v w)) noLeaves) first-small first-shape
+      (λ i. ap (λ n. joined n (leafBits (vpair v w)) noLeaves i) part-count
+      ∙ (λ j. cond (ltb i (length (leavesOf v))) (leaf-at (vpair v w) i j) (zeros-at 0 maxLeaves (i - length (leavesOf v)) j))
+      ∙ sym (cond-ap (ofZ w32) (ltb i (length (leavesOf v))) _ _) ∙ ap (ofZ w32) (front-at (pos 0) (leavesOf v) (leavesOf w) i))
+
+  pub second-value : secondOf (asValue (vpair v w)) ≡ asValue w
+  unfolding asValue leavesOf
+  second-value = value-is w _ (λ i. getD (leafBits (vpair v w)) (shape.leavesOf (firstShape (asShape (typeOf (vpair v w)))) + i) 0) second-small second-shape
+      (λ i. ap (λ n. getD (leafBits (vpair v w)) (n + i) 0) part-count ∙ leaf-at (vpair v w) (length (leavesOf v) + i) ∙ ap (ofZ w32) (getD-append-add (leavesOf v) (leavesOf w) i (pos 0)))
+
+-- ---- the first leaf
+
+first-leaf : (v : Val) → getD (leavesOf v) 0 (pos 0) ≡ leaf v
+unfolding leavesOf leaf
+first-leaf vunit = refl
+first-leaf (vtruth true) = refl
+first-leaf (vtruth false) = refl
+first-leaf (vnumber n) = refl
+first-leaf (vpair v w) = List·getD-append (leavesOf v) (leavesOf w) (pos 0) 0 (omega (arith, leaves-length v, leaves-pos (typeOf v))) ∙ first-leaf v
+
+pub leaf-word : {v : Val} {τ : Ty} → ValueType v τ → IsWord (leaf v)
+unfolding leaf
+leaf-word v-unit = lit< tt
+leaf-word (v-truth {b = true}) = lit< tt
+leaf-word (v-truth {b = false}) = lit< tt
+leaf-word (v-number h) = h
+leaf-word (v-pair g h) = leaf-word g
+
+leaf-number : (v : Val) → IsWord (leaf v) → leafNumber (asValue v) ≡ vnumber (leaf v)
+unfolding asValue
+leaf-number v h = ap vnumber (ap (toZ w32) (leaf-at v 0 ∙ ap (ofZ w32) (first-leaf v)) ∙ number-bits (leaf v) h)
+
+pub true-value : (v : Val) → IsWord (leaf v) → isTrue (leafNumber (asValue v)) ≡ isTrue v
+unfolding isTrue leaf
+true-value v h = ap isTrue (leaf-number v h)
+
+by-leaf : (o : Op) (v w : Val) → apply o (vnumber (leaf v)) (vnumber (leaf w)) ≡ apply o v w
+unfolding apply isTrue leaf
+by-leaf sum v w = refl
+by-leaf difference v w = refl
+by-leaf product v w = refl
+by-leaf less v w = refl
+by-leaf lessEqual v w = refl
+by-leaf equal v w = refl
+by-leaf andOp v w = refl
+by-leaf orOp v w = refl
+
+pub apply-value : (o : Op) (v w : Val) → IsWord (leaf v) → IsWord (leaf w) → apply o (leafNumber (asValue v)) (leafNumber (asValue w)) ≡ apply o v w
+apply-value o v w h g = ap₂ (apply o) (leaf-number v h) (leaf-number w g) ∙ by-leaf o v w

@@ -1,0 +1,21 @@
+-- `value::apply` meets its contract, an arm by what its callee ensures. Assumes nothing.
+use mathlib.Core.Path.{ap, _∙_}
+use mathlib.Core.Logic.{⊎-elim}
+use native.Mathlib.Omega.{arith}
+use lib.ListN.{getD}
+use borrow.Author.Needs.{needs}
+use Rattle.value.proofs.Operators.{other-is}
+use Rattle.value.specs.Values.{asValue}
+use Rattle.value.proofs.apply.Statement.{statement}
+use Rattle.value.proofs.apply.Tie as tie
+
+pub apply-spec : {M : Type 1} → statement M
+apply-spec = tie.close (tie.spec
+    (λ c. search needs) (λ c. search needs) (λ c κs. search needs) (λ c κs. search needs)
+    (λ c. c .number .ensures ∙ ap asValue (c .before .computed .ensures))
+    (λ c κs. search needs) (λ c κs. search needs)
+    (λ c. c .truth .ensures ∙ ap asValue (c .before .compared .ensures))
+    (λ c κs. search needs) (λ c κs. search needs)
+    (λ c. c .truth2 .ensures ∙ ap asValue (c .before .connected .ensures))
+    (λ c κs. search needs) (λ c κs. search needs)
+    (λ c. let s = c .before .before .before .before .before in c .number2 .ensures ∙ ap asValue (other-is (s .args .op) (getD (s .args .a .leaves) 0 0) (getD (s .args .b .leaves) 0 0) (c .before .add .result) (λ p q. ⊎-elim (λ z. omega arith) (λ z. omega arith) (c .before .before .if1 .came)) (c .before .add .ensures))))

@@ -1,0 +1,13 @@
+-- `value::compared` meets its contract, an arm by the law of its operator. Assumes nothing.
+use native.Mathlib.Omega.{arith}
+use borrow.Author.Needs.{needs}
+use Rattle.value.proofs.Operators.{less-is, less-equal-is, equal-is}
+use Rattle.value.proofs.compared.Statement.{statement}
+use Rattle.value.proofs.compared.Tie as tie
+
+pub compared-spec : {M : Type 1} → statement M
+compared-spec = tie.close (tie.spec
+    (λ c κs. search needs) (λ c κs. search needs) (λ c κs. search needs)
+    (λ c. let s = c .before .before in less-is (s .args .op) (s .args .x) (s .args .y) (c .less .result) (c .before .match .keys1) (c .less .ensures))
+    (λ c. let s = c .before .before in less-equal-is (s .args .op) (s .args .x) (s .args .y) (c .at-most .result) (c .before .match .keys2) (c .at-most .ensures))
+    (λ c. let s = c .before .before in equal-is (s .args .op) (s .args .x) (s .args .y) (c .equal .result) (omega (arith, s .pre .0, s .pre .1, c .before .match .rest .0 .1, c .before .match .rest .1)) (c .equal .ensures)))

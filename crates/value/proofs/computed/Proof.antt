@@ -1,0 +1,13 @@
+-- `value::computed` meets its contract, an arm by the law of its operator. Assumes nothing.
+use native.Mathlib.Omega.{arith}
+use borrow.Author.Needs.{needs}
+use Rattle.value.proofs.Operators.{sum-is, difference-is, product-is}
+use Rattle.value.proofs.computed.Statement.{statement}
+use Rattle.value.proofs.computed.Tie as tie
+
+pub computed-spec : {M : Type 1} → statement M
+computed-spec = tie.close (tie.spec
+    (λ c κs. search needs) (λ c κs. search needs) (λ c κs. search needs)
+    (λ c. let s = c .before .before in sum-is (s .args .op) (s .args .x) (s .args .y) (c .add .result) (c .before .match .keys1) (c .add .ensures))
+    (λ c. let s = c .before .before in difference-is (s .args .op) (s .args .x) (s .args .y) (c .sub .result) (c .before .match .keys2) (c .sub .ensures))
+    (λ c. let s = c .before .before in product-is (s .args .op) (s .args .x) (s .args .y) (c .mul .result) (omega (arith, s .pre .0, s .pre .1, c .before .match .rest .0 .1, c .before .match .rest .1)) (c .mul .ensures)))
