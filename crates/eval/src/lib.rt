@@ -1,0 +1,112 @@
+// Evaluation of plain expressions, rows of kind 20 to 31, which gives a value and may write cells. Rests on crate value for
+// values and operators, on crate state for the words, and on specs/Contracts of that crate for what evaluation ensures.
+use state::MAX_BINDERS;
+use state::OWN;
+use state::env_get;
+use state::env_put;
+use state::get;
+use state::operand;
+use state::put_value;
+use state::read_value;
+use value::Value;
+use value::apply;
+use value::first;
+use value::is_true;
+use value::number;
+use value::pair;
+use value::second;
+use value::truth;
+use value::unit;
+ghost use mathlib.Core.Path.{_≡_};
+ghost use mathlib.Core.List.{List};
+ghost use Prim.Native.Nat.{ℕ, _<_, _≤_};
+ghost use Rattle.rows.specs.Rows.{maxRows, word};
+ghost use Rattle.rows.specs.Enclosing.{maxBinders};
+ghost use Rattle.value.specs.Values.{firstOf, secondOf};
+ghost use Rattle.state.specs.Words.{Pushed};
+ghost use Rattle.state.specs.Contracts.{Fine, EvalOk};
+
+// A constant, or a binder's value: what needs no other row and no state.
+fn constant(rows: &[u32; 1024], row: usize, env: &[u32; 80], depth: usize, kind: u32) -> Value
+    requires { ⌜ (row < maxRows) × (depth ≤ maxBinders) × (kind ≡ word (now rows) row 0) × (20 ≤ kind) × (kind ≤ 23) ⌝ }
+    ensures { λ r. ⌜ ((ws : List ℕ) → EvalOk (now (rows .entry)) ws ws row (now (env .entry)) depth r) ⌝ }
+{
+    match kind {
+        20 => unit(),
+        21 => truth(get(rows, row, 1) == 1),
+        22 => number(get(rows, row, 1)),
+        _ => env_get(env, depth, operand(rows, row, 1)),
+    }
+}
+
+// A part of a pair: the first for kind 27, the second for 28.
+fn part(a: Value, kind: u32) -> Value
+    ensures { λ r. ⌜ (kind ≡ 27 → r ≡ firstOf a) × (kind ≡ 28 → r ≡ secondOf a) ⌝ }
+{
+    if kind == 27 {
+        return first(a);
+    }
+    second(a)
+}
+
+// The values of the binders around, and one more.
+fn pushed(env: &[u32; 80], depth: usize, a: Value) -> [u32; 80]
+    requires { ⌜ depth < maxBinders ⌝ }
+    ensures { λ r. ⌜ Pushed (now (env .entry)) r depth a ⌝ }
+{
+    let mut more = *env;
+    env_put(&mut more, depth, a);
+    more
+}
+
+pub fn eval(
+    rows: &[u32; 1024],
+    state: &mut [u32; 4096],
+    row: usize,
+    env: &[u32; 80],
+    depth: usize,
+) -> Value
+    requires { ⌜ Fine (now rows) row depth ⌝ }
+    ensures { λ r. ⌜ EvalOk (now (rows .entry)) (now (state .entry)) (now (state .exit)) row (now (env .entry)) depth r ⌝ }
+{
+    let kind = get(rows, row, 0);
+    match kind {
+        20..=23 => constant(rows, row, env, depth, kind),
+        24 => {
+            let x = eval(rows, state, operand(rows, row, 2), env, depth);
+            let y = eval(rows, state, operand(rows, row, 3), env, depth);
+            apply(get(rows, row, 1), x, y)
+        }
+        25 => {
+            let test = eval(rows, state, operand(rows, row, 1), env, depth);
+            if is_true(test) {
+                return eval(rows, state, operand(rows, row, 2), env, depth);
+            }
+            eval(rows, state, operand(rows, row, 3), env, depth)
+        }
+        26 => {
+            let a = eval(rows, state, operand(rows, row, 1), env, depth);
+            let b = eval(rows, state, operand(rows, row, 2), env, depth);
+            pair(a, b)
+        }
+        27..=28 => {
+            let whole = eval(rows, state, operand(rows, row, 1), env, depth);
+            part(whole, kind)
+        }
+        29 => read_value(state, operand(rows, row, 1)),
+        30 => {
+            let content = eval(rows, state, operand(rows, row, 2), env, depth);
+            put_value(state, operand(rows, row, 1), OWN, content);
+            unit()
+        }
+        31 => {
+            let bound = eval(rows, state, operand(rows, row, 1), env, depth);
+            if MAX_BINDERS <= depth {
+                return unit();
+            }
+            let inner = pushed(env, depth, bound);
+            eval(rows, state, operand(rows, row, 2), &inner, depth + 1)
+        }
+        _ => unit(),
+    }
+}

@@ -1,0 +1,13 @@
+-- `tasks::bind` meets its contract: no room, or one more binder. Assumes nothing.
+use Rattle.tasks.proofs.Handed.{bound-push}
+use borrow.Author.Needs.{needs}
+use Rattle.tasks.proofs.bind.Statement.{statement}
+use Rattle.tasks.proofs.bind.Tie as tie
+
+pub bind-spec : {M : Type 1} → statement M
+bind-spec = tie.close (tie.spec
+    (λ c. search needs)
+    (λ c κs. search needs)
+    (λ c κs. search needs)
+    (λ c. search needs)
+    (λ c. bound-push (c .before .before .before .if1 .left) (c .before .before .read-value .ensures) (c .env-put .ensures)))
