@@ -1,0 +1,9 @@
+pub mod Fronts
+pub mod Texts
+pub mod Writing
+pub mod Arms
+pub mod Contents
+pub mod Going
+pub mod Marking
+pub mod Bounds
+pub mod Asking

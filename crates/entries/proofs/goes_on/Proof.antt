@@ -1,0 +1,17 @@
+-- `entries::goes_on` meets its contract, a way by its law. Assumes nothing.
+use mathlib.Core.Path.{refl}
+use native.Mathlib.Omega.{arith}
+use borrow.Author.Needs.{needs}
+use Rattle.state.proofs.Calls.{low-a, fine-at}
+use borrow.Author.Tests.{not-true, not-false}
+use Rattle.entries.proofs.Going.{goes-none, goes-tried}
+use Rattle.entries.proofs.goes_on.Statement.{statement}
+use Rattle.entries.proofs.goes_on.Tie as tie
+
+pub goes-on-spec : {M : Type 1} → statement M
+goes-on-spec = tie.close (tie.spec
+    (λ c κs. search needs)
+    (λ c κs. let s = c .before in let l = low-a (s .pre .0) _ (c .operand .result) refl (c .operand .ensures) (s .pre .1) in fine-at (s .pre .0) (c .operand .result) 0 (omega arith) (omega arith))
+    (λ c. let s = c .before .before .before .before in goes-none (s .args .rows .now) (s .args .state .now) (s .args .row) (s .args .env .now) (s .args .depth) (c .before .before .before .operand .result) (c .before .before .before .operand .ensures) (c .before .before .value .result) (c .before .before .value .ensures) (not-true _ (c .if1 .taken)))
+    (λ c κs. search needs)
+    (λ c. let s = c .before .before .before .before .before .before .before in goes-tried (s .args .rows .now) (s .args .state .now) (s .args .row) (s .args .env .now) (s .args .depth) (c .before .before .before .before .before .before .operand .result) (c .before .before .before .before .before .before .operand .ensures) (c .before .before .before .before .before .value .result) (c .before .before .before .before .before .value .ensures) (c .attempt .last .1 .0) (c .attempt .result) (not-false _ (c .before .before .before .if1 .left)) (c .attempt .ensures)))

@@ -1,0 +1,183 @@
+// The entries that a task shows, written as bytes one after another into the list that is lent (01, "Touches and what is shown").
+// Rests on crate decimal for fields, on crate cycle for what a button would do, and on crate tasks for rows that hand on.
+use cycle::attempt;
+use cycle::tried;
+use decimal::field;
+use decimal::path;
+use shape::leaf_kinds;
+use state::get;
+use state::operand;
+use state::read;
+use tasks::enclose;
+use tasks::handed_on;
+use tasks::value;
+use typing::row_type;
+ghost use mathlib.Core.Path.{_≡_};
+ghost use mathlib.Core.Bool.{cond};
+ghost use mathlib.Core.List.{List, []};
+ghost use Prim.Native.Nat.{ℕ, _<_, _≤_};
+ghost use lib.ListN.{length};
+ghost use Rattle.decimal.specs.Path.{maxMarks, pathOf};
+ghost use Rattle.rows.specs.Rows.{word};
+ghost use Rattle.state.specs.Contracts.{Fine};
+ghost use Rattle.tasks.proofs.Forms.{Unhanded};
+ghost use Rattle.entries.specs.Entries.{noKinds, numbersText};
+ghost use Rattle.entries.specs.Listing.{Wrote, AtPath, OneDigit, ContentOk, GoesOnOk, EntriesOk};
+
+// 01: "A list entry is 27 bytes"
+const ENTRY_BYTES: usize = 27;
+
+// The action's numbers.
+const GIVE: u32 = 1;
+
+const CONTINUE: u32 = 2;
+
+const LEFT: u32 = 3;
+
+const RIGHT: u32 = 4;
+
+// What one mark more would add to a path of 16 marks.
+const MOST_UNIT: u32 = 65536;
+
+// The byte that ends an entry.
+const END: u8 = 10;
+
+// An entry at the front of the list, where there is room for it; how many bytes were written.
+fn write_entry(list: &mut [u8], marks: u32, action: u32, kinds: [u32; 4]) -> usize
+    requires { ⌜ (length (pathOf marks) ≤ maxMarks) × (action < 10) × OneDigit kinds ⌝ }
+    ensures { λ r. ⌜ Wrote (now (list .entry)) (now (list .exit)) r (numbersText (pathOf marks) action kinds) ⌝ }
+{
+    if list.len() < ENTRY_BYTES {
+        return 0;
+    }
+    path::write(list, 0, marks);
+    field::write(list, 16, 2, action);
+    field::write(list, 18, 2, kinds[0]);
+    field::write(list, 20, 2, kinds[1]);
+    field::write(list, 22, 2, kinds[2]);
+    field::write(list, 24, 2, kinds[3]);
+    list[26] = END;
+    ENTRY_BYTES
+}
+
+// The entry of a button, where it is lit.
+fn button(list: &mut [u8], marks: u32, action: u32, lit: bool) -> usize
+    requires { ⌜ (length (pathOf marks) ≤ maxMarks) × (action < 10) ⌝ }
+    ensures { λ r. ⌜ Wrote (now (list .entry)) (now (list .exit)) r (cond lit (numbersText (pathOf marks) action noKinds) []) ⌝ }
+{
+    if !lit {
+        return 0;
+    }
+    let none = [0u32; 4];
+    write_entry(list, marks, action, none)
+}
+
+// The shape of what the editor at the row offers: of its content, of its type row, or of its cell's content.
+fn content(rows: &[u32; 1024], state: &[u32; 4096], row: usize) -> u32
+    requires { ⌜ Fine (now rows) row 0 × (40 ≤ word (now rows) row 0) × (word (now rows) row 0 ≤ 42) ⌝ }
+    ensures { λ r. ⌜ ContentOk (now (rows .entry)) (now (state .entry)) row r ⌝ }
+{
+    let kind = get(rows, row, 0);
+    let a = operand(rows, row, 1);
+    match kind {
+        40 => read(state, row, 1),
+        41 => {
+            let none = [0u32; 16];
+            row_type(rows, a, none, 0)
+        }
+        _ => read(state, a, 1),
+    }
+}
+
+// The entry of the editor at the row.
+fn offer(rows: &[u32; 1024], state: &[u32; 4096], row: usize, marks: u32, list: &mut [u8]) -> usize
+    requires { ⌜ Fine (now rows) row 0 × (40 ≤ word (now rows) row 0) × (word (now rows) row 0 ≤ 42) × (length (pathOf marks) ≤ maxMarks) ⌝ }
+    ensures { λ r. ⌜ (r ≤ length (now (list .entry))) × ((env : List ℕ) (d : ℕ) → EntriesOk (now (rows .entry)) (now (state .entry)) row env d (pathOf marks) (now (list .entry)) (now (list .exit)) r) ⌝ }
+{
+    let shape = content(rows, state, row);
+    write_entry(list, marks, GIVE, leaf_kinds(shape))
+}
+
+// Whether the step at the row shows Continue: A has a value, and B, tried under it in a copy of the state, does not fail.
+fn goes_on(
+    rows: &[u32; 1024],
+    state: &[u32; 4096],
+    row: usize,
+    env: &[u32; 80],
+    depth: usize,
+) -> bool
+    requires { ⌜ Fine (now rows) row depth × (25 ≤ word (now rows) row 0) ⌝ }
+    ensures { λ r. ⌜ GoesOnOk (now (rows .entry)) (now (state .entry)) row (now (env .entry)) depth r ⌝ }
+{
+    let found = value(rows, state, operand(rows, row, 1));
+    if !found.has {
+        return false;
+    }
+    let mut work = *state;
+    attempt(rows, &mut work, row, env, depth, found.value)
+}
+
+// A choice of kind 48 not yet made: Left and Right, each where that branch, settled in a copy of the state, does not fail.
+fn choice(
+    rows: &[u32; 1024],
+    state: &[u32; 4096],
+    row: usize,
+    env: &[u32; 80],
+    depth: usize,
+    marks: u32,
+    list: &mut [u8],
+) -> usize
+    requires { ⌜ Fine (now rows) row depth × (word (now rows) row 0 ≡ 48) × Unhanded (now rows) (now state) row × (length (pathOf marks) ≤ maxMarks) ⌝ }
+    ensures { λ r. ⌜ (r ≤ length (now (list .entry))) × EntriesOk (now (rows .entry)) (now (state .entry)) row (now (env .entry)) depth (pathOf marks) (now (list .entry)) (now (list .exit)) r ⌝ }
+{
+    let left = tried(rows, state, operand(rows, row, 1), env, depth);
+    let right = tried(rows, state, operand(rows, row, 2), env, depth);
+    let n = button(list, marks, LEFT, !left);
+    n + button(&mut list[n..], marks, RIGHT, !right)
+}
+
+// The entries of the task at the row, each with the path of these marks in front, from the front of the list on; how many bytes they
+// are. What one mark more adds to the path is `unit`.
+pub fn entries(
+    rows: &[u32; 1024],
+    state: &[u32; 4096],
+    row: usize,
+    env: &[u32; 80],
+    depth: usize,
+    marks: u32,
+    unit: u32,
+    list: &mut [u8],
+) -> usize
+    requires { ⌜ Fine (now rows) row depth × AtPath marks unit ⌝ }
+    ensures { λ r. ⌜ (r ≤ length (now (list .entry))) × EntriesOk (now (rows .entry)) (now (state .entry)) row (now (env .entry)) depth (pathOf marks) (now (list .entry)) (now (list .exit)) r ⌝ }
+{
+    let part = handed_on(rows, state, row);
+    if part != 0 {
+        let mut inner = *env;
+        let under = enclose(rows, state, row, &mut inner, depth);
+        let a = operand(rows, row, part);
+        return entries(rows, state, a, &inner, under, marks, unit, list);
+    }
+    let kind = get(rows, row, 0);
+    let a = operand(rows, row, 1);
+    let b = operand(rows, row, 2);
+    match kind {
+        40..=42 => offer(rows, state, row, marks, list),
+        43 => entries(rows, state, a, env, depth, marks, unit, list),
+        44 => {
+            let n = entries(rows, state, a, env, depth, marks, unit, list);
+            let lit = goes_on(rows, state, row, env, depth);
+            n + button(&mut list[n..], marks, CONTINUE, lit)
+        }
+        46..=47 => {
+            if unit == MOST_UNIT {
+                return 0;
+            }
+            let two = 2 * unit;
+            let n = entries(rows, state, a, env, depth, marks + unit, two, list);
+            n + entries(rows, state, b, env, depth, marks + two, two, &mut list[n..])
+        }
+        48 => choice(rows, state, row, env, depth, marks, list),
+        _ => 0,
+    }
+}

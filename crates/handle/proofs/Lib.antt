@@ -1,0 +1,4 @@
+pub mod Numbers
+pub mod Editing
+pub mod Passing
+pub mod Choosing

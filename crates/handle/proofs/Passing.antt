@@ -1,0 +1,220 @@
+-- What is passed on to a part, kinds 43, 44, 46 and 47: the part takes the event or refuses it, and the rows beside it stay. A 44
+-- takes Continue itself where its left side has a value. Rests on Numbers, on the forms of rows and on the frames of crate state.
+use mathlib.Core.Path.{_≡_, refl, sym, ap, _∙_, subst}
+use mathlib.Core.Bool.{Bool, true, false}
+use mathlib.Core.Logic.{_⊎_, inr, ⊎-elim}
+use mathlib.Core.Option.{Option, none, some}
+use mathlib.Core.List.{List, [], _∷_}
+use Prim.Native.Nat.{ℕ, _≤_}
+use native.Mathlib.Decide.{ℕ-discrete}
+use native.Mathlib.Omega.{arith}
+use Rattle.decimal.specs.Path.{first, second, Path}
+use Rattle.decimal.proofs.PathNumbers.{path-0}
+use Rattle.tophat.specs.Syntax.{Code, then, next, and, or, Val, Env, Store}
+use Rattle.tophat.specs.Syntax.{TaskOf, before, after, both, either}
+use Rattle.tophat.specs.Normalising.{value}
+use Rattle.tophat.specs.Handling.{continue, left, right, Action, give, press}
+use Rattle.tophat.proofs.Basics.{no-some, some-is}
+use Rattle.tophat.proofs.ComputeEvaluation.{evaluate}
+use Rattle.tophat.proofs.ComputeNormalising.{failing}
+use Rattle.tophat.proofs.ComputeHandling.{mapTask, atMark, atContinue, unlessFailing, handle}
+use Rattle.tophat.proofs.Preservation.{option-is, value-type}
+use Rattle.rows.specs.Rows.{word, opA, opB}
+use Rattle.value.specs.declared.Found.{Found}
+use Rattle.value.specs.Values.{asValue, asFound}
+use Rattle.value.proofs.Operators.{differ}
+use Rattle.state.specs.Holds.{treeOf, Holds, Ran}
+use Rattle.state.specs.Contracts.{ValueOk, Handled, HandleOk}
+use Rattle.state.proofs.Frames.{same-weak, same-row, keeps, clear-kept, holds-kept, Kids, kids-then, kids-next, kids-and, kids-or}
+use Rattle.tasks.specs.Found.{nothing}
+use Rattle.tasks.proofs.Forms.{Unhanded, on-then-before, on-next-before, on-either, on-both}
+use Rattle.cycle.specs.Trying.{Attempted, AttemptOk}
+use Rattle.cycle.proofs.Asking.{two-kinds}
+use Rattle.cycle.proofs.Trying.{ran-next}
+use Rattle.handle.specs.declared.Event.{Event}
+use Rattle.handle.specs.Events.{continuing, eventPath, eventAction}
+use Rattle.handle.specs.Taking.{goingOn, GoingOk}
+use Rattle.handle.proofs.Numbers.{some-marks, is-continue, continue-is}
+
+-- ---- Continue at a step: what goes on, by the value that going_on finds
+
+module _ {X : Type 0} (F : Val → Option X) (G : Unit {0} → Option X) where
+  goes-none : (p : Path) (x : Action) (o : Option Val) → goingOn p x o ≡ none → atContinue p x o F G ≡ G tt
+  unfolding goingOn atContinue
+  goes-none [] (give ls) o e = refl
+  goes-none [] (press continue) none e = refl
+  goes-none [] (press continue) (some v) e = no-some (sym e)
+  goes-none [] (press left) o e = refl
+  goes-none [] (press right) o e = refl
+  goes-none (m ∷ p) x o e = refl
+
+  goes-some : (p : Path) (x : Action) (o : Option Val) (v : Val) → goingOn p x o ≡ some v → (atContinue p x o F G ≡ F v) × (o ≡ some v)
+  unfolding goingOn atContinue
+  goes-some [] (give ls) o v e = no-some e
+  goes-some [] (press continue) none v e = no-some e
+  goes-some [] (press continue) (some w) v e = (ap F (some-is e), e)
+  goes-some [] (press left) o v e = no-some e
+  goes-some [] (press right) o v e = no-some e
+  goes-some (m ∷ p) x o v e = no-some e
+
+found-none : {f : Found} (o : Option Val) → f ≡ asFound o → f .has ≡ false → o ≡ none
+unfolding asFound
+found-none none e n = refl
+found-none (some v) e n = differ (sym (ap (λ f. f .has) e) ∙ n)
+
+found-some : {f : Found} (o : Option Val) → f ≡ asFound o → f .has ≡ true → (v : Val) × (o ≡ some v) × (f .value ≡ asValue v)
+unfolding asFound
+found-some none e n = differ (sym n ∙ ap (λ f. f .has) e)
+found-some (some v) e n = (v, refl, ap (λ f. f .value) e)
+
+-- going_on, way by way
+module _ (rs ws : List ℕ) (i : ℕ) (e : Event) where
+  pub going-none : (e .path ≡ 0 → e .action ≡ continuing → ⊥) → GoingOk rs ws i e nothing
+  unfolding goingOn asFound
+  going-none h d c z Σ Γ τ s t y st gs gb g w = by (ℕ-discrete (e .path) 0)
+    where
+      at-end : e .path ≡ 0 → (x : Action) → eventAction e ≡ x → nothing ≡ asFound (goingOn (eventPath e) (eventAction e) (value c t s))
+      at-end p (give ls) q = rw (path-0 (e .path) p, q)
+      at-end p (press continue) q = absurd (h p (continue-is (e .action) (e .leaves) q))
+      at-end p (press left) q = rw (path-0 (e .path) p, q)
+      at-end p (press right) q = rw (path-0 (e .path) p, q)
+
+      by : Dec (e .path ≡ 0) → nothing ≡ asFound (goingOn (eventPath e) (eventAction e) (value c t s))
+      by (yes p) = at-end p (eventAction e) refl
+      by (no n) = rw (some-marks (e .path) n)
+
+  pub going-value : (r : Found) → (e .path ≡ 0) × (e .action ≡ continuing) → ValueOk rs ws i r → GoingOk rs ws i e r
+  unfolding goingOn
+  going-value r (p, h) f d c z Σ Γ τ s t y st gs gb g w =
+      f d c z Σ Γ τ s t y st gs gb g w ∙ ap asFound (sym (rw (path-0 (e .path) p, is-continue (e .action) (e .leaves) (λ k. omega arith) h)))
+
+-- ---- the arms
+
+module _ (rs ws ws₁ : List ℕ) (i : ℕ) (env : List ℕ) (d : ℕ) (r : Bool) where
+  -- the part's answer, wrapped
+  mapped : (j : ℕ) (a c : Code) (K : TaskOf a → TaskOf c) (o : Option (TaskOf a × Store)) → ((t : TaskOf a) (s : Store) → Ran rs ws ws₁ j a t s → Ran rs ws ws₁ i c (K t) s)
+      → Handled rs ws ws₁ j env d a r o → Handled rs ws ws₁ i env d c r (mapTask K o)
+  unfolding mapTask
+  mapped j a c K none f h = h
+  mapped j a c K (some q) f h = (h .0, f (q .0) (q .1) (h .1))
+
+  -- 43 and 44 before: the row and B's rows stay where A's change
+  step-on : (a b : Code) (t u : TaskOf a) (s : Store) → Kids rs i 1 (treeOf a) 2 (treeOf b) → Holds rs ws i (then a b) (before t) → Ran rs ws ws₁ (opA rs i) a u s → Ran rs ws ws₁ i (then a b) (before u) s
+  step-on a b t u s k h q =
+      record { holds = (same-row (q .same) (k .iA) (h .0), q .holds, clear-kept (h .2) (keeps (k .aB) (q .same))); stores = q .stores; same = same-weak (k .upA) (q .same) }
+
+  -- 46 and 47: the row and the other part's rows stay
+  left-on : (a b : Code) (t t₁ : TaskOf a) (u : TaskOf b) (s : Store) → Kids rs i 1 (treeOf a) 2 (treeOf b) → Holds rs ws i (and a b) (both t u) → Ran rs ws ws₁ (opA rs i) a t₁ s → Ran rs ws ws₁ i (and a b) (both t₁ u) s
+  left-on a b t t₁ u s k h q = record {
+    holds = (same-row (q .same) (k .iA) (h .0), q .holds, holds-kept rs ws ws₁ (opB rs i) b u (h .2) (keeps (k .aB) (q .same)));
+    stores = q .stores;
+    same = same-weak (k .upA) (q .same);
+  }
+
+  right-on : (a b : Code) (t : TaskOf a) (u u₁ : TaskOf b) (s : Store) → Kids rs i 1 (treeOf a) 2 (treeOf b) → Holds rs ws i (and a b) (both t u) → Ran rs ws ws₁ (opB rs i) b u₁ s → Ran rs ws ws₁ i (and a b) (both t u₁) s
+  right-on a b t u u₁ s k h q = record {
+    holds = (same-row (q .same) (k .iB) (h .0), holds-kept rs ws ws₁ (opA rs i) a t (h .1) (keeps (k .bA) (q .same)), q .holds);
+    stores = q .stores;
+    same = same-weak (k .upB) (q .same);
+  }
+
+  -- 43
+  pub handle-then : (a : ℕ) (p : Path) (x : Action) → Unhanded rs ws i → word rs i 0 ≡ 43 → a ≡ opA rs i → HandleOk rs ws ws₁ a env d p x r → HandleOk rs ws ws₁ i env d p x r
+  unfolding handle
+  handle-then a p x z q e h c k Σ Γ τ s ρ t y w g =
+      let f = subst (λ a. HandleOk rs ws ws₁ a env d p x r) e h in
+      on-then-before rs ws d i Σ Γ (λ c t τ. Handled rs ws ws₁ i env d c r (handle c ρ s t p x)) z q
+      (λ a b t σ υ k g y n. mapped (opA rs i) a (then a b) before (handle a ρ s t p x) (λ u s m. step-on a b t u s (kids-then rs d i a b k) g m) (f a (k .1) Σ Γ σ s ρ t y w (g .1))) c k τ t y g
+
+  module _ (e : Event) (a : ℕ) (f : Found) (z : Unhanded rs ws i) (q : word rs i 0 ≡ 44) (ea : a ≡ opA rs i) (hg : GoingOk rs ws a e f) where
+    going : GoingOk rs ws (opA rs i) e f
+    going = subst (λ a. GoingOk rs ws a e f) ea hg
+
+    -- a 44 before, at Continue with a value v, and at any other event
+    abbrev onward : (a b : Code) → Env → Store → Val → Option (TaskOf (next a b) × Store)
+    onward a b ρ s v =
+        unlessFailing (failing b (v ∷ ρ) (evaluate b (v ∷ ρ) s .1) (evaluate b (v ∷ ρ) s .0)) (after v) (evaluate b (v ∷ ρ) s .0) (evaluate b (v ∷ ρ) s .1)
+
+    abbrev within : (a b : Code) → Env → Store → TaskOf a → Unit {0} → Option (TaskOf (next a b) × Store)
+    within a b ρ s t u = mapTask before (handle a ρ s t (eventPath e) (eventAction e))
+
+    -- 44: what does not go on is passed on
+    pub handle-next : f .has ≡ false → HandleOk rs ws ws₁ a env d (eventPath e) (eventAction e) r → HandleOk rs ws ws₁ i env d (eventPath e) (eventAction e) r
+    unfolding handle
+    handle-next n h c k Σ Γ τ s ρ t y w g =
+        let l = subst (λ a. HandleOk rs ws ws₁ a env d (eventPath e) (eventAction e) r) ea h in
+        on-next-before rs ws d i Σ Γ (λ c t τ. Handled rs ws ws₁ i env d c r (handle c ρ s t (eventPath e) (eventAction e))) z q
+        (λ a b t σ υ k g y x.
+        let o = found-none _ (going d a (k .1) Σ Γ σ s t y (w .storeTyped) (w .storeSmall) (w .bindersSmall) (g .1) (w .stores)) n in
+        subst (Handled rs ws ws₁ i env d (next a b) r) (sym (goes-none (onward a b ρ s) (within a b ρ s t) (eventPath e) (eventAction e) (value a t s) o))
+        (mapped (opA rs i) a (next a b) before (handle a ρ s t (eventPath e) (eventAction e)) (λ u s m. let o = step-on a b t u s (kids-next rs d i a b k) g m in record { holds = o .holds; stores = o .stores; same = o .same }) (l a (k .1) Σ Γ σ s ρ t y w (g .1))))
+        c k τ t y g
+
+    -- what goes on is tried
+    attempted : (a b : Code) (v : Val) (u : TaskOf b) (s : Store) (x : Bool) → Attempted rs ws ws₁ i env d r a b v (u, s) x → Handled rs ws ws₁ i env d (next a b) r (unlessFailing x (after v) u s)
+    unfolding unlessFailing
+    attempted a b v u s true h = h
+    attempted a b v u s false h = (h .0, ran-next (h .1))
+
+    pub handle-continue : f .has ≡ true → AttemptOk rs ws ws₁ i env d (f .value) r → HandleOk rs ws ws₁ i env d (eventPath e) (eventAction e) r
+    unfolding handle
+    handle-continue n h c k Σ Γ τ s ρ t y w g =
+        on-next-before rs ws d i Σ Γ (λ c t τ. Handled rs ws ws₁ i env d c r (handle c ρ s t (eventPath e) (eventAction e))) z q
+        (λ a b t σ υ k g y x.
+        let (v, o, m) = found-some _ (going d a (k .1) Σ Γ σ s t y (w .storeTyped) (w .storeSmall) (w .bindersSmall) (g .1) (w .stores)) n in
+        let l = goes-some (onward a b ρ s) (within a b ρ s t) (eventPath e) (eventAction e) (value a t s) v o in
+        subst (Handled rs ws ws₁ i env d (next a b) r) (sym (l .0))
+        (attempted a b v (evaluate b (v ∷ ρ) s .0) (evaluate b (v ∷ ρ) s .1) (failing b (v ∷ ρ) (evaluate b (v ∷ ρ) s .1) (evaluate b (v ∷ ρ) s .0))
+        (h a b (inr k) Σ Γ σ υ s ρ t v m (option-is (value-type y (w .storeTyped)) (l .1)) y x w g)))
+        c k τ t y g
+
+  -- 46 and 47: the part that the mark names
+  module _ (p : Path) (x : Action) (z : Unhanded rs ws i) (lo : 46 ≤ word rs i 0) (hi : word rs i 0 ≤ 47) where
+    abbrev Taken : Env → Store → (c : Code) → TaskOf c → Type 0
+    Taken ρ s c t = Handled rs ws ws₁ i env d c r (handle c ρ s t p x)
+
+    pub handle-first : (a : ℕ) (m : Path) → a ≡ opA rs i → p ≡ first ∷ m → HandleOk rs ws ws₁ a env d m x r → HandleOk rs ws ws₁ i env d p x r
+    unfolding handle atMark
+    handle-first a m ea e h c k Σ Γ τ s ρ t y w g =
+        let f = subst (λ a. HandleOk rs ws ws₁ a env d m x r) ea h in
+        ⊎-elim
+        (λ q. on-both rs ws d i Σ Γ (λ c t τ. Taken ρ s c t) q
+        (λ a b t u σ υ k g y n l.
+        subst (λ p. Handled rs ws ws₁ i env d (and a b) r (handle (and a b) ρ s (both t u) p x)) (sym e)
+        (mapped (opA rs i) a (and a b) (λ t. both t u) (handle a ρ s t m x) (λ t₁ s q. left-on a b t t₁ u s (kids-and rs d i a b k) g q) (f a (k .1) Σ Γ σ s ρ t y w (g .1))))
+        c k τ t y g)
+        (λ q. on-either rs ws d i Σ Γ (λ c t τ. Taken ρ s c t) z q
+        (λ a b t u σ k g y n.
+        subst (λ p. Handled rs ws ws₁ i env d (or a b) r (handle (or a b) ρ s (either t u) p x)) (sym e)
+        (mapped (opA rs i) a (or a b) (λ t. either t u) (handle a ρ s t m x)
+        (λ t₁ s q. let o = left-on a b t t₁ u s (kids-or rs d i a b k) g q in record { holds = o .holds; stores = o .stores; same = o .same }) (f a (k .1) Σ Γ σ s ρ t y w (g .1))))
+        c k τ t y g)
+        (two-kinds 46 (word rs i 0) lo hi)
+
+    pub handle-second : (b : ℕ) (m : Path) → b ≡ opB rs i → p ≡ second ∷ m → HandleOk rs ws ws₁ b env d m x r → HandleOk rs ws ws₁ i env d p x r
+    unfolding handle atMark
+    handle-second b m eb e h c k Σ Γ τ s ρ t y w g =
+        let f = subst (λ b. HandleOk rs ws ws₁ b env d m x r) eb h in
+        ⊎-elim
+        (λ q. on-both rs ws d i Σ Γ (λ c t τ. Taken ρ s c t) q
+        (λ a b t u σ υ k g y n l.
+        subst (λ p. Handled rs ws ws₁ i env d (and a b) r (handle (and a b) ρ s (both t u) p x)) (sym e)
+        (mapped (opB rs i) b (and a b) (λ u. both t u) (handle b ρ s u m x) (λ u₁ s q. right-on a b t u u₁ s (kids-and rs d i a b k) g q) (f b (k .2) Σ Γ υ s ρ u n w (g .2))))
+        c k τ t y g)
+        (λ q. on-either rs ws d i Σ Γ (λ c t τ. Taken ρ s c t) z q
+        (λ a b t u σ k g y n.
+        subst (λ p. Handled rs ws ws₁ i env d (or a b) r (handle (or a b) ρ s (either t u) p x)) (sym e)
+        (mapped (opB rs i) b (or a b) (λ u. either t u) (handle b ρ s u m x)
+        (λ u₁ s q. let o = right-on a b t u u₁ s (kids-or rs d i a b k) g q in record { holds = o .holds; stores = o .stores; same = o .same }) (f b (k .2) Σ Γ σ s ρ u n w (g .2))))
+        c k τ t y g)
+        (two-kinds 46 (word rs i 0) lo hi)
+
+-- no mark: refused
+pub handle-unmarked : (rs ws : List ℕ) (i : ℕ) (env : List ℕ) (d : ℕ) (p : Path) (x : Action) → Unhanded rs ws i → 46 ≤ word rs i 0 → word rs i 0 ≤ 47 → p ≡ [] → HandleOk rs ws ws i env d p x false
+unfolding handle atMark
+handle-unmarked rs ws i env d p x z lo hi e c k Σ Γ τ s ρ t y w g = ⊎-elim
+    (λ q. on-both rs ws d i Σ Γ (λ c t τ. Handled rs ws ws i env d c false (handle c ρ s t p x)) q
+    (λ a b t u σ υ k g y n l. subst (λ p. Handled rs ws ws i env d (and a b) false (handle (and a b) ρ s (both t u) p x)) (sym e) (refl, refl)) c k τ t y g)
+    (λ q. on-either rs ws d i Σ Γ (λ c t τ. Handled rs ws ws i env d c false (handle c ρ s t p x)) z q
+    (λ a b t u σ k g y n. subst (λ p. Handled rs ws ws i env d (or a b) false (handle (or a b) ρ s (either t u) p x)) (sym e) (refl, refl)) c k τ t y g)
+    (two-kinds 46 (word rs i 0) lo hi)

@@ -1,0 +1,62 @@
+-- What the functions of this crate take of an event, and leave: an editor that gets a value, a value that a step goes
+-- on with, a side that is picked. Rests on Events and on crate state's terms.
+use mathlib.Core.Path.{_≡_}
+use mathlib.Core.Bool.{Bool, true, false}
+use mathlib.Core.Option.{Option, none, some}
+use mathlib.Core.List.{List, [], _∷_}
+use Prim.Native.Nat.{ℕ, _≤_}
+use Rattle.decimal.specs.Path.{Path}
+use Rattle.tophat.specs.Syntax.{maxLeaves, Ty, leaves, Code, Val, TaskOf, Env, Store}
+use Rattle.tophat.specs.Typing.{CodeType, TaskType, ValueTypes}
+use Rattle.tophat.specs.Normalising.{value}
+use Rattle.tophat.specs.Handling.{continue, left, right, Action, give, press}
+use Rattle.tophat.proofs.TypeLeaves.{AllSmall}
+use Rattle.tophat.proofs.ComputeNormalising.{failing, settle}
+use Rattle.tophat.proofs.ComputeHandling.{given, atEditor}
+use Rattle.shape.specs.Shape.{asShape}
+use Rattle.value.specs.declared.Found.{Found}
+use Rattle.value.specs.Values.{asFound}
+use Rattle.state.specs.Layout.{valueWords}
+use Rattle.state.specs.Holds.{treeOf, Sits, Clear, Holds, Stores, World, Ran}
+use Rattle.state.specs.Words.{Laid}
+use Rattle.handle.specs.declared.Event.{Event}
+use Rattle.handle.specs.Events.{eventPath, eventAction}
+
+-- ---- editors
+
+-- the value of the type that an event gives
+abbrev pub takenBy : Ty → Event → Option Val
+takenBy τ e = atEditor (eventPath e) (eventAction e) λ ls. given τ ls
+
+-- the value is laid at row i with the tag x; without one every word is as it was
+abbrev pub Filled : List ℕ → List ℕ → ℕ → ℕ → Bool → Option Val → Type 0
+Filled ws ws₁ i x r none = (r ≡ false) × (ws₁ ≡ ws)
+Filled ws ws₁ i x r (some v) = (r ≡ true) × Laid ws ws₁ i (x ∷ valueWords v)
+
+-- that of the type whose shape is c
+abbrev pub FillOk : List ℕ → List ℕ → ℕ → ℕ → ℕ → Event → Bool → Type 0
+FillOk ws ws₁ i x c e r = (τ : Ty) → leaves τ ≤ maxLeaves → c ≡ asShape τ → Filled ws ws₁ i x r (takenBy τ e)
+
+-- ---- steps: the value of the left side, where the event is Continue at the path's end
+
+unfoldable pub goingOn : Path → Action → Option Val → Option Val
+goingOn [] (give ls) o = none
+goingOn [] (press continue) o = o
+goingOn [] (press left) o = none
+goingOn [] (press right) o = none
+goingOn (m ∷ p) x o = none
+
+abbrev pub GoingOk : List ℕ → List ℕ → ℕ → Event → Found → Type 0
+GoingOk rs ws i e r = (d : ℕ) (c : Code) → Sits rs d i c → (Σ Γ : List Ty) (τ : Ty) (s : Store) (t : TaskOf c) → TaskType Σ Γ c t τ → ValueTypes s Σ → AllSmall Σ → AllSmall Γ
+    → Holds rs ws i c t → Stores rs ws s → r ≡ asFound (goingOn (eventPath e) (eventAction e) (value c t s))
+
+-- ---- choices: the side at row a, settled, is picked by the tag x of row i unless it fails
+
+module _ (rs ws ws₁ : List ℕ) (i a x : ℕ) (env : List ℕ) (d : ℕ) where
+  abbrev pub Picked : (c : Code) → Bool → TaskOf c → Store → Bool → Type 0
+  Picked c r t s true = (r ≡ false) × (ws₁ ≡ ws)
+  Picked c r t s false = (r ≡ true) × ((ws₂ : List ℕ) × Ran rs ws ws₂ a c t s × Laid ws₂ ws₁ i (x ∷ []))
+
+  abbrev pub PickOk : Bool → Type 0
+  PickOk r = (c : Code) → Sits rs d a c → (Σ Γ : List Ty) (τ : Ty) (s : Store) (ρ : Env) → CodeType Σ Γ c τ → World rs ws env d Σ Γ s ρ → Clear rs ws a (treeOf c)
+      → Picked c r (settle c ρ s .0) (settle c ρ s .1) (failing c ρ (settle c ρ s .1) (settle c ρ s .0))

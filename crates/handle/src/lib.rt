@@ -1,0 +1,220 @@
+// Handling an event: the task at a row takes it, and the words say what the task is then, or refuses it, and every word is as it
+// was. Work that may be given up is done in a copy of the state, in `side` here and in `attempt` of crate cycle. Rests on the crates
+// below for values, evaluation, normalising and rows that hand on; specs/Events says what an event is.
+use cycle::attempt;
+use cycle::settle;
+use decimal::path::Front;
+use decimal::path::front_mark;
+use state::ONE;
+use state::OTHER;
+use state::OWN;
+use state::get;
+use state::operand;
+use state::put_tag;
+use state::put_value;
+use state::read;
+use tasks::enclose;
+use tasks::handed_on;
+use tasks::value;
+use typing::row_type;
+use value::Found;
+use value::Value;
+use value::fits;
+ghost use mathlib.Core.Path.{_≡_};
+ghost use mathlib.Core.List.{List};
+ghost use Prim.Native.Nat.{ℕ, _<_, _≤_};
+ghost use Rattle.rows.specs.Rows.{maxRows, word};
+ghost use Rattle.state.specs.Contracts.{Fine, HandleOk};
+ghost use Rattle.tasks.specs.Found.{nothing};
+ghost use Rattle.tasks.proofs.Forms.{Unhanded};
+ghost use Rattle.handle.specs.Events.{Readable, eventPath, eventAction, Ends, passed};
+ghost use Rattle.handle.specs.Taking.{FillOk, GoingOk, PickOk};
+
+// An event: a path as one number (crate decimal), an action's number, and four leaves.
+pub struct Event {
+    pub path: u32,
+    pub action: u32,
+    pub leaves: [u32; 4],
+}
+
+// The action's numbers.
+const GIVE: u32 = 1;
+
+const CONTINUE: u32 = 2;
+
+const LEFT: u32 = 3;
+
+const RIGHT: u32 = 4;
+
+// Whether the event is this action at the path's end.
+fn ends(e: Event, action: u32) -> bool
+    ensures { λ r. ⌜ Ends e action r ⌝ }
+{
+    if e.path != 0 {
+        return false;
+    }
+    e.action == action
+}
+
+// The value that an event gives an editor of the shape, laid at the row.
+fn fill(state: &mut [u32; 4096], row: usize, tag: u32, shape: u32, e: Event) -> bool
+    requires { ⌜ row < maxRows ⌝ }
+    ensures { λ r. ⌜ FillOk (now (state .entry)) (now (state .exit)) row tag shape e r ⌝ }
+{
+    if !ends(e, GIVE) {
+        return false;
+    }
+    let leaves = e.leaves;
+    let v = Value {
+        shape: shape,
+        leaves: leaves,
+    };
+    if fits(v, shape) {
+        put_value(state, row, tag, v);
+        return true;
+    }
+    false
+}
+
+// An editor: its content's type is that of its row's value, of its type row, or of its cell.
+fn edit(rows: &[u32; 1024], state: &mut [u32; 4096], row: usize, e: Event) -> bool
+    requires { ⌜ Fine (now rows) row 0 × (40 ≤ word (now rows) row 0) × (word (now rows) row 0 ≤ 42) ⌝ }
+    ensures { λ r. ⌜ ((env : List ℕ) (d : ℕ) → HandleOk (now (rows .entry)) (now (state .entry)) (now (state .exit)) row env d (eventPath e) (eventAction e) r) ⌝ }
+{
+    let kind = get(rows, row, 0);
+    let a = operand(rows, row, 1);
+    match kind {
+        40 => {
+            let shape = read(state, row, 1);
+            return fill(state, row, OWN, shape, e);
+        }
+        41 => {
+            let none = [0u32; 16];
+            let shape = row_type(rows, a, none, 0);
+            return fill(state, row, ONE, shape, e);
+        }
+        _ => {
+            let shape = read(state, a, 1);
+            return fill(state, a, OWN, shape, e);
+        }
+    }
+}
+
+fn nothing() -> Found
+    ensures { λ r. ⌜ r ≡ nothing ⌝ }
+{
+    Found {
+        has: false,
+        value: Value {
+            shape: 0,
+            leaves: [0, 0, 0, 0],
+        },
+    }
+}
+
+// The value of the task at the row, if the event is Continue at the path's end.
+fn going_on(rows: &[u32; 1024], state: &[u32; 4096], row: usize, e: Event) -> Found
+    requires { ⌜ Fine (now rows) row 0 ⌝ }
+    ensures { λ r. ⌜ GoingOk (now (rows .entry)) (now (state .entry)) row e r ⌝ }
+{
+    if !ends(e, CONTINUE) {
+        return nothing();
+    }
+    value(rows, state, row)
+}
+
+// The side at row a of the choice at the row, settled in a copy of the state: unless it fails there, it is picked.
+fn side(
+    rows: &[u32; 1024],
+    state: &mut [u32; 4096],
+    row: usize,
+    a: usize,
+    tag: u32,
+    env: &[u32; 80],
+    depth: usize,
+) -> bool
+    requires { ⌜ (row < maxRows) × Fine (now rows) a depth ⌝ }
+    ensures { λ r. ⌜ PickOk (now (rows .entry)) (now (state .entry)) (now (state .exit)) row a tag (now (env .entry)) depth r ⌝ }
+{
+    let mut work = *state;
+    if settle(rows, &mut work, a, env, depth) {
+        return false;
+    }
+    put_tag(&mut work, row, tag);
+    *state = work;
+    true
+}
+
+// A choice of kind 48 not yet made.
+fn pick(
+    rows: &[u32; 1024],
+    state: &mut [u32; 4096],
+    row: usize,
+    env: &[u32; 80],
+    depth: usize,
+    e: Event,
+) -> bool
+    requires { ⌜ Fine (now rows) row depth × (word (now rows) row 0 ≡ 48) × Unhanded (now rows) (now state) row × Readable e ⌝ }
+    ensures { λ r. ⌜ HandleOk (now (rows .entry)) (now (state .entry)) (now (state .exit)) row (now (env .entry)) depth (eventPath e) (eventAction e) r ⌝ }
+{
+    if ends(e, LEFT) {
+        return side(rows, state, row, operand(rows, row, 1), ONE, env, depth);
+    }
+    if ends(e, RIGHT) {
+        return side(rows, state, row, operand(rows, row, 2), OTHER, env, depth);
+    }
+    false
+}
+
+// The event past a mark.
+fn inside(e: Event, path: u32) -> Event
+    ensures { λ r. ⌜ r ≡ passed e path ⌝ }
+{
+    let mut f = e;
+    f.path = path;
+    f
+}
+
+// Whether the task at the row takes the event.
+pub fn handle(
+    rows: &[u32; 1024],
+    state: &mut [u32; 4096],
+    row: usize,
+    env: &[u32; 80],
+    depth: usize,
+    e: Event,
+) -> bool
+    requires { ⌜ Fine (now rows) row depth × Readable e ⌝ }
+    ensures { λ r. ⌜ HandleOk (now (rows .entry)) (now (state .entry)) (now (state .exit)) row (now (env .entry)) depth (eventPath e) (eventAction e) r ⌝ }
+{
+    let part = handed_on(rows, state, row);
+    if part != 0 {
+        let mut inner = *env;
+        let under = enclose(rows, state, row, &mut inner, depth);
+        return handle(rows, state, operand(rows, row, part), &inner, under, e);
+    }
+    let kind = get(rows, row, 0);
+    let a = operand(rows, row, 1);
+    match kind {
+        40..=42 => edit(rows, state, row, e),
+        43 => handle(rows, state, a, env, depth, e),
+        44 => {
+            let found = going_on(rows, state, a, e);
+            if found.has {
+                return attempt(rows, state, row, env, depth, found.value);
+            }
+            handle(rows, state, a, env, depth, e)
+        }
+        46..=47 => {
+            let b = operand(rows, row, 2);
+            let front = front_mark(e.path);
+            match front {
+                Front::Empty => false,
+                Front::First(rest) => handle(rows, state, a, env, depth, inside(e, rest)),
+                Front::Second(rest) => handle(rows, state, b, env, depth, inside(e, rest)),
+            }
+        }
+        48 => pick(rows, state, row, env, depth, e),
+        _ => false,
+    }
+}
