@@ -1,0 +1,39 @@
+-- THE MAIN THEOREM (01, "Four lines on the contracts", 3): every list of look and handle calls on every accepted flow.
+--
+-- Take any rows that an accepted sheet loads to; their last row is a code c, their cells have the types Σ, and typing gives the
+-- code the type τ. Take the state that start leaves in any memory, or any rest of the flow at all, whether start can reach it
+-- or not. Make any list of calls of look and handle, each lent whatever event bytes, value memory and list memory it may be. Then
+-- (`Stands`, specs/Touches):
+--
+-- - the state words are the writing of a task of type τ and of a store of the cells' types, and of no other; normalising does not
+--   change them;
+-- - look answers 21 where its value memory is not 4 words, else 24 where its list memory is under 27 bytes an entry, else 0; then
+--   it hands back the bytes of the entries that the rules give this task, 27 each, with the failing flag that the rules decide,
+--   and the task's value;
+-- - handle answers 8 to an event that cannot be read; to a readable one 9 exactly when no handling rule derives a step, and 0
+--   exactly when one does. Then the state left is the writing of the normal form that handling and normalising derive, and the
+--   strides are the number that they derive, at most 1 more than the rows of kind 43 and 47;
+-- - a readable event is accepted exactly when an entry of the list shown covers it, and no two entries cover one event;
+-- - the list shown is empty exactly when the rules say that the task fails.
+--
+-- What start, look and handle answer is what their definitions in specs/Calls give, with which the code's contracts are to be
+-- equations; nothing else here speaks of the engine: the rules are tophat's relations. That start of an accepted flow answers 0,
+-- and with which task, store and strides, is `starts` in Starting; that every accepted sheet loads to such a flow, of one code and
+-- one type, is in Flows. Rests on Standing and Starting.
+use mathlib.Core.Logic.{_⊎_, ⊎-elim}
+use mathlib.Core.List.{List, [], _∷_}
+use lib.IntN.{ℤ}
+use Rattle.tophat.specs.Syntax.{Ty, Code}
+use Rattle.flow.specs.Touches.{Call, run, Accepted, IsRest, Started, Stands}
+use Rattle.flow.proofs.Standing.{stands, call-rest}
+use Rattle.flow.proofs.Starting.{started-is-rest}
+
+module _ {rows : List ℤ} {c : Code} {Σ : List Ty} {τ : Ty} (a : Accepted rows c Σ τ) where
+  -- a list of calls leaves a rest
+  pub run-rest : {ws : List ℤ} → IsRest rows ws c Σ τ → (ks : List Call) → IsRest rows (run rows ws ks) c Σ τ
+  unfolding run
+  run-rest r [] = r
+  run-rest r (k ∷ ks) = run-rest (call-rest a r k) ks
+
+  pub every-run : {ws : List ℤ} → Started rows ws ⊎ IsRest rows ws c Σ τ → (ks : List Call) → Stands rows (run rows ws ks) c Σ τ
+  every-run h ks = stands a (run-rest (⊎-elim (started-is-rest a) (λ r. r) h) ks)

@@ -1,0 +1,31 @@
+-- Every accepted sheet loads to an accepted flow, of one code, one list of cells' types and one type: so what is said of accepted
+-- flows is said of whatever passes ground 20. Rests on Opening, sheet's theorem of ground 20 and rows' one-flow.
+use mathlib.Core.Path.{_≡_}
+use mathlib.Core.Bool.{true}
+use mathlib.Core.Logic.{_↔_}
+use mathlib.Core.List.{List}
+use lib.IntN.{ℤ}
+use Rattle.word.specs.Word.{AllWords}
+use Rattle.tophat.specs.Syntax.{Ty, Code}
+use Rattle.rows.proofs.Accepted.{accepted}
+use Rattle.rows.proofs.GroundZero.{SameFlow, one-flow}
+use Rattle.sheet.specs.Accepted.{Loads, rowCount, acceptsRows}
+use Rattle.sheet.proofs.AcceptedRows.{accepted-exactly}
+use Rattle.flow.specs.Calls.{bits}
+use Rattle.flow.specs.Touches.{Accepted}
+use Rattle.flow.proofs.Opening.{all-words, sized-of, accepts}
+
+-- the rows that an accepted sheet loads to are an accepted flow
+pub flow-of : {rows : List ℤ} → Loads rows → (c : Code) × (Σ : List Ty) × (τ : Ty) × Accepted rows c Σ τ
+flow-of {rows} l =
+    let z = sized-of rows (accepted-exactly rows (all-words l) .0 l) in
+    let f = accepted (bits rows) (rowCount rows) (z .some) (z .ground) in
+    (f .code, f .cells, f .type, record { loads = l; first = f .store; flow = f .flow })
+
+-- of one code, list of cells' types, first store and type
+pub flow-one : {rows : List ℤ} {c c₁ : Code} {Σ Σ₁ : List Ty} {τ τ₁ : Ty} (a : Accepted rows c Σ τ) (b : Accepted rows c₁ Σ₁ τ₁) → SameFlow c c₁ Σ Σ₁ (a .first) (b .first) τ τ₁
+flow-one a b = one-flow (a .flow) (b .flow)
+
+-- rows memory passes ground 20 exactly when it is an accepted flow
+pub ground-twenty : (rows : List ℤ) → AllWords rows → (acceptsRows rows ≡ true) ↔ ((c : Code) × (Σ : List Ty) × (τ : Ty) × Accepted rows c Σ τ)
+ground-twenty rows w = ((λ e. flow-of (accepted-exactly rows w .1 e)), (λ (c, Σ, τ, a). accepts a))

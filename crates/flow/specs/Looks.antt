@@ -1,0 +1,35 @@
+-- What the functions below `look` leave: number, flags, the part's length, value memory and list memory, as the definition has
+-- them. Rests on Calls and Opens.
+use mathlib.Core.Path.{_≡_}
+use mathlib.Core.List.{List}
+use Prim.Native.Nat.{ℕ, _≤_}
+use lib.IntN.{ℤ}
+use lib.ListN.{length}
+use Rattle.tophat.specs.Syntax.{maxLeaves, Code, TaskOf, Store}
+use Rattle.tophat.proofs.EntriesBound.{taskRows}
+use Rattle.rows.specs.Rows.{maxRows}
+use Rattle.rows.proofs.Binders.{MarksFit}
+use Rattle.flow.specs.declared.look.Looked.{Looked}
+use Rattle.flow.specs.Calls as calls
+use Rattle.flow.specs.Opens.{Ready}
+
+pub record Shown (a : calls.Looked) (r : Looked) (vs : List ℤ) (bs : List ℕ) : Type 0 where
+  pub number : r .number ≡ a .number
+  pub hasValue : r .valued ≡ a .hasValue
+  pub fails : r .fails ≡ a .fails
+  pub bytes : r .bytes ≡ length (a .part)
+  pub value : vs ≡ a .value
+  pub list : bs ≡ a .list
+
+-- what is shown of a rest that is opened
+abbrev pub ShowOk : List ℕ → List ℕ → ℕ → List ℤ → List ℕ → Looked → List ℤ → List ℕ → Type 0
+ShowOk own words n vs list r vs₁ list₁ = (rows ws : List ℤ) (c : Code) (t : TaskOf c) (s : Store) → Ready rows ws own words n c t s → MarksFit 0 c → taskRows c ≤ maxRows → length vs ≡ maxLeaves
+    → Shown (calls.lookIn vs list (calls.ready c t s)) r vs₁ list₁
+
+-- what `look` answers: the part that it hands back, number and flags, and the value memory at exit
+pub record LookOk (a : calls.Looked) (part : List ℕ) (number valued fails : ℕ) (vs : List ℤ) : Type 0 where
+  pub part-is : part ≡ a .part
+  pub number-is : number ≡ a .number
+  pub valued-is : valued ≡ a .hasValue
+  pub fails-is : fails ≡ a .fails
+  pub value-is : vs ≡ a .value

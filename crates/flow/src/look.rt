@@ -1,0 +1,128 @@
+// The call look (01, "Four calls"): what a rest shows, in lent memory. Rests on `open`, and on crates tasks, cycle and entries.
+use super::open::open;
+use cycle::failing;
+use entries::entries;
+use value::Value;
+use word::copy_out;
+ghost use mathlib.Core.Path.{_≡_};
+ghost use mathlib.Core.List.{_++_};
+ghost use Prim.Native.Nat.{_-_, _≤_};
+ghost use lib.ListN.{length, take, drop};
+ghost use mir.Syntax.{w32};
+ghost use mir.Val.{toZ};
+ghost use Rattle.word.specs.Laid.{laid};
+ghost use Rattle.tophat.specs.Syntax.{maxLeaves};
+ghost use Rattle.state.specs.Contracts.{Fine};
+ghost use Rattle.flow.specs.Calls.{flag, lookCall};
+ghost use Rattle.flow.specs.Looks.{Shown, ShowOk, LookOk};
+
+// 0 or the ground, the flags, and how many bytes the part has.
+pub struct Looked {
+    pub number: u32,
+    pub valued: u32,
+    pub fails: u32,
+    pub bytes: usize,
+}
+
+fn flag(b: bool) -> u32
+    ensures { λ r. ⌜ r ≡ flag b ⌝ }
+{
+    if b {
+        return 1;
+    }
+    0
+}
+
+// The first n bytes, over the front of the list.
+fn put_bytes(from: &[u8], n: usize, list: &mut [u8])
+    requires { ⌜ (n ≤ length (now from)) × (n ≤ length (now list)) ⌝ }
+    ensures { λ _. ⌜ now (list .exit) ≡ take n (now (from .entry)) ++ drop n (now (list .entry)) ⌝ }
+{
+    for i in 0..n {
+        list[i] = from[i];
+    }
+}
+
+// The leaves' numbers, over the front of the lent words.
+fn value_out(v: Value, lent: &mut [i32])
+    ensures { λ _. ⌜ now (lent .exit) ≡ laid (toZ w32) (v .leaves) (now (lent .entry)) ⌝ }
+    ensures { λ _. ⌜ length (v .leaves) ≡ maxLeaves ⌝ }
+{
+    let leaves = v.leaves;
+    copy_out(&leaves, lent);
+}
+
+// What the rest shows, where the list has room for it.
+fn show(
+    own: &[u32; 1024],
+    words: &[u32; 4096],
+    n: usize,
+    work: &mut [u8; 6912],
+    value: &mut [i32],
+    list: &mut [u8],
+) -> Looked
+    requires { ⌜ (1 ≤ n) × Fine (now own) (n - 1) 0 ⌝ }
+    ensures { λ r. ⌜ ShowOk (now (own .entry)) (now (words .entry)) n (now (value .entry)) (now (list .entry)) r (now (value .exit)) (now (list .exit)) ⌝ }
+{
+    let none = [0u32; 80];
+    let bytes = entries(own, words, n - 1, &none, 0, 0, 1, work);
+    if list.len() < bytes {
+        return Looked {
+            number: 24,
+            valued: 0,
+            fails: 0,
+            bytes: 0,
+        };
+    }
+    let found = tasks::value(own, words, n - 1);
+    let fails = flag(failing(own, words, n - 1, &none, 0));
+    let has_value = flag(found.has);
+    put_bytes(work, bytes, list);
+    value_out(found.value, value);
+    Looked {
+        number: 0,
+        valued: has_value,
+        fails: fails,
+        bytes: bytes,
+    }
+}
+
+// Looks, and states all of the list at exit.
+pub fn fill(rows: &[i32], state: &[i32], value: &mut [i32], list: &mut [u8]) -> Looked
+    ensures { λ r. ⌜ Shown (lookCall (now (rows .entry)) (now (state .entry)) (now (value .entry)) (now (list .entry))) r (now (value .exit)) (now (list .exit)) ⌝ }
+{
+    let mut own = [0u32; 1024];
+    let mut words = [0u32; 4096];
+    let fits = value.len() == 4;
+    let rest = open(rows, state, fits, &mut own, &mut words);
+    if rest.number != 0 {
+        return Looked {
+            number: rest.number,
+            valued: 0,
+            fails: 0,
+            bytes: 0,
+        };
+    }
+    let mut work = [0u8; 6912];
+    show(&own, &words, rest.n, &mut work, value, list)
+}
+
+// Looks, and hands back the part of the list that was written.
+pub fn look<'a>(
+    rows: &[i32],
+    state: &[i32],
+    value: &mut [i32],
+    number: &mut u32,
+    valued: &mut u32,
+    fails: &mut u32,
+    list: &'a mut [u8],
+) -> &'a mut [u8]
+    ensures { λ r. ⌜ LookOk (lookCall (now (rows .entry)) (now (state .entry)) (now (value .entry)) (now (list .entry))) (now r) (now (number .exit)) (now (valued .exit)) (now (fails .exit)) (now (value .exit)) ⌝ }
+{
+    let seen = fill(rows, state, value, list);
+    let n = seen.bytes;
+    *number = seen.number;
+    *valued = seen.valued;
+    *fails = seen.fails;
+    &mut list[..n]
+}

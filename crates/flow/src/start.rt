@@ -1,0 +1,134 @@
+// The call `start`: accepted rows, their cells' first contents, the last row evaluated and normalised (01, "Normalise").
+use super::open::STATE_WORDS;
+use cycle::normalise;
+use sheet::accepted_rows;
+use state::OWN;
+use state::get;
+use state::operand;
+use state::put_value;
+use tasks::evaluate;
+use value::Value;
+use value::number;
+use value::truth;
+use word::copy_out;
+ghost use mathlib.Core.Path.{_≡_};
+ghost use mathlib.Core.Bool.{cond};
+ghost use Prim.Native.Nat.{_-_, _<_, _≤_};
+ghost use lib.Dec.{eqb};
+ghost use lib.ListN.{length, replicate};
+ghost use mir.Syntax.{w32};
+ghost use mir.Val.{toZ};
+ghost use Rattle.word.specs.Laid.{laid};
+ghost use Rattle.rows.specs.Rows.{maxRows, rowWords, word, opA};
+ghost use Rattle.value.specs.Values.{asValue};
+ghost use Rattle.state.specs.Contracts.{Fine};
+ghost use Rattle.flow.specs.Calls.{startCall};
+ghost use Rattle.flow.specs.Opens.{allWords};
+ghost use Rattle.flow.specs.Starts.{Answered, contentAt, CellFirst, CellsFirst, BeginOk};
+
+// 0 or the ground, and the strides.
+pub struct Answer {
+    pub number: u32,
+    pub strides: u32,
+}
+
+// The kind of a cell, and of the type of truths.
+const CELL: u32 = 10;
+
+const TRUTH: u32 = 2;
+
+// Word k of a row, 0 past the last.
+fn word_of(rows: &[u32], row: usize, k: usize) -> u32
+    requires { ⌜ (length (now rows) ≡ 1024) × (k < rowWords) ⌝ }
+    ensures { λ r. ⌜ r ≡ word (now (rows .entry)) row k ⌝ }
+{
+    if row < 256 {
+        return rows[row * 4 + k];
+    }
+    0
+}
+
+// The first content of a cell.
+fn content(rows: &[u32; 1024], row: usize) -> Value
+    requires { ⌜ row < maxRows ⌝ }
+    ensures { λ r. ⌜ r ≡ asValue (contentAt (now (rows .entry)) row) ⌝ }
+{
+    let a = operand(rows, row, 1);
+    let kind = word_of(rows, a, 0);
+    let w = get(rows, row, 2);
+    if kind == TRUTH {
+        return truth(w == 1);
+    }
+    number(w)
+}
+
+// The row's first content, if it is a cell.
+fn first_cell(rows: &[u32; 1024], row: usize, work: &mut [u32; 4096])
+    requires { ⌜ row < maxRows ⌝ }
+    ensures { λ _. ⌜ CellFirst (now (rows .entry)) (now (work .entry)) (now (work .exit)) row ⌝ }
+{
+    if get(rows, row, 0) == CELL {
+        let v = content(rows, row);
+        put_value(work, row, OWN, v);
+        return;
+    }
+}
+
+// The cells among the first n rows.
+fn first_cells(rows: &[u32; 1024], n: usize, work: &mut [u32; 4096])
+    requires { ⌜ n ≤ maxRows ⌝ }
+    ensures { λ _. ⌜ CellsFirst (now (rows .entry)) (now (work .entry)) (now (work .exit)) n ⌝ }
+{
+    for i in 0..n {
+        first_cell(rows, i, work);
+    }
+}
+
+// The last row of n, evaluated and normalised from the first contents.
+fn begin(rows: &[u32; 1024], n: usize, words: &mut [u32; 4096]) -> u32
+    requires { ⌜ (1 ≤ n) × Fine (now rows) (n - 1) 0 ⌝ }
+    ensures { λ r. ⌜ BeginOk (now (rows .entry)) n (now (words .exit)) r ⌝ }
+{
+    let mut work = [0u32; 4096];
+    first_cells(rows, n, &mut work);
+    let none = [0u32; 80];
+    evaluate(rows, &mut work, n - 1, &none, 0);
+    let strides = normalise(rows, &mut work, n - 1, &none, 0);
+    *words = work;
+    strides
+}
+
+// Words copied out over a lent state.
+pub fn put_out(words: &[u32; 4096], state: &mut [i32])
+    ensures { λ _. ⌜ now (state .exit) ≡ laid (toZ w32) (now (words .entry)) (now (state .entry)) ⌝ }
+    ensures { λ _. ⌜ length (now (words .entry)) ≡ allWords ⌝ }
+{
+    copy_out(words, state);
+}
+
+// Starts a flow: the answer, and the state at exit.
+pub fn start(rows: &[i32], state: &mut [i32]) -> Answer
+    ensures { λ r. ⌜ Answered (startCall (now (rows .entry)) (now (state .entry))) r (now (state .exit)) ⌝ }
+{
+    let mut own = [0u32; 1024];
+    let n = accepted_rows(rows, &mut own);
+    if n == 0 {
+        return Answer {
+            number: 20,
+            strides: 0,
+        };
+    }
+    if state.len() != n * STATE_WORDS {
+        return Answer {
+            number: 21,
+            strides: 0,
+        };
+    }
+    let mut words = [0u32; 4096];
+    let strides = begin(&own, n, &mut words);
+    put_out(&words, state);
+    Answer {
+        number: 0,
+        strides: strides,
+    }
+}
