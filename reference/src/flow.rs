@@ -29,8 +29,12 @@ pub struct Flow {
 impl Flow {
     /// Grounds 1 to 7 in 01's order, each over all lines before the next.
     pub fn load(text: &[u8], rules: Rules) -> Result<Self, Ground> {
+        Self::of_rows(sheet::read(text, rules.slip)?, rules)
+    }
+
+    /// Grounds 3 to 7, which speak of rows alone.
+    pub fn of_rows(rows: Vec<Row>, rules: Rules) -> Result<Self, Ground> {
         let slip = rules.slip;
-        let rows = sheet::read(text, slip)?;
         sheet::check_listed(&rows, slip)?;
         if slip == Slip::NamingBeforeSorts {
             sheet::check_naming(&rows, slip)?;

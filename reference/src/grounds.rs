@@ -1,7 +1,6 @@
-//! The grounds on which a call is refused (01, "Grounds in the input").
+//! The grounds on which a call is refused (01, "Grounds in the input" and "Grounds in the state").
 
-/// A ground, with its number in 01. Grounds 20 to 24 speak of lent words, which this
-/// implementation does not have.
+/// A ground, with its number in 01. Grounds 20 to 24 speak of lent memory ([`crate::calls`]).
 #[derive(Clone, Copy, Debug, PartialEq, Eq, PartialOrd, Ord)]
 pub enum Ground {
     /// 1: sheet length not 45 times 1 to 256, or a row count unreadable or not met.
@@ -22,6 +21,16 @@ pub enum Ground {
     Event = 8,
     /// 9: no handling rule derives a step.
     Handling = 9,
+    /// 20: rows that no accepted sheet loads to.
+    Rows = 20,
+    /// 21: rows memory at load, state or value memory not of its exact length.
+    Memory = 21,
+    /// 22: not the writing of a state.
+    NoState = 22,
+    /// 23: normalising would change the state.
+    NoRest = 23,
+    /// 24: list memory under 27 bytes an entry.
+    List = 24,
 }
 
 impl Ground {

@@ -1,14 +1,20 @@
 //! A second implementation of document 01, "Kiosk order flows: sheet, state and touches".
 //!
-//! Trees instead of words. Loading ([`sheet`], [`limits`], [`tree`], [`typing`], put together in
-//! [`flow`]); the rules ([`evaluate`], [`observe`], [`stride`], [`handle`], [`inputs`]); the calls
-//! start, look and handle ([`state`]); the program ([`session`]). The rest makes cases
-//! ([`generate`]), tells what they cover ([`coverage`]) and names wrong variants ([`slips`]).
+//! Trees inside, words in lent memory. Loading ([`sheet`], [`limits`], [`tree`], [`typing`], put
+//! together in [`flow`]); the rules ([`evaluate`], [`observe`], [`stride`], [`handle`], [`inputs`]);
+//! start, look and handle on a flow ([`state`]); the program ([`session`]). The four calls on lent
+//! memory ([`calls`]) read and write states as words ([`words`]). The rest makes cases ([`generate`])
+//! and lent memory ([`lent`]) to compare engines on ([`compare`], [`engine`], [`program`] with the
+//! [`edges`]), tells what the cases
+//! cover ([`coverage`]) and names wrong variants ([`slips`]).
 #![forbid(unsafe_code)]
 
 pub mod binders;
+pub mod calls;
 pub mod compare;
 pub mod coverage;
+pub mod edges;
+pub mod engine;
 pub mod evaluate;
 pub mod event;
 pub mod field;
@@ -18,9 +24,11 @@ pub mod grounds;
 pub mod handle;
 pub mod inputs;
 pub mod kinds;
+pub mod lent;
 pub mod limits;
 pub mod observe;
 pub mod operators;
+pub mod program;
 pub mod random;
 pub mod rules;
 pub mod session;
@@ -33,3 +41,4 @@ pub mod task;
 pub mod tree;
 pub mod typing;
 pub mod value;
+pub mod words;

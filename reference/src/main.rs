@@ -3,7 +3,9 @@
 
 use reference::compare;
 use reference::coverage::Coverage;
+use reference::edges;
 use reference::generate;
+use reference::program::Report;
 use reference::rules::Rules;
 use reference::session;
 use reference::slips::Slip;
@@ -16,7 +18,9 @@ const USAGE: &str = "usage:
   reference session              a session: input on standard input, screens on standard output
   reference cases SEED COUNT DIR a file N.in, and N.out with its screens, for each case
   reference stream SEED COUNT    the inputs, framed, on standard output
-  reference replay               framed inputs on standard input, framed screens on standard output
+  reference replay               framed inputs on standard input, the screens of each and a line ---- on standard output
+  reference compare PROGRAM SEED COUNT
+                                 runs PROGRAM on the edges and on the cases, and compares its screens with these
   reference coverage SEED COUNT  what the cases cover
   reference slips SEED COUNT     how many cases catch each slip, and the first that does";
 
@@ -41,6 +45,7 @@ fn run(words: &[&str]) -> io::Result<()> {
             generate::cases(number(seed)?, number(count)?).try_for_each(|input| write_framed(&mut output, &input))?;
             output.flush()
         }
+        ["compare", program, seed, count] => compare_program(Path::new(program), number(seed)?, number(count)?),
         ["replay"] => replay(&mut io::stdin().lock(), &mut output),
         ["coverage", seed, count] => {
             write!(output, "{}", Coverage::of(generate::cases(number(seed)?, number(count)?)))?;
@@ -75,7 +80,20 @@ fn write_framed(output: &mut impl Write, bytes: &[u8]) -> io::Result<()> {
     output.write_all(bytes)
 }
 
-/// Runs each framed session and frames its screens.
+/// Runs the program on the edges and on the cases.
+fn compare_program(program: &Path, seed: u64, count: u64) -> io::Result<()> {
+    let cases =
+        generate::cases(seed, count).enumerate().map(|(at, input)| (format!("case {at} of seed {seed}"), input));
+    let report = Report::of(program, edges::inputs().into_iter().chain(cases))?;
+    print!("{report}");
+    if report.differing.is_empty() {
+        Ok(())
+    } else {
+        Err(io::Error::other("screens differ"))
+    }
+}
+
+/// Runs each framed session, and ends its screens with a line of four minus signs.
 fn replay(input: &mut impl Read, output: &mut impl Write) -> io::Result<()> {
     let mut frames = Vec::new();
     input.read_to_end(&mut frames)?;
@@ -84,7 +102,8 @@ fn replay(input: &mut impl Read, output: &mut impl Write) -> io::Result<()> {
         let (head, bytes) = rest.split_at_checked(9).ok_or_else(|| invalid("a frame without a length"))?;
         let length = number(String::from_utf8_lossy(head).trim())? as usize;
         let (session, after) = bytes.split_at_checked(length).ok_or_else(|| invalid("a short frame"))?;
-        write_framed(output, &session::screens(session, Rules::default()))?;
+        output.write_all(&session::screens(session, Rules::default()))?;
+        output.write_all(b"----\n")?;
         rest = after;
     }
     output.flush()

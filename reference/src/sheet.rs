@@ -34,8 +34,8 @@ impl Row {
     }
 }
 
-/// Grounds 1 and 2: the rows that the text holds.
-pub fn read(text: &[u8], slip: Slip) -> Result<Vec<Row>, Ground> {
+/// Ground 1: the lines that the text holds, by its length.
+pub fn count_lines(text: &[u8], slip: Slip) -> Result<usize, Ground> {
     let most = match slip {
         Slip::Lines257 => LINES + 1,
         Slip::Lines255 => LINES - 1,
@@ -44,7 +44,12 @@ pub fn read(text: &[u8], slip: Slip) -> Result<Vec<Row>, Ground> {
     if text.is_empty() || !text.len().is_multiple_of(LINE) || text.len() / LINE > most {
         return Err(Ground::Length);
     }
-    let mut rows = Vec::with_capacity(text.len() / LINE);
+    Ok(text.len() / LINE)
+}
+
+/// Grounds 1 and 2: the rows that the text holds.
+pub fn read(text: &[u8], slip: Slip) -> Result<Vec<Row>, Ground> {
+    let mut rows = Vec::with_capacity(count_lines(text, slip)?);
     for (at, line) in text.chunks_exact(LINE).enumerate() {
         let row = read_line(at, line, slip).ok_or(Ground::Unreadable)?;
         if slip == Slip::LineByLine && !listed(&rows, &row, slip) {

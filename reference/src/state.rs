@@ -9,7 +9,7 @@ use crate::slips::Slip;
 use crate::task::{Store, Task};
 use crate::value::Value;
 
-/// A rest of a flow.
+/// A state of a flow: a rest, unless it was read or built otherwise.
 #[derive(Clone, Debug, PartialEq, Eq)]
 pub struct State<'f> {
     rules: Rules,
@@ -26,6 +26,11 @@ pub struct Look {
 }
 
 impl<'f> State<'f> {
+    /// The state of these cells and this task, which are the flow's.
+    pub fn new(flow: &Flow, store: Store, task: Task<'f>) -> Self {
+        State { rules: flow.rules, store, task }
+    }
+
     /// The last row normalised from the cells' first contents, and its strides.
     pub fn start(flow: &'f Flow) -> (Self, usize) {
         let rules = flow.rules;
@@ -53,14 +58,19 @@ impl<'f> State<'f> {
         if rules.slip == Slip::ResultNotNormalised {
             return Ok(1);
         }
-        let strides = rules.normalise(&Binders::NONE, &mut self.store, &mut self.task);
+        let strides = self.normalise();
         Ok(if rules.slip == Slip::LeftStridesCounted { strides + inside } else { strides })
+    }
+
+    /// Normalises and gives the strides.
+    pub fn normalise(&mut self) -> usize {
+        self.rules.normalise(&Binders::NONE, &mut self.store, &mut self.task)
     }
 
     /// Whether normalising changes nothing.
     pub fn rests(&self) -> bool {
         let mut after = self.clone();
-        let strides = after.rules.normalise(&Binders::NONE, &mut after.store, &mut after.task);
+        let strides = after.normalise();
         strides == 1 && after == *self
     }
 

@@ -3,7 +3,7 @@
 //! [`draft`] makes well-typed flows out of [`plain`] expressions and [`tasks`], some of them in
 //! the [`shapes`] and with the [`effects`] that slips hide in; [`layout`] writes them as rows;
 //! [`faults`] breaks sheets near each ground; [`touches`] makes events, most of them from the list
-//! shown.
+//! shown. [`states`] makes states of a flow that no session need reach.
 
 pub mod draft;
 pub mod effects;
@@ -11,6 +11,7 @@ pub mod faults;
 pub mod layout;
 pub mod plain;
 pub mod shapes;
+pub mod states;
 pub mod tasks;
 pub mod touches;
 

@@ -1,0 +1,153 @@
+//! Sessions at the edges: 01's own (lines, binders, a field too large, an empty text), and those of
+//! row counts, events cut short, marks and depth.
+
+use crate::event;
+use crate::generate::counted;
+use crate::sheet::{Row, LINES};
+
+/// Rows being added. Row 0 is the type number.
+struct Rows(Vec<Row>);
+
+impl Rows {
+    fn new() -> Self {
+        Rows(vec![Row::new(3, 0, 0, 0)])
+    }
+
+    fn row(&mut self, kind: i32, a: i32, b: i32) -> i32 {
+        self.0.push(Row::new(kind, a, b, 0));
+        self.0.len() as i32 - 1
+    }
+
+    fn filled(&mut self, number: i32) -> i32 {
+        let number = self.row(22, number, 0);
+        self.row(40, number, 0)
+    }
+}
+
+/// The inputs, each with its name.
+pub fn inputs() -> Vec<(String, Vec<u8>)> {
+    let mut inputs = Vec::new();
+    for count in [1, LINES, LINES + 1] {
+        inputs.push((format!("{count} lines"), with(&long(count.max(3)), &[value(6)])));
+    }
+    for count in [16, 17] {
+        inputs.push((format!("{count} binders"), with(&bound(count), &vec![press(2); 6])));
+        inputs.push((format!("{count} marks"), with(&marked(count), &[value(1)])));
+    }
+    inputs.extend(fields());
+    inputs.extend(counts());
+    inputs.extend(short_events());
+    for levels in [1, 2, 16, 64, 126] {
+        inputs.push((format!("{levels} choices deep"), with(&picks(levels), &vec![press(3); levels])));
+    }
+    for levels in [1, 8, 16] {
+        inputs.push((format!("{levels} choices under steps"), with(&steps(levels), &vec![press(3); levels])));
+    }
+    inputs
+}
+
+fn with(rows: &[Row], events: &[Vec<u8>]) -> Vec<u8> {
+    [counted(rows), events.concat()].concat()
+}
+
+fn value(number: i32) -> Vec<u8> {
+    event::write("", 1, [number, 0, 0, 0])
+}
+
+fn press(action: i32) -> Vec<u8> {
+    event::write("", action, [0; 4])
+}
+
+/// A filled editor after types that nothing names.
+fn long(lines: usize) -> Vec<Row> {
+    let mut rows = Rows(vec![Row::new(3, 0, 0, 0); lines - 2]);
+    rows.filled(5);
+    rows.0
+}
+
+/// The outermost of so many binders, each kind of them in turn.
+fn bound(binders: i32) -> Vec<Row> {
+    let mut rows = Rows::new();
+    let outermost = rows.row(23, binders - 1, 0);
+    let mut task = rows.row(40, outermost, 0);
+    for level in 0..binders {
+        let (kind, bound) = match level % 3 {
+            0 => (31, rows.row(22, level, 0)),
+            1 => (43, rows.filled(level)),
+            _ => (44, rows.filled(level)),
+        };
+        task = rows.row(kind, bound, task);
+    }
+    rows.0
+}
+
+/// An empty editor under so many marks of kind 47.
+fn marked(marks: i32) -> Vec<Row> {
+    let mut rows = Rows::new();
+    let mut task = rows.row(41, 0, 0);
+    for level in 0..marks {
+        let other = rows.row(41, 0, 0);
+        task = if level % 2 == 0 { rows.row(47, task, other) } else { rows.row(47, other, task) };
+    }
+    rows.0
+}
+
+/// External choices one in another, to the left, each beside a fail.
+fn picks(levels: usize) -> Vec<Row> {
+    let mut rows = Rows::new();
+    let mut task = rows.row(41, 0, 0);
+    for _ in 0..levels {
+        let fail = rows.row(45, 0, 0);
+        task = rows.row(48, task, fail);
+    }
+    rows.0
+}
+
+/// External choices one in another, each the right side of an internal step; so many binders.
+fn steps(levels: usize) -> Vec<Row> {
+    let mut rows = Rows::new();
+    let mut task = rows.row(41, 0, 0);
+    for level in 0..levels {
+        let fail = rows.row(45, 0, 0);
+        let pick = rows.row(48, task, fail);
+        let filled = rows.filled(level as i32);
+        task = rows.row(43, filled, pick);
+    }
+    rows.0
+}
+
+/// The largest and the least number, and one past each.
+fn fields() -> Vec<(String, Vec<u8>)> {
+    let text = String::from_utf8(with(&long(3), &[value(1)])).expect("text");
+    let placed = |number: &str| text.replacen(&format!("{:>12}", 5), &format!("{number:>12}"), 1).into_bytes();
+    let numbers = ["2147483647", "2147483648", "-2147483648", "-2147483649", "-0", "+1", "01", "", "1 "];
+    numbers.into_iter().map(|number| (format!("field {number:?}"), placed(number))).collect()
+}
+
+/// Row counts, most of them refused, in front of three lines.
+fn counts() -> Vec<(String, Vec<u8>)> {
+    let lines = &with(&long(3), &[value(1)])[5..];
+    let counts = [
+        "", " ", "   0\n", "   3", "   3 ", "  3\n\n", "0003\n", "  +3\n", "  3 \n", "  -3\n", "  -0\n", " 257\n",
+        "9999\n", "   2\n", "   3\n", "   4\n", " 256\n", "    \n",
+    ];
+    let joined = counts.into_iter().map(|count| (format!("row count {count:?}"), [count.as_bytes(), lines].concat()));
+    let alone = counts.into_iter().map(|count| (format!("row count {count:?} alone"), count.as_bytes().to_vec()));
+    joined.chain(alone).collect()
+}
+
+/// Each length of a last event and of a sheet, and events out of step.
+fn short_events() -> Vec<(String, Vec<u8>)> {
+    let sheet = counted(&long(3));
+    let event = value(6);
+    let mut inputs = Vec::new();
+    for length in 0..=event.len() {
+        inputs.push((format!("{length} bytes of an event"), [&sheet[..], &event[..length]].concat()));
+    }
+    for length in 0..sheet.len() {
+        inputs.push((format!("{length} bytes of a sheet"), sheet[..length].to_vec()));
+    }
+    inputs.push(("a byte before an event".into(), [&sheet[..], b"\n", &event].concat()));
+    inputs.push(("a byte after an event".into(), [&sheet[..], &event, b"\n"].concat()));
+    inputs
+}

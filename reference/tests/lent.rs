@@ -1,0 +1,230 @@
+//! Inputs of the four calls from a fixed seed: each number is hit, refusals keep what is lent, and
+//! wrong engines are told from the second implementation.
+
+use reference::calls::{self, Looked};
+use reference::coverage::Tally;
+use reference::engine::{Answers, Engine, Reference};
+use reference::event::Event;
+use reference::flow::Flow;
+use reference::generate::{self, states};
+use reference::lent::{self, Lent};
+use reference::random::Random;
+use reference::rules::{Asking, Rules};
+use reference::slips::Slip;
+use reference::words::{self, STATE_ROW};
+
+const SEED: u64 = 1;
+const COUNT: u64 = 4000;
+
+#[test]
+fn each_number_is_hit_in_each_call() {
+    let mut tallies = [Tally::default(), Tally::default(), Tally::default(), Tally::default()];
+    for lent in lent::inputs(SEED, COUNT) {
+        let answers = Answers::of(&Reference, &lent);
+        assert!(answers.keep(&lent), "{:?}", answers.numbers());
+        for (tally, number) in tallies.iter_mut().zip(answers.numbers()) {
+            tally.add(number as usize);
+        }
+    }
+    let numbers: [&[usize]; 4] =
+        [&[0, 1, 2, 3, 4, 5, 6, 7, 21], &[0, 20, 21], &[0, 20, 21, 22, 23, 24], &[0, 8, 9, 20, 21, 22, 23]];
+    for ((tally, numbers), call) in tallies.iter().zip(numbers).zip(["load", "start", "look", "handle"]) {
+        println!("{call}:{tally}");
+        assert_eq!(tally.total(), numbers.iter().map(|&number| tally.of(number)).sum(), "{call}:{tally}");
+        for &number in numbers {
+            assert!(tally.of(number) >= 40, "{call}:{tally}");
+        }
+    }
+}
+
+#[test]
+fn inputs_follow_from_the_seed() {
+    let inputs = |seed| lent::inputs(seed, 20).collect::<Vec<_>>();
+    assert_eq!(inputs(7), inputs(7));
+    assert_ne!(inputs(7), inputs(8));
+    assert_eq!(inputs(7)[..5], lent::inputs(7, 5).collect::<Vec<_>>());
+}
+
+/// Both ways of asking agree at rests that no session need reach.
+#[test]
+fn both_ways_of_asking_agree_at_any_rest() {
+    for at in 0..1500 {
+        let random = &mut Random::of_case(SEED, at);
+        let rows = generate::accepted(random);
+        let flow = Flow::of_rows(rows.clone(), Rules::default()).expect("accepted");
+        let literal = Flow::of_rows(rows, Rules::asking(Asking::Literally)).expect("accepted");
+        let mut state = states::state(random, &flow);
+        let mut other = words::read(&literal, &words::write(&flow, &state)).expect("read");
+        assert_eq!(state.normalise(), other.normalise());
+        assert_eq!(words::write(&flow, &state), words::write(&literal, &other));
+        assert_eq!(state.look(), other.look());
+        for _ in 0..3 {
+            let event = generate::touches::event(random, &state.look().entries);
+            assert_eq!(state.handle(&event), other.handle(&event));
+            assert_eq!(words::write(&flow, &state), words::write(&literal, &other));
+        }
+    }
+}
+
+/// Names the wrong engines, and lists them.
+macro_rules! faults {
+    ($($name:ident,)*) => {
+        #[derive(Clone, Copy, Debug, PartialEq, Eq)]
+        enum Fault {
+            $($name,)*
+        }
+
+        const FAULTS: &[Fault] = &[$(Fault::$name,)*];
+    };
+}
+
+faults! {
+    LoadAsksMemoryFirst,
+    LoadAsksMemoryLast,
+    LoadWritesOnRefusal,
+    MemoryBeforeRows,
+    RowsUnasked,
+    StartOnlyOnBlankState,
+    StartCountsOneMore,
+    ValueMemoryAfterState,
+    ListBeforeRest,
+    RestUnasked,
+    WordsAfterLeavesUnread,
+    RowsWithoutTagUnread,
+    ValueKeptWithoutValue,
+    ValueClearedOnRefusal,
+    FlagsExchanged,
+    ListOneByteMore,
+    ListClearedBehind,
+    ListFilledAsFarAsItGoes,
+    EventBeforeState,
+    EventOfAnyLength,
+    HandleKeepsState,
+    HandleClearsOnRefusal,
+    HandleCountsOneMore,
+    NineIsAccepted,
+}
+
+use Fault::*;
+
+/// The state as an engine with this fault reads it.
+fn misread(fault: Fault, rows: &[i32], state: &[i32]) -> Vec<i32> {
+    let mut state = state.to_vec();
+    for row in state.chunks_exact_mut(STATE_ROW) {
+        match fault {
+            WordsAfterLeavesUnread => row[6..].fill(0),
+            RowsWithoutTagUnread if row[0] == 0 => row.fill(0),
+            _ => {}
+        }
+    }
+    if fault == RestUnasked {
+        let normalised = calls::flow_of(rows).ok().and_then(|flow| {
+            let mut read = words::read(&flow, &state)?;
+            read.normalise();
+            Some(words::write(&flow, &read))
+        });
+        return normalised.unwrap_or(state);
+    }
+    state
+}
+
+/// The entries of a state, at rest or not.
+fn entries(rows: &[i32], state: &[i32]) -> usize {
+    let flow = calls::flow_of(rows).expect("accepted");
+    let state = words::read(&flow, state).expect("a state");
+    state.look().entries.len()
+}
+
+/// 21 by the length of the rows memory alone.
+fn wrong_length(rows: &[i32], state: &[i32]) -> bool {
+    state.len() != rows.len() * 4
+}
+
+impl Engine for Fault {
+    fn load(&self, text: &[u8], rows: &mut [i32]) -> u32 {
+        let exact = rows.len() == text.len() / 45 * 4;
+        match self {
+            LoadAsksMemoryFirst if !exact => 21,
+            LoadAsksMemoryLast if !exact => match calls::load(text, &mut vec![0; text.len() / 45 * 4]) {
+                0 => 21,
+                number => number,
+            },
+            _ => {
+                let number = calls::load(text, rows);
+                if *self == LoadWritesOnRefusal && number > 2 {
+                    rows.fill(0);
+                }
+                number
+            }
+        }
+    }
+
+    fn start(&self, rows: &[i32], state: &mut [i32]) -> (u32, u32) {
+        match self {
+            MemoryBeforeRows if wrong_length(rows, state) => (21, 0),
+            StartOnlyOnBlankState if state.iter().any(|&word| word != 0) => (21, 0),
+            RowsUnasked if rows.len() > 1024 => (0, 1),
+            _ => {
+                let (number, strides) = calls::start(rows, state);
+                (number, strides + u32::from(*self == StartCountsOneMore && number == 0))
+            }
+        }
+    }
+
+    fn look(&self, rows: &[i32], state: &[i32], value: &mut [i32], list: &mut [u8]) -> Looked {
+        let refused = |number| Looked { number, ..Looked::default() };
+        let (value_before, room) = (value.to_vec(), list.len());
+        let mut looked = calls::look(rows, &misread(*self, rows, state), value, list);
+        let refuse = looked.number != 0;
+        match self {
+            MemoryBeforeRows if wrong_length(rows, state) => return refused(21),
+            ValueMemoryAfterState if looked.number == 21 && !wrong_length(rows, state) => {
+                let after = calls::look(rows, state, &mut [0; 4], &mut [0; 27 * 256]).number;
+                return refused(if after == 0 { 21 } else { after });
+            }
+            ListBeforeRest if looked.number == 23 && room < 27 * entries(rows, state) => return refused(24),
+            ValueKeptWithoutValue if !refuse && !looked.valued => value.copy_from_slice(&value_before),
+            ValueClearedOnRefusal if refuse => value.fill(0),
+            FlagsExchanged => (looked.valued, looked.fails) = (looked.fails, looked.valued),
+            ListOneByteMore if !refuse && looked.bytes == room && room > 0 => {
+                value.copy_from_slice(&value_before);
+                looked = refused(24);
+            }
+            ListClearedBehind if !refuse => list[looked.bytes..].fill(0),
+            ListFilledAsFarAsItGoes if looked.number == 24 => list.fill(b' '),
+            _ => {}
+        }
+        looked
+    }
+
+    fn handle(&self, rows: &[i32], state: &mut [i32], event: &[u8]) -> (u32, u32) {
+        let mut after = misread(*self, rows, state);
+        let event = if *self == EventOfAnyLength { &event[..event.len().min(67)] } else { event };
+        let (number, strides) = calls::handle(rows, &mut after, event);
+        match self {
+            MemoryBeforeRows if wrong_length(rows, state) => return (21, 0),
+            EventBeforeState if Event::read(event, Slip::None).is_none() => return (8, 0),
+            HandleClearsOnRefusal if number == 9 => state.fill(0),
+            NineIsAccepted if number == 9 => return (0, 1),
+            HandleCountsOneMore if number == 0 => {
+                state.copy_from_slice(&after);
+                return (0, strides + 1);
+            }
+            _ if number == 0 && *self != HandleKeepsState => state.copy_from_slice(&after),
+            _ => {}
+        }
+        (number, strides)
+    }
+}
+
+#[test]
+fn every_wrong_engine_is_caught() {
+    let inputs: Vec<Lent> = lent::inputs(SEED, COUNT).collect();
+    let expected: Vec<Answers> = inputs.iter().map(|lent| Answers::of(&Reference, lent)).collect();
+    for &fault in FAULTS {
+        let differs = |(lent, expected): (&Lent, &Answers)| Answers::of(&fault, lent) != *expected;
+        let caught = inputs.iter().zip(&expected).position(differs);
+        println!("{fault:?}: {caught:?}");
+        assert!(caught.is_some(), "{fault:?}");
+    }
+}
