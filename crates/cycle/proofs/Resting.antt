@@ -7,7 +7,7 @@ use Prim.Native.Nat.{ℕ, suc, _+_, _-_, _<_}
 use native.Mathlib.Omega.{arith}
 use Rattle.tophat.specs.Syntax.{Ty, Code, TaskOf, Env, Store}
 use Rattle.tophat.specs.Typing.{TaskType}
-use Rattle.tophat.proofs.ComputeNormalising.{unlessStill, strides, stride, normalise}
+use Rattle.tophat.proofs.ComputeNormalising.{unlessStill, strides, stride}
 use Rattle.tophat.proofs.Preservation.{stride-kept}
 use Rattle.tophat.proofs.Progress.{normalise-limit}
 use Rattle.state.specs.Holds.{Sits, Holds, World, Ran}

@@ -3,23 +3,21 @@
 use mathlib.Core.Path.{_≡_, refl, sym, ap, ap₂, _∙_, subst}
 use mathlib.Core.Bool.{Bool, true, false, _||_}
 use mathlib.Core.Logic.{inl, inr}
-use mathlib.Core.Option.{Option, none, some}
 use mathlib.Core.List.{List, [], _∷_}
 use Prim.Native.Nat.{ℕ}
 use Rattle.tophat.specs.Syntax.{Ty, Code, edit, enter, update, then, next, fail, and, or, xor, if, let', Val, Env, Store}
-use Rattle.tophat.specs.Syntax.{TaskOf, before, after, both, either, unpicked}
+use Rattle.tophat.specs.Syntax.{TaskOf, before}
 use Rattle.tophat.specs.Typing.{TaskType}
 use Rattle.tophat.specs.Normalising.{value}
 use Rattle.tophat.proofs.ComputeEvaluation.{evaluate}
 use Rattle.tophat.proofs.ComputeNormalising.{goOn, goOnWith, chooseRight, chooseLeft, failing, stride}
 use Rattle.tophat.proofs.Preservation.{value-type, option-is, stride-kept}
 use Rattle.rows.specs.Rows.{word, opA, opB}
-use Rattle.rows.proofs.Basics.{no}
-use Rattle.value.specs.declared.Value.{Value}
 use Rattle.value.specs.declared.Found.{Found}
-use Rattle.value.specs.Values.{asValue, asFound}
+use Rattle.value.specs.Values.{asFound}
+use Rattle.value.proofs.Meaning.{found-none, found-some}
 use Rattle.state.specs.Layout.{own, one, other}
-use Rattle.state.specs.Holds.{treeOf, fork, Sits, Row, Clear, Holds, Stores, Same, World, Ran}
+use Rattle.state.specs.Holds.{treeOf, fork, Sits, Row, Holds, Stores, Same, World, Ran}
 use Rattle.state.specs.Words.{Laid}
 use Rattle.state.specs.Contracts.{StrideOk, ValueOk, ClearOk}
 use Rattle.state.proofs.Frames.{same-refl, same-trans, same-weak, same-row, laid-same, keeps, keeps-laid, clear-kept, holds-kept, stores-kept, stores-laid, Reach, Kids, kids-and, kids-or, world-after}
@@ -49,21 +47,6 @@ valued : {rs ws ws₁ : List ℕ} {i : ℕ} {env : List ℕ} {d : ℕ} {m : Bool
 valued {d = d} {Σ = Σ} {Γ = Γ} {c = c} {τ = τ} {r = r} h k p =
     let w = p .world in
     h d c k Σ Γ τ (r .1) (r .0) (p .task) (w .storeTyped) (w .storeSmall) (w .bindersSmall) (p .ran .holds) (w .stores)
-
-found-none : {f : Found} (o : Option Val) → f ≡ asFound o → f .has ≡ false → o ≡ none
-unfolding asFound
-found-none none e n = refl
-found-none (some v) e n = no (sym n ∙ ap (λ f. f .has) e)
-
-record Has (f : Found) (o : Option Val) : Type 0 where
-  pub val : Val
-  pub is : o ≡ some val
-  pub word : f .value ≡ asValue val
-
-found-some : {f : Found} (o : Option Val) → f ≡ asFound o → f .has ≡ true → Has f o
-unfolding asFound
-found-some none e n = no (sym (ap (λ f. f .has) e) ∙ n)
-found-some (some v) e n = record { val = v; is = refl; word = ap (λ f. f .value) e }
 
 -- ---- steps: the left side has strided, and the step waits still
 
@@ -133,12 +116,12 @@ module _ (rs ws ws₁ : List ℕ) (i : ℕ) (env : List ℕ) (d : ℕ) (z : Unha
           let n₁ = stride a ρ s t in
           let h = found-some (value a (n₁ .0) (n₁ .1)) (valued leftValue (k .1) p) n in
           let l = waits rs ws d i a b t (inl k) g in
-          let v = h .val in
+          let v = h .0 in
           subst
           (λ o. Gives rs ws ws₂ i r (then a b) (goOnWith o (n₁ .0) (n₁ .1) (n₁ .2) (λ v. evaluate b (v ∷ ρ) (n₁ .1)) (λ v r. failing b (v ∷ ρ) (r .1) (r .0))))
-          (sym (h .is))
+          (sym (h .1))
           (tried-on v (evaluate b (v ∷ ρ) (n₁ .1)) (failing b (v ∷ ρ) (evaluate b (v ∷ ρ) (n₁ .1) .1) (evaluate b (v ∷ ρ) (n₁ .1) .0)) l (p .ran) (p .flag)
-          (hu a b (inl k) Σ Γ σ υ (n₁ .1) ρ (n₁ .0) v (h .word) (option-is (value-type (p .task) (p .world .storeTyped)) (h .is)) (p .task) x (p .world) (then-still l (p .ran) .holds))))
+          (hu a b (inl k) Σ Γ σ υ (n₁ .1) ρ (n₁ .0) v (h .2) (option-is (value-type (p .task) (p .world .storeTyped)) (h .1)) (p .task) x (p .world) (then-still l (p .ran) .holds))))
           c k τ t y g
 
     -- 47: the left, strided, has a value: it replaces the choice
@@ -152,7 +135,7 @@ module _ (rs ws ws₁ : List ℕ) (i : ℕ) (env : List ℕ) (d : ℕ) (z : Unha
         let h = found-some (value a (r .0) (r .1)) (valued leftValue (k .1) p) n in
         let o = kids-or rs d i a b k in
         let e = subst (λ b. ClearOk rs ws₁ ws₂ b) eb hc d b (k .2) in
-        subst (λ v. Gives rs ws ws₃ i true (or a b) (chooseLeft v (r .0) u (r .1) (r .2) (λ s u. stride b ρ s u) (λ u s. value b u s))) (sym (h .is)) (
+        subst (λ v. Gives rs ws ws₃ i true (or a b) (chooseLeft v (r .0) u (r .1) (r .2) (λ s u. stride b ρ s u) (λ u s. value b u s))) (sym (h .1)) (
           record {
             holds = (
               l .row,
@@ -238,7 +221,7 @@ module _ (rs ws ws₁ ws₂ : List ℕ) (i : ℕ) (env : List ℕ) (d : ℕ) (a 
         let h = found-some (value b (r₁ .0) (r₁ .1)) (valued (subst (λ b. ValueOk rs ws₂ b f₁) eb hw) (k .2) (p .right)) x₁ in
         let e = subst (λ a. ClearOk rs ws₂ ws₃ a) ea hc d a (k .1) in
         subst (λ v. Gives rs ws ws₄ i true (or a b) (chooseLeft v (r .0) u (r .1) (r .2) (λ s u. stride b ρ s u) (λ u s. value b u s))) (sym v)
-        (subst (λ v. Gives rs ws ws₄ i true (or a b) (chooseRight v (r .0) (r₁ .0) (r₁ .1) (r .2 || r₁ .2))) (sym (h .is)) (
+        (subst (λ v. Gives rs ws ws₄ i true (or a b) (chooseRight v (r .0) (r₁ .0) (r₁ .1) (r .2 || r₁ .2))) (sym (h .1)) (
           record {
             holds = (
               l .row,

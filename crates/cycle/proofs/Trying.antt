@@ -7,16 +7,16 @@ use mathlib.Core.Logic.{inl, inr}
 use mathlib.Core.List.{List, [], _∷_}
 use Prim.Native.Nat.{ℕ, _+_, _≤_, _<_}
 use native.Mathlib.Omega.{arith}
-use Rattle.tophat.specs.Syntax.{Ty, leaves, Code, then, next, Val, TaskOf, before, after, Env, Store}
+use Rattle.tophat.specs.Syntax.{Ty, Code, then, next, Val, TaskOf, before, after, Env, Store}
 use Rattle.tophat.specs.Typing.{CodeType, TaskType, ValueType}
 use Rattle.tophat.proofs.ComputeEvaluation.{evaluate}
-use Rattle.tophat.proofs.ComputeNormalising.{failing, normalise, settle}
+use Rattle.tophat.proofs.ComputeNormalising.{failing, settle}
 use Rattle.tophat.proofs.TaskEvaluationAgrees.{evaluate-good}
 use Rattle.tophat.proofs.NormalisingSound.{normalise-sound}
 use Rattle.tophat.proofs.FailingKept.{settle-lives}
 use Rattle.tophat.proofs.Preservation.{task-code}
 use Rattle.tophat.proofs.TypeLeaves.{task-type-leaves}
-use Rattle.rows.specs.Rows.{word, opA, opB}
+use Rattle.rows.specs.Rows.{opA, opB}
 use Rattle.rows.specs.Enclosing.{maxBinders}
 use Rattle.value.specs.declared.Value.{Value}
 use Rattle.value.specs.Values.{asValue}

@@ -1,9 +1,13 @@
 // Failing, normalising and striding: a cycle in which the row falls (01: "failing calls normalise on branches, normalise calls stride,
 // stride calls failing"). Between them stand `settle` and `tried`, `attempt` and `choose`; `tried` and `attempt` alone hold a copy of the
 // state, so that frames stay small. Rests on crate tasks for values, evaluation and rows that hand on, and on crate state's contracts.
-use state::MAX_BINDERS;
+use rows::MAX_BINDERS;
+use rows::MAX_ROWS;
+use rows::ROWS_WORDS;
+use state::ENV_WORDS;
 use state::ONE;
 use state::OTHER;
+use state::STATE_SIZE;
 use state::clear;
 use state::env_put;
 use state::get;
@@ -23,14 +27,14 @@ ghost use Rattle.tasks.proofs.Forms.{Unhanded};
 ghost use Rattle.cycle.specs.Trying.{SettleOk, TriedOk, AttemptOk};
 
 // One more than there can be rows: the most strides that a call can count.
-const MAX_STRIDES: u32 = 257;
+const MAX_STRIDES: u32 = MAX_ROWS as u32 + 1;
 
 // Whether the task at the row fails.
 pub fn failing(
-    rows: &[u32; 1024],
-    state: &[u32; 4096],
+    rows: &[u32; ROWS_WORDS],
+    state: &[u32; STATE_SIZE],
     row: usize,
-    env: &[u32; 80],
+    env: &[u32; ENV_WORDS],
     depth: usize,
 ) -> bool
     requires { ⌜ Fine (now rows) row depth ⌝ }
@@ -60,10 +64,10 @@ pub fn failing(
 
 // Whether the branch at the row, settled, would fail. The copy that it is settled in stands in this frame alone.
 pub fn tried(
-    rows: &[u32; 1024],
-    state: &[u32; 4096],
+    rows: &[u32; ROWS_WORDS],
+    state: &[u32; STATE_SIZE],
     row: usize,
-    env: &[u32; 80],
+    env: &[u32; ENV_WORDS],
     depth: usize,
 ) -> bool
     requires { ⌜ Fine (now rows) row depth ⌝ }
@@ -76,10 +80,10 @@ pub fn tried(
 // The branch at the row, evaluated and normalised; whether it fails. What has strided more than once does not, so failing is asked
 // of a normal form that took one stride alone, and nested branches are not settled twice.
 pub fn settle(
-    rows: &[u32; 1024],
-    state: &mut [u32; 4096],
+    rows: &[u32; ROWS_WORDS],
+    state: &mut [u32; STATE_SIZE],
     row: usize,
-    env: &[u32; 80],
+    env: &[u32; ENV_WORDS],
     depth: usize,
 ) -> bool
     requires { ⌜ Fine (now rows) row depth ⌝ }
@@ -95,10 +99,10 @@ pub fn settle(
 
 // Strides until one does not move; their number, the last included.
 pub fn normalise(
-    rows: &[u32; 1024],
-    state: &mut [u32; 4096],
+    rows: &[u32; ROWS_WORDS],
+    state: &mut [u32; STATE_SIZE],
     row: usize,
-    env: &[u32; 80],
+    env: &[u32; ENV_WORDS],
     depth: usize,
 ) -> u32
     requires { ⌜ Fine (now rows) row depth ⌝ }
@@ -117,10 +121,10 @@ pub fn normalise(
 
 // One stride of the task at the row; whether it moved, that is, changed the task or the store.
 pub fn stride(
-    rows: &[u32; 1024],
-    state: &mut [u32; 4096],
+    rows: &[u32; ROWS_WORDS],
+    state: &mut [u32; STATE_SIZE],
     row: usize,
-    env: &[u32; 80],
+    env: &[u32; ENV_WORDS],
     depth: usize,
 ) -> bool
     requires { ⌜ Fine (now rows) row depth ⌝ }
@@ -156,10 +160,10 @@ pub fn stride(
 
 // A choice of kind 47 not yet made, strided: the first part with a value replaces it.
 fn choose(
-    rows: &[u32; 1024],
-    state: &mut [u32; 4096],
+    rows: &[u32; ROWS_WORDS],
+    state: &mut [u32; STATE_SIZE],
     row: usize,
-    env: &[u32; 80],
+    env: &[u32; ENV_WORDS],
     depth: usize,
 ) -> bool
     requires { ⌜ Fine (now rows) row depth × (word (now rows) row 0 ≡ 47) × Unhanded (now rows) (now state) row ⌝ }
@@ -186,10 +190,10 @@ fn choose(
 
 // The right side of the step at the row, evaluated under the value in a copy of the state: unless it fails there, it replaces the step.
 pub fn attempt(
-    rows: &[u32; 1024],
-    state: &mut [u32; 4096],
+    rows: &[u32; ROWS_WORDS],
+    state: &mut [u32; STATE_SIZE],
     row: usize,
-    env: &[u32; 80],
+    env: &[u32; ENV_WORDS],
     depth: usize,
     v: Value,
 ) -> bool

@@ -37,6 +37,10 @@ wordColumns = 12
 abbrev pub actionColumns : ℕ
 actionColumns = 2
 
+-- the byte that ends a line, an event and an entry
+abbrev pub newline : ℕ
+newline = 10
+
 -- the decimal digits of n, at most k of them; 0 has none
 unfoldable pub digits : ℕ → ℕ → List ℕ
 digits zero n = []

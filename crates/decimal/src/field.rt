@@ -21,6 +21,9 @@ pub const WORD_COLUMNS: usize = 12;
 
 pub const ACTION_COLUMNS: usize = 2;
 
+// The byte that ends a line, an event and an entry.
+pub const NEWLINE: u8 = 10;
+
 // The largest word, and the bits of the least one.
 const MOST: u32 = 2147483647;
 

@@ -2,10 +2,9 @@
 -- on and on the view of those that do, on Fronts and on Texts.
 use mathlib.Core.Path.{_≡_, sym, ap, ap₂, _∙_, subst}
 use mathlib.Core.Bool.{Bool, not, cond}
-use mathlib.Core.Logic.{_⊎_, inl, inr, ⊎-elim}
+use mathlib.Core.Logic.{_⊎_, ⊎-elim}
 use mathlib.Core.List.{List, [], _∷_, _++_}
 use Prim.Native.Nat.{ℕ, _+_, _-_, _≤_}
-use native.Mathlib.Nat.{eq-or-lt-of-le}
 use native.Mathlib.Omega.{arith}
 use borrow.Rule.Slice.PartMut.{putMid}
 use lib.ListN.{length, length-append}
@@ -23,14 +22,11 @@ use Rattle.tasks.proofs.Hands.{inside, hands}
 use Rattle.tasks.proofs.Handing.{sits-in, world-in}
 use Rattle.tasks.proofs.Forms.{Unhanded, on-then-before, on-next-before, on-either, on-unpicked, on-no-if, on-no-let, on-failed, on-both}
 use Rattle.cycle.specs.Trying.{TriedOk}
+use Rattle.cycle.proofs.Asking.{two-kinds}
 use Rattle.entries.specs.Entries.{buttonNumber, noKinds, numbersText, listText, under}
 use Rattle.entries.specs.Listing.{Lists, Wrote, Fit, ContentOk, GoesOnOk, EntriesOk}
 use Rattle.entries.proofs.Fronts.{tailOf, lists-after, lists-none}
 use Rattle.entries.proofs.Texts.{lit-text, offer-text, text-after, under-mark, fit-left, fit-right, fit-inner, fit-full}
-
--- one of two kinds
-two-kinds : (k n : ℕ) → k ≤ n → n ≤ k + 1 → (n ≡ k) ⊎ (n ≡ k + 1)
-two-kinds k n h g = ⊎-elim (λ e. inl (sym e)) (λ l. inr (omega arith)) (eq-or-lt-of-le h)
 
 length-more : (p : Path) (m : Mark) → length p + 1 ≡ length (p ++ m ∷ [])
 length-more p m = sym (length-append p (m ∷ []))

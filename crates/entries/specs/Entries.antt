@@ -5,7 +5,7 @@ use mathlib.Core.List.{List, [], _∷_, _++_, map}
 use Prim.Native.Nat.{ℕ, _+_, _*_}
 use lib.IntN.{pos}
 use lib.ListN.{replicate}
-use Rattle.decimal.specs.Field.{written, actionColumns}
+use Rattle.decimal.specs.Field.{written, actionColumns, newline}
 use Rattle.decimal.specs.Path.{Path, pathColumns, writtenPath}
 use Rattle.tophat.specs.Syntax.{maxLeaves}
 use Rattle.tophat.specs.Handling.{Button, continue, left, right}
@@ -49,7 +49,7 @@ kindNumbers (button b) = noKinds
 
 -- path, action and leaf kinds by their numbers
 abbrev pub numbersText : Path → ℕ → List ℕ → List ℕ
-numbersText p a ks = textOf (writtenPath p) ++ fieldsText (a ∷ ks) ++ 10 ∷ []
+numbersText p a ks = textOf (writtenPath p) ++ fieldsText (a ∷ ks) ++ newline ∷ []
 
 unfoldable pub entryText : Entry → List ℕ
 entryText e = numbersText (e .0) (actionNumber (e .1)) (kindNumbers (e .1))

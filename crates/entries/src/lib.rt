@@ -3,14 +3,26 @@
 use cycle::attempt;
 use cycle::tried;
 use decimal::field;
+use decimal::field::ACTION_COLUMNS;
+use decimal::field::NEWLINE;
 use decimal::path;
+use decimal::path::PATH_COLUMNS;
+use rows::MAX_ROWS;
+use rows::ROWS_WORDS;
 use shape::leaf_kinds;
+use state::ENV_WORDS;
+use state::STATE_SIZE;
 use state::get;
 use state::operand;
 use state::read;
 use tasks::enclose;
 use tasks::handed_on;
 use tasks::value;
+use tophat::CONTINUE;
+use tophat::GIVE;
+use tophat::LEFT;
+use tophat::MAX_LEAVES;
+use tophat::RIGHT;
 use typing::row_type;
 ghost use mathlib.Core.Path.{_≡_};
 ghost use mathlib.Core.Bool.{cond};
@@ -25,25 +37,29 @@ ghost use Rattle.entries.specs.Entries.{noKinds, numbersText};
 ghost use Rattle.entries.specs.Listing.{Wrote, AtPath, OneDigit, ContentOk, GoesOnOk, EntriesOk};
 
 // 01: "A list entry is 27 bytes"
-const ENTRY_BYTES: usize = 27;
+pub const ENTRY_BYTES: usize = END_AT + 1;
 
-// The action's numbers.
-const GIVE: u32 = 1;
+// How many bytes of entries a task shows at most.
+pub const LIST_BYTES: usize = MAX_ROWS * ENTRY_BYTES;
 
-const CONTINUE: u32 = 2;
+// Where an entry's fields stand: its action, its four leaf kinds, and byte 10.
+const ACTION_AT: usize = PATH_COLUMNS;
 
-const LEFT: u32 = 3;
+const KIND_1: usize = ACTION_AT + ACTION_COLUMNS;
 
-const RIGHT: u32 = 4;
+const KIND_2: usize = KIND_1 + ACTION_COLUMNS;
+
+const KIND_3: usize = KIND_2 + ACTION_COLUMNS;
+
+const KIND_4: usize = KIND_3 + ACTION_COLUMNS;
+
+const END_AT: usize = KIND_4 + ACTION_COLUMNS;
 
 // What one mark more would add to a path of 16 marks.
 const MOST_UNIT: u32 = 65536;
 
-// The byte that ends an entry.
-const END: u8 = 10;
-
 // An entry at the front of the list, where there is room for it; how many bytes were written.
-fn write_entry(list: &mut [u8], marks: u32, action: u32, kinds: [u32; 4]) -> usize
+fn write_entry(list: &mut [u8], marks: u32, action: u32, kinds: [u32; MAX_LEAVES]) -> usize
     requires { ⌜ (length (pathOf marks) ≤ maxMarks) × (action < 10) × OneDigit kinds ⌝ }
     ensures { λ r. ⌜ Wrote (now (list .entry)) (now (list .exit)) r (numbersText (pathOf marks) action kinds) ⌝ }
 {
@@ -51,12 +67,12 @@ fn write_entry(list: &mut [u8], marks: u32, action: u32, kinds: [u32; 4]) -> usi
         return 0;
     }
     path::write(list, 0, marks);
-    field::write(list, 16, 2, action);
-    field::write(list, 18, 2, kinds[0]);
-    field::write(list, 20, 2, kinds[1]);
-    field::write(list, 22, 2, kinds[2]);
-    field::write(list, 24, 2, kinds[3]);
-    list[26] = END;
+    field::write(list, ACTION_AT, ACTION_COLUMNS, action);
+    field::write(list, KIND_1, ACTION_COLUMNS, kinds[0]);
+    field::write(list, KIND_2, ACTION_COLUMNS, kinds[1]);
+    field::write(list, KIND_3, ACTION_COLUMNS, kinds[2]);
+    field::write(list, KIND_4, ACTION_COLUMNS, kinds[3]);
+    list[END_AT] = NEWLINE;
     ENTRY_BYTES
 }
 
@@ -68,12 +84,12 @@ fn button(list: &mut [u8], marks: u32, action: u32, lit: bool) -> usize
     if !lit {
         return 0;
     }
-    let none = [0u32; 4];
+    let none = [0u32; MAX_LEAVES];
     write_entry(list, marks, action, none)
 }
 
 // The shape of what the editor at the row offers: of its content, of its type row, or of its cell's content.
-fn content(rows: &[u32; 1024], state: &[u32; 4096], row: usize) -> u32
+fn content(rows: &[u32; ROWS_WORDS], state: &[u32; STATE_SIZE], row: usize) -> u32
     requires { ⌜ Fine (now rows) row 0 × (40 ≤ word (now rows) row 0) × (word (now rows) row 0 ≤ 42) ⌝ }
     ensures { λ r. ⌜ ContentOk (now (rows .entry)) (now (state .entry)) row r ⌝ }
 {
@@ -90,7 +106,13 @@ fn content(rows: &[u32; 1024], state: &[u32; 4096], row: usize) -> u32
 }
 
 // The entry of the editor at the row.
-fn offer(rows: &[u32; 1024], state: &[u32; 4096], row: usize, marks: u32, list: &mut [u8]) -> usize
+fn offer(
+    rows: &[u32; ROWS_WORDS],
+    state: &[u32; STATE_SIZE],
+    row: usize,
+    marks: u32,
+    list: &mut [u8],
+) -> usize
     requires { ⌜ Fine (now rows) row 0 × (40 ≤ word (now rows) row 0) × (word (now rows) row 0 ≤ 42) × (length (pathOf marks) ≤ maxMarks) ⌝ }
     ensures { λ r. ⌜ (r ≤ length (now (list .entry))) × ((env : List ℕ) (d : ℕ) → EntriesOk (now (rows .entry)) (now (state .entry)) row env d (pathOf marks) (now (list .entry)) (now (list .exit)) r) ⌝ }
 {
@@ -100,10 +122,10 @@ fn offer(rows: &[u32; 1024], state: &[u32; 4096], row: usize, marks: u32, list: 
 
 // Whether the step at the row shows Continue: A has a value, and B, tried under it in a copy of the state, does not fail.
 fn goes_on(
-    rows: &[u32; 1024],
-    state: &[u32; 4096],
+    rows: &[u32; ROWS_WORDS],
+    state: &[u32; STATE_SIZE],
     row: usize,
-    env: &[u32; 80],
+    env: &[u32; ENV_WORDS],
     depth: usize,
 ) -> bool
     requires { ⌜ Fine (now rows) row depth × (25 ≤ word (now rows) row 0) ⌝ }
@@ -119,10 +141,10 @@ fn goes_on(
 
 // A choice of kind 48 not yet made: Left and Right, each where that branch, settled in a copy of the state, does not fail.
 fn choice(
-    rows: &[u32; 1024],
-    state: &[u32; 4096],
+    rows: &[u32; ROWS_WORDS],
+    state: &[u32; STATE_SIZE],
     row: usize,
-    env: &[u32; 80],
+    env: &[u32; ENV_WORDS],
     depth: usize,
     marks: u32,
     list: &mut [u8],
@@ -139,10 +161,10 @@ fn choice(
 // The entries of the task at the row, each with the path of these marks in front, from the front of the list on; how many bytes they
 // are. What one mark more adds to the path is `unit`.
 pub fn entries(
-    rows: &[u32; 1024],
-    state: &[u32; 4096],
+    rows: &[u32; ROWS_WORDS],
+    state: &[u32; STATE_SIZE],
     row: usize,
-    env: &[u32; 80],
+    env: &[u32; ENV_WORDS],
     depth: usize,
     marks: u32,
     unit: u32,

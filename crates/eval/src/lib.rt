@@ -1,7 +1,10 @@
 // Evaluation of plain expressions, rows of kind 20 to 31, which gives a value and may write cells. Rests on crate value for
 // values and operators, on crate state for the words, and on specs/Contracts of that crate for what evaluation ensures.
-use state::MAX_BINDERS;
+use rows::MAX_BINDERS;
+use rows::ROWS_WORDS;
+use state::ENV_WORDS;
 use state::OWN;
+use state::STATE_SIZE;
 use state::env_get;
 use state::env_put;
 use state::get;
@@ -27,7 +30,13 @@ ghost use Rattle.state.specs.Words.{Pushed};
 ghost use Rattle.state.specs.Contracts.{Fine, EvalOk};
 
 // A constant, or a binder's value: what needs no other row and no state.
-fn constant(rows: &[u32; 1024], row: usize, env: &[u32; 80], depth: usize, kind: u32) -> Value
+fn constant(
+    rows: &[u32; ROWS_WORDS],
+    row: usize,
+    env: &[u32; ENV_WORDS],
+    depth: usize,
+    kind: u32,
+) -> Value
     requires { ⌜ (row < maxRows) × (depth ≤ maxBinders) × (kind ≡ word (now rows) row 0) × (20 ≤ kind) × (kind ≤ 23) ⌝ }
     ensures { λ r. ⌜ ((ws : List ℕ) → EvalOk (now (rows .entry)) ws ws row (now (env .entry)) depth r) ⌝ }
 {
@@ -50,7 +59,7 @@ fn part(a: Value, kind: u32) -> Value
 }
 
 // The values of the binders around, and one more.
-fn pushed(env: &[u32; 80], depth: usize, a: Value) -> [u32; 80]
+fn pushed(env: &[u32; ENV_WORDS], depth: usize, a: Value) -> [u32; ENV_WORDS]
     requires { ⌜ depth < maxBinders ⌝ }
     ensures { λ r. ⌜ Pushed (now (env .entry)) r depth a ⌝ }
 {
@@ -60,10 +69,10 @@ fn pushed(env: &[u32; 80], depth: usize, a: Value) -> [u32; 80]
 }
 
 pub fn eval(
-    rows: &[u32; 1024],
-    state: &mut [u32; 4096],
+    rows: &[u32; ROWS_WORDS],
+    state: &mut [u32; STATE_SIZE],
     row: usize,
-    env: &[u32; 80],
+    env: &[u32; ENV_WORDS],
     depth: usize,
 ) -> Value
     requires { ⌜ Fine (now rows) row depth ⌝ }

@@ -1,7 +1,7 @@
 // Grounds 3 to 7 over rows of words, each over all rows before the next (01, "Grounds in the input").
 
 use ranges;
-use rows;
+use rows::ROWS_WORDS;
 use shape;
 use tophat;
 use typing;
@@ -18,11 +18,10 @@ ghost use Prim.Native.Nat.{_≤_};
 ghost use Rattle.rows.specs.Rows.{maxRows};
 ghost use Rattle.rows.specs.Ground.{groundOfRows};
 ghost use Rattle.grounds.specs.Accepted.{groundOfForm, acceptedRows};
-use crate::table::MAX_ROWS;
-use crate::table::ROW_WORDS;
+use rows::MAX_ROWS;
+use rows::ROW_WORDS;
 
 // 01: "1 to 256 lines", "4 words a row"
-pub const ROWS_WORDS: usize = MAX_ROWS * ROW_WORDS;
 
 // grounds 3 to 6: 0 where none holds
 pub fn ground_of_form(rows: &[u32; ROWS_WORDS], n: usize) -> u32

@@ -4,14 +4,15 @@ ghost use mathlib.Core.Path.{_≡_};
 ghost use mathlib.Core.Bool.{_&&_};
 ghost use Prim.Native.Nat.{_<_, _≤_};
 ghost use lib.Dec.{leb};
-ghost use Rattle.rows.specs.Rows.{maxRows, word, listedAs, listed, truthCell, rowListed, every};
+ghost use Rattle.rows.specs.Rows.{maxRows, listedAs, listed, truthCell, rowListed, every};
 ghost use Rattle.grounds.specs.Table.{askBy, shapeBy};
 use crate::table::Asked;
-use crate::table::MAX_ROWS;
-use crate::table::ROW_WORDS;
 use crate::table::Shaped;
 use crate::table::shape_at;
 use crate::table::word_at;
+use rows::MAX_ROWS;
+use rows::ROW_WORDS;
+use rows::ROWS_WORDS;
 
 fn is_operator(w: u32) -> bool
     ensures { λ r. ⌜ r ≡ (leb 1 w && leb w 8) ⌝ }
@@ -55,7 +56,7 @@ fn shape_listed(s: Shaped, a: u32, b: u32, c: u32) -> bool
     listed_as(t, c)
 }
 
-fn truth_cell(rows: &[u32; MAX_ROWS * ROW_WORDS], i: usize) -> bool
+fn truth_cell(rows: &[u32; ROWS_WORDS], i: usize) -> bool
     requires { ⌜ i < maxRows ⌝ }
     ensures { λ r. ⌜ r ≡ truthCell (now (rows .entry)) i ⌝ }
 {
@@ -72,7 +73,7 @@ fn truth_cell(rows: &[u32; MAX_ROWS * ROW_WORDS], i: usize) -> bool
     word_at(rows, i, 2) <= 1
 }
 
-fn row_listed(rows: &[u32; MAX_ROWS * ROW_WORDS], i: usize) -> bool
+fn row_listed(rows: &[u32; ROWS_WORDS], i: usize) -> bool
     requires { ⌜ i < maxRows ⌝ }
     ensures { λ r. ⌜ r ≡ rowListed (now (rows .entry)) i ⌝ }
 {
@@ -86,7 +87,7 @@ fn row_listed(rows: &[u32; MAX_ROWS * ROW_WORDS], i: usize) -> bool
     truth_cell(rows, i)
 }
 
-pub fn listed(rows: &[u32; MAX_ROWS * ROW_WORDS], n: usize) -> bool
+pub fn listed(rows: &[u32; ROWS_WORDS], n: usize) -> bool
     requires { ⌜ n ≤ maxRows ⌝ }
     ensures { λ r. ⌜ r ≡ every n (rowListed (now (rows .entry))) ⌝ }
 {

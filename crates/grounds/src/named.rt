@@ -9,12 +9,13 @@ ghost use Rattle.rows.specs.Rows.{maxRows, names, count, namesBy, namesIn, nami
 ghost use Rattle.grounds.specs.Table.{askBy, shapeBy};
 ghost use Rattle.grounds.specs.Tables.{stop, More, maxNamings};
 use crate::table::Asked;
-use crate::table::MAX_ROWS;
-use crate::table::ROW_WORDS;
 use crate::table::Shaped;
 use crate::table::names_row;
 use crate::table::shape_at;
 use crate::table::word_at;
+use rows::MAX_ROWS;
+use rows::ROW_WORDS;
+use rows::ROWS_WORDS;
 
 // a count of namings stops here
 const MAX_NAMINGS: u8 = 2;
@@ -47,7 +48,7 @@ fn name_operands(table: &mut [u8; MAX_ROWS], s: Shaped, a: u32, b: u32, c: u32)
     name(table, t, c);
 }
 
-fn name_row(rows: &[u32; MAX_ROWS * ROW_WORDS], table: &mut [u8; MAX_ROWS], j: usize)
+fn name_row(rows: &[u32; ROWS_WORDS], table: &mut [u8; MAX_ROWS], j: usize)
     requires { ⌜ j < maxRows ⌝ }
     ensures { λ r. ⌜ More (now (table .entry)) (now (table .exit)) (λ i. namesIn (now (rows .entry)) i j) ⌝ }
 {
@@ -60,7 +61,7 @@ fn name_row(rows: &[u32; MAX_ROWS * ROW_WORDS], table: &mut [u8; MAX_ROWS], j: u
     name_operands(table, shape_at(rows, j), a, b, c);
 }
 
-fn name_rows(rows: &[u32; MAX_ROWS * ROW_WORDS], table: &mut [u8; MAX_ROWS], n: usize)
+fn name_rows(rows: &[u32; ROWS_WORDS], table: &mut [u8; MAX_ROWS], n: usize)
     requires { ⌜ n ≤ maxRows ⌝ }
     ensures { λ r. ⌜ More (now (table .entry)) (now (table .exit)) (λ i. namings (now (rows .entry)) i n) ⌝ }
 {
@@ -70,7 +71,7 @@ fn name_rows(rows: &[u32; MAX_ROWS * ROW_WORDS], table: &mut [u8; MAX_ROWS], n: 
 }
 
 // row i is named as it must be, where x is its namings by n rows
-fn named_once(rows: &[u32; MAX_ROWS * ROW_WORDS], n: usize, i: usize, x: u8) -> bool
+fn named_once(rows: &[u32; ROWS_WORDS], n: usize, i: usize, x: u8) -> bool
     requires { ⌜ (i < n) × (n ≤ maxRows) × (x ≡ stop maxNamings (namings (now rows) i n)) ⌝ }
     ensures { λ r. ⌜ r ≡ namedOnce (now (rows .entry)) n i ⌝ }
 {
@@ -83,7 +84,7 @@ fn named_once(rows: &[u32; MAX_ROWS * ROW_WORDS], n: usize, i: usize, x: u8) -> 
     x == 1
 }
 
-fn all_named(rows: &[u32; MAX_ROWS * ROW_WORDS], n: usize, table: &[u8; MAX_ROWS]) -> bool
+fn all_named(rows: &[u32; ROWS_WORDS], n: usize, table: &[u8; MAX_ROWS]) -> bool
     requires { ⌜ (n ≤ maxRows) × ((i : ℕ) → i < maxRows → getD (now table) i 0 ≡ stop maxNamings (namings (now rows) i n)) ⌝ }
     ensures { λ r. ⌜ r ≡ every n (namedOnce (now (rows .entry)) n) ⌝ }
 {
@@ -105,7 +106,7 @@ fn last_fits(k: u32) -> bool
     }
 }
 
-pub fn named(rows: &[u32; MAX_ROWS * ROW_WORDS], n: usize) -> bool
+pub fn named(rows: &[u32; ROWS_WORDS], n: usize) -> bool
     requires { ⌜ (1 ≤ n) × (n ≤ maxRows) ⌝ }
     ensures { λ r. ⌜ r ≡ (every n (namedOnce (now (rows .entry)) n) && lastFits (now (rows .entry)) (n - 1)) ⌝ }
 {

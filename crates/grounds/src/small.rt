@@ -10,21 +10,22 @@ ghost use Rattle.grounds.specs.Table.{askBy, aroundBy, shapeBy};
 ghost use Rattle.grounds.specs.Tables.{stop};
 ghost use Rattle.grounds.specs.Counts.{countBy, mostOf, countOf, fewAt, CountsTo};
 use crate::table::Asked;
-use crate::table::MAX_ROWS;
 use crate::table::Owned;
 use crate::table::Puts;
-use crate::table::ROW_WORDS;
 use crate::table::Shaped;
 use crate::table::below;
 use crate::table::names_row;
 use crate::table::shape_at;
 use crate::table::word_at;
+use rows::MAX_ROWS;
+use rows::ROW_WORDS;
+use rows::ROWS_WORDS;
 
-const MAX_LEAVES: u8 = shape::MAX_LEAVES as u8;
+const MAX_LEAVES: u8 = tophat::MAX_LEAVES as u8;
 
-const MAX_BINDERS: u8 = typing::MAX_BINDERS as u8;
+const MAX_BINDERS: u8 = rows::MAX_BINDERS as u8;
 
-const MAX_MARKS: u8 = 16;
+const MAX_MARKS: u8 = rows::MAX_MARKS as u8;
 
 pub enum Counted {
     Leaves,
@@ -147,7 +148,7 @@ fn count_by(w: Counted, s: Shaped, a: u8, b: u8, c: u8) -> u8
 }
 
 // a row's count, or one more than the limit
-fn row_count(rows: &[u32; MAX_ROWS * ROW_WORDS], table: &[u8; MAX_ROWS], i: usize, w: Counted) -> u8
+fn row_count(rows: &[u32; ROWS_WORDS], table: &[u8; MAX_ROWS], i: usize, w: Counted) -> u8
     requires { ⌜ (i < maxRows) × CountsTo w (now rows) (now table) i ⌝ }
     ensures { λ r. ⌜ (r ≡ stop (suc (mostOf w)) (countOf w (now (rows .entry)) i)) × (r ≤ suc (mostOf w)) ⌝ }
 {
@@ -162,7 +163,7 @@ fn row_count(rows: &[u32; MAX_ROWS * ROW_WORDS], table: &[u8; MAX_ROWS], i: usiz
     most + 1
 }
 
-fn few(rows: &[u32; MAX_ROWS * ROW_WORDS], n: usize, w: Counted) -> bool
+fn few(rows: &[u32; ROWS_WORDS], n: usize, w: Counted) -> bool
     requires { ⌜ n ≤ maxRows ⌝ }
     ensures { λ r. ⌜ r ≡ every n (fewAt w (now (rows .entry))) ⌝ }
 {
@@ -178,7 +179,7 @@ fn few(rows: &[u32; MAX_ROWS * ROW_WORDS], n: usize, w: Counted) -> bool
     true
 }
 
-pub fn small(rows: &[u32; MAX_ROWS * ROW_WORDS], n: usize) -> bool
+pub fn small(rows: &[u32; ROWS_WORDS], n: usize) -> bool
     requires { ⌜ n ≤ maxRows ⌝ }
     ensures { λ r. ⌜ r ≡ every n (rowSmall (now (rows .entry))) ⌝ }
 {

@@ -5,17 +5,18 @@ ghost use mathlib.Core.Bool.{_||_};
 ghost use Prim.Native.Nat.{_<_, _≤_};
 ghost use lib.Dec.{eqb};
 ghost use Rattle.rows.specs.Kinds.{Sort, shapeOf};
-ghost use Rattle.rows.specs.Rows.{maxRows, kindAt, opB, sortBy, sorts, sortBelow, sortNumber, sortedAs, sorted, rowSorted, every};
+ghost use Rattle.rows.specs.Rows.{maxRows, kindAt, opB, sortBy, sortBelow, sortNumber, sortedAs, sorted, rowSorted, every};
 ghost use Rattle.grounds.specs.Table.{askBy, shapeBy};
 ghost use Rattle.grounds.specs.Tables.{SortsTo};
 use crate::table::Asked;
-use crate::table::MAX_ROWS;
 use crate::table::Owned;
-use crate::table::ROW_WORDS;
 use crate::table::Shaped;
 use crate::table::below;
 use crate::table::shape_at;
 use crate::table::word_at;
+use rows::MAX_ROWS;
+use rows::ROW_WORDS;
+use rows::ROWS_WORDS;
 
 const TYPE: u8 = 1;
 
@@ -86,7 +87,7 @@ fn shape_sorted(s: Shaped, a: u8, b: u8, c: u8) -> bool
     sorted_as(t, c, b)
 }
 
-fn row_sorted(rows: &[u32; MAX_ROWS * ROW_WORDS], table: &[u8; MAX_ROWS], i: usize) -> bool
+fn row_sorted(rows: &[u32; ROWS_WORDS], table: &[u8; MAX_ROWS], i: usize) -> bool
     requires { ⌜ (i < maxRows) × SortsTo (now rows) (now table) i ⌝ }
     ensures { λ r. ⌜ r ≡ rowSorted (now (rows .entry)) i ⌝ }
 {
@@ -96,7 +97,7 @@ fn row_sorted(rows: &[u32; MAX_ROWS * ROW_WORDS], table: &[u8; MAX_ROWS], i: usi
     shape_sorted(shape_at(rows, i), a, b, c)
 }
 
-fn own_sort(rows: &[u32; MAX_ROWS * ROW_WORDS], table: &[u8; MAX_ROWS], i: usize) -> u8
+fn own_sort(rows: &[u32; ROWS_WORDS], table: &[u8; MAX_ROWS], i: usize) -> u8
     requires { ⌜ (i < maxRows) × SortsTo (now rows) (now table) i ⌝ }
     ensures { λ r. ⌜ r ≡ sortNumber (sortBy (shapeOf (kindAt (now (rows .entry)) i)) (sortBelow (now (rows .entry)) i (opB (now (rows .entry)) i))) ⌝ }
 {
@@ -104,7 +105,7 @@ fn own_sort(rows: &[u32; MAX_ROWS * ROW_WORDS], table: &[u8; MAX_ROWS], i: usize
     sort_by(shape_at(rows, i), b)
 }
 
-pub fn sorted(rows: &[u32; MAX_ROWS * ROW_WORDS], n: usize) -> bool
+pub fn sorted(rows: &[u32; ROWS_WORDS], n: usize) -> bool
     requires { ⌜ n ≤ maxRows ⌝ }
     ensures { λ r. ⌜ r ≡ every n (rowSorted (now (rows .entry))) ⌝ }
 {

@@ -10,10 +10,9 @@ use crate::table::Asked::*;
 use crate::table::Owned::*;
 use crate::table::Puts::*;
 use crate::table::Shaped::*;
-
-pub const MAX_ROWS: usize = typing::ROWS_WORDS / typing::ROW_WORDS;
-
-pub const ROW_WORDS: usize = typing::ROW_WORDS;
+use rows::MAX_ROWS;
+use rows::ROW_WORDS;
+use rows::ROWS_WORDS;
 
 pub enum Asked {
     Unused,
@@ -97,14 +96,14 @@ pub fn names_row(q: Asked) -> bool
     }
 }
 
-pub fn word_at(rows: &[u32; MAX_ROWS * ROW_WORDS], i: usize, k: usize) -> u32
+pub fn word_at(rows: &[u32; ROWS_WORDS], i: usize, k: usize) -> u32
     requires { ⌜ (i < maxRows) × (k < rowWords) ⌝ }
     ensures { λ r. ⌜ r ≡ word (now (rows .entry)) i k ⌝ }
 {
     rows[i * ROW_WORDS + k]
 }
 
-pub fn shape_at(rows: &[u32; MAX_ROWS * ROW_WORDS], i: usize) -> Shaped
+pub fn shape_at(rows: &[u32; ROWS_WORDS], i: usize) -> Shaped
     requires { ⌜ i < maxRows ⌝ }
     ensures { λ r. ⌜ shapeBy r ≡ shapeOf (kindAt (now (rows .entry)) i) ⌝ }
 {

@@ -21,8 +21,8 @@ use Rattle.tophat.proofs.ComputeHandling.{mapTask, atMark, atContinue, unlessFa
 use Rattle.tophat.proofs.Preservation.{option-is, value-type}
 use Rattle.rows.specs.Rows.{word, opA, opB}
 use Rattle.value.specs.declared.Found.{Found}
-use Rattle.value.specs.Values.{asValue, asFound}
-use Rattle.value.proofs.Operators.{differ}
+use Rattle.value.specs.Values.{asFound}
+use Rattle.value.proofs.Meaning.{found-none, found-some}
 use Rattle.state.specs.Holds.{treeOf, Holds, Ran}
 use Rattle.state.specs.Contracts.{ValueOk, Handled, HandleOk}
 use Rattle.state.proofs.Frames.{same-weak, same-row, keeps, clear-kept, holds-kept, Kids, kids-then, kids-next, kids-and, kids-or}
@@ -56,16 +56,6 @@ module _ {X : Type 0} (F : Val → Option X) (G : Unit {0} → Option X) where
   goes-some [] (press left) o v e = no-some e
   goes-some [] (press right) o v e = no-some e
   goes-some (m ∷ p) x o v e = no-some e
-
-found-none : {f : Found} (o : Option Val) → f ≡ asFound o → f .has ≡ false → o ≡ none
-unfolding asFound
-found-none none e n = refl
-found-none (some v) e n = differ (sym (ap (λ f. f .has) e) ∙ n)
-
-found-some : {f : Found} (o : Option Val) → f ≡ asFound o → f .has ≡ true → (v : Val) × (o ≡ some v) × (f .value ≡ asValue v)
-unfolding asFound
-found-some none e n = differ (sym n ∙ ap (λ f. f .has) e)
-found-some (some v) e n = (v, refl, ap (λ f. f .value) e)
 
 -- going_on, way by way
 module _ (rs ws : List ℕ) (i : ℕ) (e : Event) where

@@ -5,9 +5,12 @@ use cycle::attempt;
 use cycle::settle;
 use decimal::path::Front;
 use decimal::path::front_mark;
+use rows::ROWS_WORDS;
+use state::ENV_WORDS;
 use state::ONE;
 use state::OTHER;
 use state::OWN;
+use state::STATE_SIZE;
 use state::get;
 use state::operand;
 use state::put_tag;
@@ -16,6 +19,11 @@ use state::read;
 use tasks::enclose;
 use tasks::handed_on;
 use tasks::value;
+use tophat::CONTINUE;
+use tophat::GIVE;
+use tophat::LEFT;
+use tophat::MAX_LEAVES;
+use tophat::RIGHT;
 use typing::row_type;
 use value::Found;
 use value::Value;
@@ -34,17 +42,8 @@ ghost use Rattle.handle.specs.Taking.{FillOk, GoingOk, PickOk};
 pub struct Event {
     pub path: u32,
     pub action: u32,
-    pub leaves: [u32; 4],
+    pub leaves: [u32; MAX_LEAVES],
 }
-
-// The action's numbers.
-const GIVE: u32 = 1;
-
-const CONTINUE: u32 = 2;
-
-const LEFT: u32 = 3;
-
-const RIGHT: u32 = 4;
 
 // Whether the event is this action at the path's end.
 fn ends(e: Event, action: u32) -> bool
@@ -57,7 +56,7 @@ fn ends(e: Event, action: u32) -> bool
 }
 
 // The value that an event gives an editor of the shape, laid at the row.
-fn fill(state: &mut [u32; 4096], row: usize, tag: u32, shape: u32, e: Event) -> bool
+fn fill(state: &mut [u32; STATE_SIZE], row: usize, tag: u32, shape: u32, e: Event) -> bool
     requires { ⌜ row < maxRows ⌝ }
     ensures { λ r. ⌜ FillOk (now (state .entry)) (now (state .exit)) row tag shape e r ⌝ }
 {
@@ -77,7 +76,7 @@ fn fill(state: &mut [u32; 4096], row: usize, tag: u32, shape: u32, e: Event) -> 
 }
 
 // An editor: its content's type is that of its row's value, of its type row, or of its cell.
-fn edit(rows: &[u32; 1024], state: &mut [u32; 4096], row: usize, e: Event) -> bool
+fn edit(rows: &[u32; ROWS_WORDS], state: &mut [u32; STATE_SIZE], row: usize, e: Event) -> bool
     requires { ⌜ Fine (now rows) row 0 × (40 ≤ word (now rows) row 0) × (word (now rows) row 0 ≤ 42) ⌝ }
     ensures { λ r. ⌜ ((env : List ℕ) (d : ℕ) → HandleOk (now (rows .entry)) (now (state .entry)) (now (state .exit)) row env d (eventPath e) (eventAction e) r) ⌝ }
 {
@@ -113,7 +112,7 @@ fn nothing() -> Found
 }
 
 // The value of the task at the row, if the event is Continue at the path's end.
-fn going_on(rows: &[u32; 1024], state: &[u32; 4096], row: usize, e: Event) -> Found
+fn going_on(rows: &[u32; ROWS_WORDS], state: &[u32; STATE_SIZE], row: usize, e: Event) -> Found
     requires { ⌜ Fine (now rows) row 0 ⌝ }
     ensures { λ r. ⌜ GoingOk (now (rows .entry)) (now (state .entry)) row e r ⌝ }
 {
@@ -125,12 +124,12 @@ fn going_on(rows: &[u32; 1024], state: &[u32; 4096], row: usize, e: Event) -> Fo
 
 // The side at row a of the choice at the row, settled in a copy of the state: unless it fails there, it is picked.
 fn side(
-    rows: &[u32; 1024],
-    state: &mut [u32; 4096],
+    rows: &[u32; ROWS_WORDS],
+    state: &mut [u32; STATE_SIZE],
     row: usize,
     a: usize,
     tag: u32,
-    env: &[u32; 80],
+    env: &[u32; ENV_WORDS],
     depth: usize,
 ) -> bool
     requires { ⌜ (row < maxRows) × Fine (now rows) a depth ⌝ }
@@ -147,10 +146,10 @@ fn side(
 
 // A choice of kind 48 not yet made.
 fn pick(
-    rows: &[u32; 1024],
-    state: &mut [u32; 4096],
+    rows: &[u32; ROWS_WORDS],
+    state: &mut [u32; STATE_SIZE],
     row: usize,
-    env: &[u32; 80],
+    env: &[u32; ENV_WORDS],
     depth: usize,
     e: Event,
 ) -> bool
@@ -177,10 +176,10 @@ fn inside(e: Event, path: u32) -> Event
 
 // Whether the task at the row takes the event.
 pub fn handle(
-    rows: &[u32; 1024],
-    state: &mut [u32; 4096],
+    rows: &[u32; ROWS_WORDS],
+    state: &mut [u32; STATE_SIZE],
     row: usize,
-    env: &[u32; 80],
+    env: &[u32; ENV_WORDS],
     depth: usize,
     e: Event,
 ) -> bool

@@ -100,7 +100,7 @@ unfolding readStore
 no-cells rs ws y = got-some refl (record { long = refl; cells = λ j l. absurd (omega arith); same = same-refl })
 
 module _ {rs y z y₁ : List ℕ} {i : ℕ} where
-  more-cells : {s : Store} {v : Val} → CopyCells rs y z i s → CopyCell rs z y₁ i v → CopyCells rs y y₁ (suc i) (s ++ v ∷ [])
+  pub more-cells : {s : Store} {v : Val} → CopyCells rs y z i s → CopyCell rs z y₁ i v → CopyCells rs y y₁ (suc i) (s ++ v ∷ [])
   more-cells {s} {v} a c = record {
     long = length-append s (v ∷ []) ∙ (let e = a .long in omega arith);
     cells = λ j l k. ⊎-elim (λ (e : j ≡ i). at-end j e k) (λ (h : j < i). before j h k) (eq-or-lt-of-le (le-of-suc-le-suc l));

@@ -1,14 +1,15 @@
--- What `same` and `held` answer: copying goes through and the copy is the same words exactly where the words are the writing
+-- What `alike` and `held` answer: copying goes through and the copy is the same words exactly where the words are the writing
 -- of a well-typed state. Rests on Cells, Copying and crate state's Reading.
 use mathlib.Core.Path.{_≡_, refl, sym, ap, subst, _∙_}
 use mathlib.Core.Bool.{Bool, true, false, false≢true}
 use mathlib.Core.Logic.{inl, inr, ⊎-elim}
 use mathlib.Core.Option.{Option, some}
 use mathlib.Core.List.{List, [], _++_}
-use Prim.Native.Nat.{ℕ, _+_, _*_, _-_, _≤_, _<_}
+use Prim.Native.Nat.{ℕ, _+_, _*_, _-_, _/_, _%_, _≤_, _<_}
+use native.Mathlib.Decide.{decLt}
 use native.Mathlib.Nat.{eq-or-lt-of-le}
 use native.Mathlib.Omega.{arith}
-use lib.ListN.{length, getD, replicate, take}
+use lib.ListN.{length, getD, replicate, take, length-take, List·getD-eq-default}
 use lib.Seq.{ext-getD, length-take-le}
 use Rattle.ranges.proofs.Ranges.{nothing}
 use Rattle.tophat.specs.Syntax.{TaskOf, Store}
@@ -24,22 +25,18 @@ use Rattle.rows.proofs.TreesAgree.{cells-are}
 use Rattle.rows.proofs.Accepted.{Accepted}
 use Rattle.typing.proofs.Cells.{cell-known}
 use Rattle.value.specs.Fits.{Got, got-none, got-some}
-use Rattle.state.specs.Holds.{treeOf, Row, Clear}
-use Rattle.state.specs.Layout.{stateWords}
+use Rattle.state.specs.Holds.{treeOf, Row, Clear, Same}
+use Rattle.state.specs.Layout.{stateWords, place}
 use Rattle.state.specs.Reading.{readTask, readStore, decode}
 use Rattle.state.proofs.Words.{zeroWords}
 use Rattle.state.proofs.Frames.{same-row, foot-cell}
-use Rattle.state.proofs.Encode.{Writing, writing-one, writing-same, padded-same, taken-same}
+use Rattle.state.proofs.Encode.{Writing, zero-row, writing-one, writing-same, padded-same, taken-same}
 use Rattle.state.proofs.SitsOf.{last-sits, within, state-writing, state-is}
 use Rattle.state.proofs.Reading.{read-typed, holds-read, store-typed, stores-read, decode-sound, decode-is}
 use Rattle.held.specs.Copies.{Sheet, Site, Copy, CopyOk, CopyCells, CellsOk}
-use Rattle.held.specs.States.{Answer, State, HeldOk}
+use Rattle.held.specs.States.{Answer, State, Alike, Ends, HeldOk}
 
 -- ---- the same words
-
--- alike below k
-abbrev pub Alike : List ℕ → List ℕ → ℕ → Type 0
-Alike x y k = (j : ℕ) → j < k → getD x j 0 ≡ getD y j 0
 
 pub alike-none : (x y : List ℕ) → Alike x y 0
 alike-none x y j l = absurd (omega arith)
@@ -47,11 +44,26 @@ alike-none x y j l = absurd (omega arith)
 pub alike-more : (x y : List ℕ) (k : ℕ) → Alike x y k → getD x k 0 ≡ getD y k 0 → Alike x y (k + 1)
 alike-more x y k h e j l = ⊎-elim (λ (q : j ≡ k). ap (λ m. getD x m 0) q ∙ e ∙ sym (ap (λ m. getD y m 0) q)) (λ (q : j < k). h j q) (eq-or-lt-of-le (let m : j ≤ k = omega arith in m))
 
-pub same-yes : (x y : List ℕ) (k : ℕ) → length x ≡ 4096 → length y ≡ 4096 → Alike x y k → 4096 ≤ k → Answer true (x ≡ y)
-same-yes x y k l m h g = record { pos = λ _. ext-getD 0 x y (l ∙ sym m) (λ j q. h j (omega arith)); neg = λ e. absurd (false≢true (sym e)) }
+pub alike-yes : (x y : List ℕ) (k m : ℕ) → Alike x y k → m ≤ k → Answer true (Alike x y m)
+alike-yes x y k m h g = record { pos = λ _ j q. h j (omega arith); neg = λ e. absurd (false≢true (sym e)) }
 
-pub same-no : (x y : List ℕ) (k : ℕ) → (getD x k 0 ≡ getD y k 0 → ⊥) → Answer false (x ≡ y)
-same-no x y k n = record { pos = λ e. absurd (false≢true e); neg = λ _ e. n (ap (λ z. getD z k 0) e) }
+pub alike-no : (x y : List ℕ) (k m : ℕ) → k < m → (getD x k 0 ≡ getD y k 0 → ⊥) → Answer false (Alike x y m)
+alike-no x y k m l n = record { pos = λ e. absurd (false≢true e); neg = λ _ h. n (h k l) }
+
+-- words that are the same in n rows, and zeros after them
+alike-all : {x y : List ℕ} (n : ℕ) → length x ≡ length y → Ends n x → Ends n y → Alike x y (n * stateWords) → x ≡ y
+alike-all {x} {y} n l p q h = ext-getD 0 x y l (λ j _. by j (decLt j (n * stateWords)))
+  where
+    by : (j : ℕ) → Dec (j < n * stateWords) → getD x j 0 ≡ getD y j 0
+    by j (yes k) = h j k
+    by j (no k) = p j (omega arith) ∙ sym (q j (omega arith))
+
+-- words that are those of n rows alone
+same-ends : {y : List ℕ} (n : ℕ) → Same (λ j. ⊥) y (take (n * stateWords) y) → Ends n y
+same-ends {y} n s k h =
+    let e : k ≡ place (k / stateWords) (k % stateWords) = omega arith in
+    let l = length-take (n * stateWords) y in
+    ap (λ z. getD y z 0) e ∙ sym (s .words (k / stateWords) (k % stateWords) (omega arith) (λ z. z)) ∙ List·getD-eq-default (take (n * stateWords) y) 0 (omega arith)
 
 -- ---- states
 
@@ -120,34 +132,42 @@ module _ (rs : List ℕ) (n : ℕ) (ws : List ℕ) (l : 1 ≤ n) (a : Accepted r
         no-task : p ≡ false → State rs n a ws → ⊥
         no-task h st = nothing-there h tasks (task-there st)
 
+-- words of zeros have no live row
+pub zero-rows : {zs : List ℕ} (n : ℕ) → zs ≡ zeroWords n → (j : ℕ) → Row zs j []
+zero-rows n e j = subst (λ zs. Row zs j []) (sym e) (zero-row n j)
+
 -- what `held` returns
 module _ {rs ws zs y : List ℕ} {n : ℕ} {q : Bool} (l : 1 ≤ n) (zero : (j : ℕ) → Row zs j []) (cells : CellsOk rs ws zs y n q) where
-  pub held-no-cells : q ≡ false → HeldOk rs n ws false
-  held-no-cells e a rest = record { pos = λ z. absurd (false≢true z); neg = λ _ st. no-store rs n ws l a rest zero cells e st }
+  pub held-no-cells : q ≡ false → HeldOk rs n ws y false
+  held-no-cells e a rest = (record { pos = λ z. absurd (false≢true z); neg = λ _ st. no-store rs n ws l a rest zero cells e st }, λ z. absurd (false≢true z))
 
   module _ (e : q ≡ true) {y₁ : List ℕ} {p : Bool} (ok : CopyOk rs ws y y₁ (n - 1) (replicate maxBinders 0) 0 p) where
-    pub held-no-task : p ≡ false → HeldOk rs n ws false
-    held-no-task h a rest = record { pos = λ z. absurd (false≢true z); neg = λ _ st. no-task rs n ws l a rest zero cells e ok h st }
+    pub held-no-task : p ≡ false → HeldOk rs n ws y₁ false
+    held-no-task h a rest = (record { pos = λ z. absurd (false≢true z); neg = λ _ st. no-task rs n ws l a rest zero cells e ok h st }, λ z. absurd (false≢true z))
 
-    pub held-same : {r : Bool} → p ≡ true → length ws ≡ length y₁ → Answer r (ws ≡ y₁) → HeldOk rs n ws r
-    held-same {r} h m s a rest =
+    pub held-same : {r : Bool} → p ≡ true → Ends n ws → length ws ≡ length y₁ → Answer r (Alike ws y₁ (n * stateWords)) → HeldOk rs n ws y₁ r
+    held-same {r} h d m s a rest =
         let k = taken e cells in
         let t = taken h (tasks rs n ws l a rest zero cells e ok) in
         let w = written rs n ws l a rest zero (k .has) (t .has) in
-        record {
-          pos = λ z. record {
-            task = t .val;
-            store = k .val;
-            typed = read-typed rs ws (n - 1) (a .flow .typed) (t .is);
-            stored = subst (ValueTypes (k .val)) (sym (types rs n ws l a rest)) (store-typed rs ws n (k .is));
-            writing = subst (Writing rs (n - 1) (a .code) (t .val) (k .val)) (sym (s .pos z)) w;
-          };
-          neg = λ z st.
-              let x : t .val ≡ st .task = some-is (sym (t .is) ∙ task-there rs n ws l a rest st) in
-              let v : k .val ≡ st .store = some-is (sym (k .is) ∙ store-there rs n ws l a rest st) in
-              let w₁ = subst (λ s. Writing rs (n - 1) (a .code) (st .task) s y₁) v (subst (λ t. Writing rs (n - 1) (a .code) t (k .val) y₁) x w) in
-              s .neg z (writing-one m (st .writing) w₁);
-        }
+        let ends = same-ends n (taken-same 0 (within rs n a rest) (last-sits rs n a) w) in
+        let whole : r ≡ true → ws ≡ y₁ = λ z. alike-all n m d ends (s .pos z) in (
+          record {
+            pos = λ z. record {
+              task = t .val;
+              store = k .val;
+              typed = read-typed rs ws (n - 1) (a .flow .typed) (t .is);
+              stored = subst (ValueTypes (k .val)) (sym (types rs n ws l a rest)) (store-typed rs ws n (k .is));
+              writing = subst (Writing rs (n - 1) (a .code) (t .val) (k .val)) (sym (whole z)) w;
+            };
+            neg = λ z st.
+                let x : t .val ≡ st .task = some-is (sym (t .is) ∙ task-there rs n ws l a rest st) in
+                let v : k .val ≡ st .store = some-is (sym (k .is) ∙ store-there rs n ws l a rest st) in
+                let w₁ = subst (λ s. Writing rs (n - 1) (a .code) (st .task) s y₁) v (subst (λ t. Writing rs (n - 1) (a .code) t (k .val) y₁) x w) in
+                s .neg z (λ j _. ap (λ v. getD v j 0) (writing-one m (st .writing) w₁));
+          },
+          λ z. sym (whole z),
+        )
 
 -- ---- the words of n rows
 
@@ -165,3 +185,11 @@ module _ {rs : List ℕ} {n : ℕ} (a : Accepted rs n) (ws : List ℕ) (rest : (
       let w = decode-sound rs n a ws e in
       let v : Writing rs (n - 1) (a .code) t s ws = subst (Writing rs (n - 1) (a .code) t s) (sym (w .writing)) (state-writing rs n a rest (w .typed) (w .stored) .0) in
       record { task = t; store = s; typed = w .typed; stored = w .stored; writing = writing-same (padded-same ws m) v }
+
+-- ---- words that are no state are given up
+
+pub held-yes : {rs ws y : List ℕ} {n : ℕ} {r : Bool} {A : Type 0} → HeldOk rs n ws y r → r ≡ true → HeldOk rs n ws y true × (true ≡ false → A)
+held-yes {rs} {ws} {y} {n} h e = (subst (HeldOk rs n ws y) e h, (λ z. absurd (false≢true (sym z))))
+
+pub held-no : {rs ws y z : List ℕ} {n : ℕ} {r : Bool} → HeldOk rs n ws y r → r ≡ false → HeldOk rs n ws z false
+held-no {rs} {ws} {y} {n = n} h e a past = (subst (HeldOk rs n ws y) e h a past .0, (λ z. absurd (false≢true z)))

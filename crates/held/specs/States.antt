@@ -3,11 +3,13 @@
 use mathlib.Core.Path.{_≡_}
 use mathlib.Core.Bool.{Bool, true, false}
 use mathlib.Core.List.{List, []}
-use Prim.Native.Nat.{ℕ, _-_, _≤_}
+use Prim.Native.Nat.{ℕ, _*_, _-_, _≤_, _<_}
+use lib.ListN.{getD, replicate}
 use Rattle.tophat.specs.Syntax.{Store, TaskOf}
 use Rattle.tophat.specs.Typing.{ValueTypes, TaskType}
-use Rattle.rows.specs.Rows.{word}
+use Rattle.rows.specs.Rows.{maxRows, word}
 use Rattle.rows.proofs.Accepted.{Accepted}
+use Rattle.state.specs.Layout.{stateWords}
 use Rattle.state.proofs.Encode.{Writing}
 
 -- a test's answer decides X
@@ -23,6 +25,18 @@ pub record State (rs : List ℕ) (n : ℕ) (a : Accepted rs n) (ws : List ℕ) :
   pub stored : ValueTypes store (a .cells)
   pub writing : Writing rs (n - 1) (a .code) task store ws
 
--- n rows in an array whose other rows are of kind 0
-abbrev pub HeldOk : List ℕ → ℕ → List ℕ → Bool → Type 0
-HeldOk rs n ws r = (a : Accepted rs n) → ((j : ℕ) → n ≤ j → word rs j 0 ≡ 0) → Answer r (State rs n a ws)
+-- the first m words are the same
+abbrev pub Alike : List ℕ → List ℕ → ℕ → Type 0
+Alike x y m = (j : ℕ) → j < m → getD x j 0 ≡ getD y j 0
+
+-- zeros after the words of n rows
+abbrev pub Ends : ℕ → List ℕ → Type 0
+Ends n ws = (k : ℕ) → n * stateWords ≤ k → getD ws k 0 ≡ 0
+
+-- the words of n rows, and zeros to write them into
+abbrev pub Lent : ℕ → List ℕ → List ℕ → Type 0
+Lent n ws y = Ends n ws × (y ≡ replicate (maxRows * stateWords) 0)
+
+-- n rows in an array whose other rows are of kind 0; where the words are a state, they are written once more in y
+abbrev pub HeldOk : List ℕ → ℕ → List ℕ → List ℕ → Bool → Type 0
+HeldOk rs n ws y r = (a : Accepted rs n) → ((j : ℕ) → n ≤ j → word rs j 0 ≡ 0) → Answer r (State rs n a ws) × (r ≡ true → y ≡ ws)

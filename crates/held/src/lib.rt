@@ -1,10 +1,16 @@
 // Are the words of a state the writing of a well-typed task and store of the rows? The cells and the task of the last row are
 // read from the words, each content by its row's type, and written again into words of zeros: these must be the same words.
+use rows::CELL;
+use rows::MAX_ROWS;
+use rows::ROW_WORDS;
+use rows::ROWS_WORDS;
 use shape::NUMBER;
 use shape::TRUTH;
 use state::ONE;
 use state::OTHER;
 use state::OWN;
+use state::STATE_SIZE;
+use state::STATE_WORDS;
 use state::get;
 use state::operand;
 use state::put_tag;
@@ -16,14 +22,15 @@ use typing::row_type;
 use value::fits;
 ghost use mathlib.Core.Path.{_≡_};
 ghost use mathlib.Core.Bool.{true, false, cond};
-ghost use Prim.Native.Nat.{ℕ, _-_, _<_, _≤_};
+ghost use Prim.Native.Nat.{_*_, _-_, _<_, _≤_};
 ghost use lib.Dec.{eqb};
-ghost use lib.ListN.{length};
+ghost use lib.ListN.{length, replicate};
 ghost use Rattle.rows.specs.Rows.{maxRows, rowWords, word, opA};
+ghost use Rattle.state.specs.Layout.{stateWords};
 ghost use Rattle.state.specs.Contracts.{Fine};
 ghost use Rattle.held.specs.Parts.{tagged, partFrom, partOf, Lower};
 ghost use Rattle.held.specs.Copies.{CopyOk, ValueOk, CellOk, CellsOk};
-ghost use Rattle.held.specs.States.{Answer, HeldOk};
+ghost use Rattle.held.specs.States.{Answer, Alike, Lent, HeldOk};
 
 // What reading does with a state row, and the rows that it then reads.
 pub enum Part {
@@ -34,9 +41,6 @@ pub enum Part {
     Bound(usize, usize),
     Two(usize, usize),
 }
-
-// The kind of a cell.
-const CELL: u32 = 10;
 
 fn by_tag(tag: u32, p: Part, q: Part, r: Part) -> Part
     ensures { λ s. ⌜ s ≡ tagged tag p q r ⌝ }
@@ -70,7 +74,7 @@ fn part_from(kind: u32, tag: u32, a: usize, b: usize, c: usize) -> Part
     }
 }
 
-fn part_at(rows: &[u32; 1024], row: usize, tag: u32) -> Part
+fn part_at(rows: &[u32; ROWS_WORDS], row: usize, tag: u32) -> Part
     requires { ⌜ Fine (now rows) row 0 ⌝ }
     ensures { λ r. ⌜ (r ≡ partOf (now (rows .entry)) row tag) × Lower r row ⌝ }
 {
@@ -82,7 +86,13 @@ fn part_at(rows: &[u32; 1024], row: usize, tag: u32) -> Part
 }
 
 // The row's value, if it is of the type with that shape.
-fn copy_value(state: &[u32; 4096], work: &mut [u32; 4096], row: usize, tag: u32, shape: u32) -> bool
+fn copy_value(
+    state: &[u32; STATE_SIZE],
+    work: &mut [u32; STATE_SIZE],
+    row: usize,
+    tag: u32,
+    shape: u32,
+) -> bool
     requires { ⌜ row < maxRows ⌝ }
     ensures { λ r. ⌜ ValueOk (now (state .entry)) (now (work .entry)) (now (work .exit)) row tag shape r ⌝ }
 {
@@ -96,9 +106,9 @@ fn copy_value(state: &[u32; 4096], work: &mut [u32; 4096], row: usize, tag: u32,
 
 // The task of the row, under binders whose shapes env holds.
 fn copy_task(
-    rows: &[u32; 1024],
-    state: &[u32; 4096],
-    work: &mut [u32; 4096],
+    rows: &[u32; ROWS_WORDS],
+    state: &[u32; STATE_SIZE],
+    work: &mut [u32; STATE_SIZE],
     row: usize,
     env: [u32; 16],
     depth: usize,
@@ -148,14 +158,14 @@ fn word_of(rows: &[u32], row: usize, k: usize) -> u32
     requires { ⌜ (length (now rows) ≡ 1024) × (k < rowWords) ⌝ }
     ensures { λ r. ⌜ r ≡ word (now (rows .entry)) row k ⌝ }
 {
-    if row < 256 {
-        return rows[row * 4 + k];
+    if row < MAX_ROWS {
+        return rows[row * ROW_WORDS + k];
     }
     0
 }
 
 // The shape of what a cell holds.
-fn cell_shape(rows: &[u32; 1024], row: usize) -> u32
+pub fn cell_shape(rows: &[u32; ROWS_WORDS], row: usize) -> u32
     requires { ⌜ row < maxRows ⌝ }
     ensures { λ r. ⌜ r ≡ cond (eqb (word (now (rows .entry)) (opA (now (rows .entry)) row) 0) 2) 2 3 ⌝ }
 {
@@ -167,7 +177,12 @@ fn cell_shape(rows: &[u32; 1024], row: usize) -> u32
 }
 
 // The row's content, if it is a cell.
-fn copy_cell(rows: &[u32; 1024], row: usize, state: &[u32; 4096], work: &mut [u32; 4096]) -> bool
+fn copy_cell(
+    rows: &[u32; ROWS_WORDS],
+    row: usize,
+    state: &[u32; STATE_SIZE],
+    work: &mut [u32; STATE_SIZE],
+) -> bool
     requires { ⌜ row < maxRows ⌝ }
     ensures { λ r. ⌜ CellOk (now (rows .entry)) (now (state .entry)) (now (work .entry)) (now (work .exit)) row r ⌝ }
 {
@@ -179,7 +194,12 @@ fn copy_cell(rows: &[u32; 1024], row: usize, state: &[u32; 4096], work: &mut [u3
 }
 
 // The cells among the first n rows.
-fn copy_cells(rows: &[u32; 1024], n: usize, state: &[u32; 4096], work: &mut [u32; 4096]) -> bool
+fn copy_cells(
+    rows: &[u32; ROWS_WORDS],
+    n: usize,
+    state: &[u32; STATE_SIZE],
+    work: &mut [u32; STATE_SIZE],
+) -> bool
     requires { ⌜ n ≤ maxRows ⌝ }
     ensures { λ r. ⌜ CellsOk (now (rows .entry)) (now (state .entry)) (now (work .entry)) (now (work .exit)) n r ⌝ }
 {
@@ -191,11 +211,12 @@ fn copy_cells(rows: &[u32; 1024], n: usize, state: &[u32; 4096], work: &mut [u32
     true
 }
 
-fn alike(x: &[u32], y: &[u32]) -> bool
-    requires { ⌜ (length (now x) ≡ 4096) × (length (now y) ≡ 4096) ⌝ }
-    ensures { λ r. ⌜ Answer r (now (x .entry) ≡ now (y .entry)) ⌝ }
+// Are the first m words the same?
+fn alike(x: &[u32], y: &[u32], m: usize) -> bool
+    requires { ⌜ (m ≤ length (now x)) × (m ≤ length (now y)) ⌝ }
+    ensures { λ r. ⌜ Answer r (Alike (now (x .entry)) (now (y .entry)) m) ⌝ }
 {
-    for k in 0..4096 {
+    for k in 0..m {
         if x[k] != y[k] {
             return false;
         }
@@ -203,26 +224,43 @@ fn alike(x: &[u32], y: &[u32]) -> bool
     true
 }
 
-// Are they the same words? Arrays are as long as their types say.
-fn same(x: &[u32; 4096], y: &[u32; 4096]) -> bool
-    ensures { λ r. ⌜ Answer r (now (x .entry) ≡ now (y .entry)) ⌝ }
-    ensures { λ r. ⌜ length (now (x .entry)) ≡ length (now (y .entry)) ⌝ }
-{
-    alike(x, y)
-}
-
-// Is the state the writing of a well-typed task and store of the n rows?
-pub fn held(rows: &[u32; 1024], n: usize, state: &[u32; 4096]) -> bool
+// Reads the state and writes it into `work`: is it so written?
+fn written(
+    rows: &[u32; ROWS_WORDS],
+    n: usize,
+    state: &[u32; STATE_SIZE],
+    work: &mut [u32; STATE_SIZE],
+) -> bool
     requires { ⌜ (1 ≤ n) × Fine (now rows) (n - 1) 0 ⌝ }
-    ensures { λ r. ⌜ HeldOk (now (rows .entry)) n (now (state .entry)) r ⌝ }
+    requires { ⌜ Lent n (now state) (now work) ⌝ }
+    ensures { λ r. ⌜ HeldOk (now (rows .entry)) n (now (state .entry)) (now (work .exit)) r ⌝ }
 {
-    let mut work = [0u32; 4096];
-    if copy_cells(rows, n, state, &mut work) {
+    if copy_cells(rows, n, state, work) {
         let none = [0u32; 16];
-        if copy_task(rows, state, &mut work, n - 1, none, 0) {
-            return same(state, &work);
+        if copy_task(rows, state, work, n - 1, none, 0) {
+            return alike(state, work, n * STATE_WORDS);
         }
         return false;
     }
+    false
+}
+
+// Is the state the writing of a well-typed task and store of the n rows? Where it is, `work` holds the same words at exit, else
+// zeros, as at entry.
+pub fn held(
+    rows: &[u32; ROWS_WORDS],
+    n: usize,
+    state: &[u32; STATE_SIZE],
+    work: &mut [u32; STATE_SIZE],
+) -> bool
+    requires { ⌜ (1 ≤ n) × Fine (now rows) (n - 1) 0 ⌝ }
+    requires { ⌜ Lent n (now state) (now work) ⌝ }
+    ensures { λ r. ⌜ HeldOk (now (rows .entry)) n (now (state .entry)) (now (work .exit)) r ⌝ }
+    ensures { λ r. ⌜ (r ≡ false → now (work .exit) ≡ replicate (maxRows * stateWords) 0) ⌝ }
+{
+    if written(rows, n, state, work) {
+        return true;
+    }
+    *work = [0u32; STATE_SIZE];
     false
 }

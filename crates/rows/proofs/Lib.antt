@@ -19,6 +19,7 @@ pub mod CellsAt
 pub mod Cases
 pub mod TaskFoot
 pub mod TreeSum
+pub mod Totals
 pub mod Moves
 pub mod LowWords
 pub mod Accepted

@@ -1,113 +1,97 @@
 -- The code of rows that keep the naming rule has as many steps and internal choices as there are rows of kind 43 and 47.
--- Rests on TreeSum and CodeRead.
-use mathlib.Core.Path.{_≡_, refl, sym, ap, ap₂, subst, _∙_}
-use mathlib.Core.Bool.{Bool, true, false, _||_, cond}
-use mathlib.Core.Option.{Option, none, some}
+-- Rests on Totals.
+use mathlib.Core.Path.{_≡_, refl, sym, ap, _∙_}
+use mathlib.Core.Bool.{Bool, true, false, _||_}
 use mathlib.Core.List.{List}
 use Prim.Native.Nat.{ℕ, zero, suc, _+_, _-_, _<_, _≤_}
 use native.Mathlib.Omega.{arith}
 use lib.Dec.{eqb}
 use borrow.Author.Tests.{ne-eqb}
-use Rattle.tophat.specs.Syntax.{Ty, Exp, Code, moves}
-use Rattle.rows.specs.Kinds.{Kind, shapeOf, cellK, eunitK, etruthK, enumberK, ebinderK, eopK, ifK, epairK, efstK, esndK, ederefK, eassignK, letK}
+use Rattle.tophat.specs.Syntax.{Exp, Code, edit, enter, update, then, next, fail, and, or, xor, if, let', moves}
+use Rattle.rows.specs.Kinds.{cellK, eunitK, etruthK, enumberK, ebinderK, eopK, ifK, epairK, efstK, esndK, ederefK, eassignK, letK}
 use Rattle.rows.specs.Kinds.{editK, enterK, updateK, thenK, nextK, failK, andK, orK, xorK, Sort}
-use Rattle.rows.specs.Rows.{word, kindAt, opA, opB, opC, names, count, movers}
-use Rattle.rows.specs.Trees.{ReadsType, ReadsCell, r-cell}
-use Rattle.rows.specs.Trees.{ReadsExp, r-eunit, r-etruth, r-enumber, r-ebinder, r-eop, r-eif, r-epair, r-efst, r-esnd, r-ederef, r-eassign, r-elet}
+use Rattle.rows.specs.Rows.{word, count, movers}
+use Rattle.rows.specs.Trees.{r-cell, ReadsExp, r-eunit, r-etruth, r-enumber, r-ebinder, r-eop, r-eif, r-epair, r-efst, r-esnd, r-ederef, r-eassign, r-elet}
 use Rattle.rows.specs.Trees.{ReadsCode, r-edit, r-enter, r-update, r-then, r-next, r-fail, r-and, r-or, r-xor, r-if, r-let}
-use Rattle.rows.specs.ComputeTrees.{codeAt}
 use Rattle.rows.proofs.KindNumbers.{kindNumber, kind-is}
-use Rattle.rows.proofs.TreesAgree.{code-is}
 use Rattle.rows.proofs.Exists.{Has, has-type, has-basic, has-cell, has-plain, has-task, Sorted, exists}
-use Rattle.rows.proofs.CodeRead.{type-none, cell-none, exp-none}
-use Rattle.rows.proofs.Places.{placeA, placeB, placeC, askAt, type-low}
+use Rattle.rows.proofs.Places.{type-low}
 use Rattle.rows.proofs.Named.{NamedOnce}
-use Rattle.rows.proofs.TaskFoot.{code-high}
-use Rattle.rows.proofs.TreeSum.{sumTo, sumBelow, tree-sum}
+use Rattle.rows.proofs.TreeSum.{sumTo, sum-same}
+use Rattle.rows.proofs.Totals.{parts, Adds, shareAt, code-total, type-total, cell-total, exp-total, total-is}
 
--- a row's own share, and what it names, by its kind
+-- the share of a code, and of a row's kind
+unfoldable share : Code → ℕ
+share (edit x) = 0
+share (enter τ) = 0
+share (update k) = 0
+share (then a b) = 1
+share (next a b) = 0
+share (fail τ) = 0
+share (and a b) = 0
+share (or a b) = 1
+share (xor a b) = 0
+share (if x a b) = 0
+share (let' x b) = 0
+
 abbrev shareOf : ℕ → ℕ
 shareOf w = count (eqb w 43 || eqb w 47)
 
-abbrev belowBy : Kind → ℕ → ℕ → ℕ → ℕ
-belowBy k a b c = cond (names (askAt (shapeOf k) placeA)) a 0 + cond (names (askAt (shapeOf k) placeB)) b 0 + cond (names (askAt (shapeOf k) placeC)) c 0
+adds : Adds moves share
+unfolding moves share parts
+adds (edit x) = refl
+adds (enter τ) = refl
+adds (update k) = refl
+adds (then a b) = omega arith
+adds (next a b) = omega arith
+adds (fail τ) = refl
+adds (and a b) = omega arith
+adds (or a b) = omega arith
+adds (xor a b) = omega arith
+adds (if x a b) = omega arith
+adds (let' x b) = omega arith
 
-unfoldable movesOf : Option Code → ℕ
-movesOf none = 0
-movesOf (some c) = moves c
+low-share : (w : ℕ) → w < 20 → 0 ≡ shareOf w
+low-share w h = sym (rw (ne-eqb w 43 (λ e. omega arith), ne-eqb w 47 (λ e. omega arith)))
 
-module _ (rs : List ℕ) (n : ℕ) where
-  -- the moves of row i's code, 0 where it is none
-  unfoldable movesAt : ℕ → ℕ
-  movesAt i = movesOf (codeAt rs n i)
-
-  code-moves : {i : ℕ} {c : Code} → i < n → ReadsCode rs i c → movesAt i ≡ moves c
-  unfolding movesAt movesOf
-  code-moves l d = ap movesOf (code-is d n l)
-
-  type-moves : {i : ℕ} {τ : Ty} → ReadsType rs i τ → movesAt i ≡ 0
-  unfolding movesAt movesOf
-  type-moves d = ap movesOf (type-none n d)
-
-  cell-moves : {i : ℕ} {τ : Ty} → ReadsCell rs i τ → movesAt i ≡ 0
-  unfolding movesAt movesOf
-  cell-moves d = ap movesOf (cell-none n d)
-
-  exp-moves : {i : ℕ} {a : Exp} → ReadsExp rs i a → movesAt i ≡ 0
-  unfolding movesAt movesOf
-  exp-moves d = ap movesOf (exp-none n d)
-
-  row : (i : ℕ) (k : Kind) → kindAt rs i ≡ k → kindNumber k < 49 → movesAt i ≡ shareOf (kindNumber k) + belowBy k (movesAt (opA rs i)) (movesAt (opB rs i)) (movesAt (opC rs i))
-      → movesAt i ≡ shareOf (word rs i 0) + sumBelow rs movesAt i
-  row i k e l h = h ∙ sym (ap₂ _+_ (ap shareOf (kind-is (word rs i 0) k e l)) (ap (λ k. belowBy k (movesAt (opA rs i)) (movesAt (opB rs i)) (movesAt (opC rs i))) e))
-
-  exp-row : {i : ℕ} {a : Exp} → movesAt i ≡ 0 → ReadsExp rs i a → movesAt i ≡ shareOf (word rs i 0) + sumBelow rs movesAt i
-  unfolding kindNumber names
-  exp-row {i} z (r-eunit k) = row i eunitK k (omega arith) (omega arith)
-  exp-row {i} z (r-etruth k) = row i etruthK k (omega arith) (omega arith)
-  exp-row {i} z (r-enumber k) = row i enumberK k (omega arith) (omega arith)
-  exp-row {i} z (r-ebinder k) = row i ebinderK k (omega arith) (omega arith)
-  exp-row {i} z (r-eop k x y d e) = row i eopK k (omega arith) (omega (arith, exp-moves d, exp-moves e))
-  exp-row {i} z (r-eif k x y w d e f) = row i ifK k (omega arith) (omega (arith, exp-moves d, exp-moves e, exp-moves f))
-  exp-row {i} z (r-epair k x y d e) = row i epairK k (omega arith) (omega (arith, exp-moves d, exp-moves e))
-  exp-row {i} z (r-efst k x d) = row i efstK k (omega arith) (omega (arith, exp-moves d))
-  exp-row {i} z (r-esnd k x d) = row i esndK k (omega arith) (omega (arith, exp-moves d))
-  exp-row {i} z (r-ederef k x c) = row i ederefK k (omega arith) (omega (arith, cell-moves c))
-  exp-row {i} z (r-eassign k x y c d) = row i eassignK k (omega arith) (omega (arith, cell-moves c, exp-moves d))
-  exp-row {i} z (r-elet k x y d e) = row i letK k (omega arith) (omega (arith, exp-moves d, exp-moves e))
-
-  code-row : {i : ℕ} {c : Code} → i < n → movesAt i ≡ moves c → ReadsCode rs i c → movesAt i ≡ shareOf (word rs i 0) + sumBelow rs movesAt i
-  unfolding kindNumber names moves
-  code-row {i} l z (r-edit k x d) = row i editK k (omega arith) (omega (arith, exp-moves d))
-  code-row {i} l z (r-enter k x d) = row i enterK k (omega arith) (omega (arith, type-moves d))
-  code-row {i} l z (r-update k x c) = row i updateK k (omega arith) (omega (arith, cell-moves c))
-  code-row {i} l z (r-then k x y d e) = row i thenK k (omega arith) (omega (arith, code-moves (omega arith) d, code-moves (omega arith) e))
-  code-row {i} l z (r-next k x y d e) = row i nextK k (omega arith) (omega (arith, code-moves (omega arith) d, code-moves (omega arith) e))
-  code-row {i} l z (r-fail k x d) = row i failK k (omega arith) (omega (arith, type-moves d))
-  code-row {i} l z (r-and k x y d e) = row i andK k (omega arith) (omega (arith, code-moves (omega arith) d, code-moves (omega arith) e))
-  code-row {i} l z (r-or k x y d e) = row i orK k (omega arith) (omega (arith, code-moves (omega arith) d, code-moves (omega arith) e))
-  code-row {i} l z (r-xor k x y d e) = row i xorK k (omega arith) (omega (arith, code-moves (omega arith) d, code-moves (omega arith) e))
-  code-row {i} l z (r-if k x y w d e f) = row i ifK k (omega arith) (omega (arith, exp-moves d, code-moves (omega arith) e, code-moves (omega arith) f))
-  code-row {i} l z (r-let k x y d e) = row i letK k (omega arith) (omega (arith, exp-moves d, code-moves (omega arith) e))
-
-  -- what each row makes of its share and of the rows that it names
-  high-row : (i : ℕ) → i < n → 20 ≤ word rs i 0 → {s : Sort} → Has rs i s → movesAt i ≡ shareOf (word rs i 0) + sumBelow rs movesAt i
+module _ (rs : List ℕ) where
+  exp-share : {i : ℕ} {a : Exp} → ReadsExp rs i a → 0 ≡ shareOf (word rs i 0)
   unfolding kindNumber
-  high-row i l h (has-type d) = absurd (omega (arith, type-low d))
-  high-row i l h (has-basic b d) = absurd (omega (arith, type-low d))
-  high-row i l h (has-cell b (r-cell k x d)) = absurd (omega (arith, kind-is (word rs i 0) cellK k (omega arith)))
-  high-row i l h (has-plain d) = exp-row (exp-moves d) d
-  high-row i l h (has-task d) = code-row l (code-moves l d) d
+  exp-share {i} (r-eunit k) = sym (ap shareOf (kind-is (word rs i 0) eunitK k (omega arith)))
+  exp-share {i} (r-etruth k) = sym (ap shareOf (kind-is (word rs i 0) etruthK k (omega arith)))
+  exp-share {i} (r-enumber k) = sym (ap shareOf (kind-is (word rs i 0) enumberK k (omega arith)))
+  exp-share {i} (r-ebinder k) = sym (ap shareOf (kind-is (word rs i 0) ebinderK k (omega arith)))
+  exp-share {i} (r-eop k x y d e) = sym (ap shareOf (kind-is (word rs i 0) eopK k (omega arith)))
+  exp-share {i} (r-eif k x y w d e f) = sym (ap shareOf (kind-is (word rs i 0) ifK k (omega arith)))
+  exp-share {i} (r-epair k x y d e) = sym (ap shareOf (kind-is (word rs i 0) epairK k (omega arith)))
+  exp-share {i} (r-efst k x d) = sym (ap shareOf (kind-is (word rs i 0) efstK k (omega arith)))
+  exp-share {i} (r-esnd k x d) = sym (ap shareOf (kind-is (word rs i 0) esndK k (omega arith)))
+  exp-share {i} (r-ederef k x c) = sym (ap shareOf (kind-is (word rs i 0) ederefK k (omega arith)))
+  exp-share {i} (r-eassign k x y c d) = sym (ap shareOf (kind-is (word rs i 0) eassignK k (omega arith)))
+  exp-share {i} (r-elet k x y d e) = sym (ap shareOf (kind-is (word rs i 0) letK k (omega arith)))
 
-  low-row : (i : ℕ) → i < n → word rs i 0 < 20 → {s : Sort} → Has rs i s → (movesAt i ≡ 0) × (shareOf (word rs i 0) ≡ 0)
-  low-row i l h d = (moves-low d, rw (ne-eqb (word rs i 0) 43 (λ e. omega arith), ne-eqb (word rs i 0) 47 (λ e. omega arith)))
-    where
-      moves-low : {s : Sort} → Has rs i s → movesAt i ≡ 0
-      moves-low (has-type d) = type-moves d
-      moves-low (has-basic b d) = type-moves d
-      moves-low (has-cell b d) = cell-moves d
-      moves-low (has-plain d) = exp-moves d
-      moves-low (has-task d) = absurd (omega (arith, code-high d))
+  code-share : {i : ℕ} {c : Code} → ReadsCode rs i c → share c ≡ shareOf (word rs i 0)
+  unfolding kindNumber share
+  code-share {i} (r-edit k x d) = sym (ap shareOf (kind-is (word rs i 0) editK k (omega arith)))
+  code-share {i} (r-enter k x d) = sym (ap shareOf (kind-is (word rs i 0) enterK k (omega arith)))
+  code-share {i} (r-update k x c) = sym (ap shareOf (kind-is (word rs i 0) updateK k (omega arith)))
+  code-share {i} (r-then k x y d e) = sym (ap shareOf (kind-is (word rs i 0) thenK k (omega arith)))
+  code-share {i} (r-next k x y d e) = sym (ap shareOf (kind-is (word rs i 0) nextK k (omega arith)))
+  code-share {i} (r-fail k x d) = sym (ap shareOf (kind-is (word rs i 0) failK k (omega arith)))
+  code-share {i} (r-and k x y d e) = sym (ap shareOf (kind-is (word rs i 0) andK k (omega arith)))
+  code-share {i} (r-or k x y d e) = sym (ap shareOf (kind-is (word rs i 0) orK k (omega arith)))
+  code-share {i} (r-xor k x y d e) = sym (ap shareOf (kind-is (word rs i 0) xorK k (omega arith)))
+  code-share {i} (r-if k x y w d e f) = sym (ap shareOf (kind-is (word rs i 0) ifK k (omega arith)))
+  code-share {i} (r-let k x y d e) = sym (ap shareOf (kind-is (word rs i 0) letK k (omega arith)))
+
+  -- a row's share is that of its kind
+  row-share : (n i : ℕ) → i < n → {s : Sort} → Has rs i s → shareAt moves share adds rs n i ≡ shareOf (word rs i 0)
+  unfolding kindNumber
+  row-share n i l (has-type d) = type-total moves share adds rs n d .1 ∙ low-share (word rs i 0) (omega (arith, type-low d))
+  row-share n i l (has-basic b d) = type-total moves share adds rs n d .1 ∙ low-share (word rs i 0) (omega (arith, type-low d))
+  row-share n i l (has-cell b (r-cell k x d)) = cell-total moves share adds rs n (r-cell k x d) .1 ∙ low-share (word rs i 0) (omega (arith, kind-is (word rs i 0) cellK k (omega arith)))
+  row-share n i l (has-plain d) = exp-total moves share adds rs n d .1 ∙ exp-share d
+  row-share n i l (has-task d) = code-total moves share adds rs n l d .1 ∙ code-share d
 
 sum-movers : (rs : List ℕ) (n : ℕ) → movers rs n ≡ sumTo n (λ i. shareOf (word rs i 0))
 unfolding movers sumTo
@@ -116,13 +100,10 @@ sum-movers rs (suc n) = ap (λ x. x + shareOf (word rs n 0)) (sum-movers rs n)
 
 -- the moves of the last row's code are the rows of kind 43 and 47
 pub moves-are : (rs : List ℕ) (n : ℕ) {c : Code} → 1 ≤ n → Sorted rs n → NamedOnce rs n → ReadsCode rs (n - 1) c → moves c ≡ movers rs n
-moves-are rs zero l q t d = absurd (omega arith)
-moves-are rs (suc k) {c} l q t d =
-    let z : suc k - 1 ≡ k = omega arith in
-    sym (code-moves rs (suc k) (omega arith) (subst (λ i. ReadsCode rs i c) z d))
-    ∙ tree-sum rs k q t (movesAt rs (suc k)) (λ i. shareOf (word rs i 0))
-    (λ i b h. high-row rs (suc k) i b h (exists rs (suc k) q i b)) (λ i b h. low-row rs (suc k) i b h (exists rs (suc k) q i b))
-    ∙ sym (sum-movers rs (suc k))
+moves-are rs n l q t d =
+    total-is moves share adds rs n l q t d
+    ∙ sum-same n (shareAt moves share adds rs n) (λ i. shareOf (word rs i 0)) (λ i b. row-share rs n i b (exists rs n q i b))
+    ∙ sym (sum-movers rs n)
 
 pub movers-few : (rs : List ℕ) (n : ℕ) → movers rs n ≤ n
 unfolding movers

@@ -3,14 +3,14 @@
 use mathlib.Core.Path.{_≡_, refl, ap}
 use mathlib.Core.Bool.{Bool, true, false, _&&_}
 use mathlib.Core.List.{List, [], _∷_, _++_}
-use mathlib.Core.Option.{Option, none, some}
+use mathlib.Core.Option.{none, some}
 use Prim.Native.Nat.{ℕ, zero, suc, _+_, _*_, _-_}
 use lib.ListN.{getD, replicate}
 use lib.Dec.{eqb}
 use mir.Syntax.{w32}
 use mir.Val.{toZ}
-use Rattle.tophat.specs.Syntax.{Ty, unit, truth, number, pair, Exp, eunit, etruth, enumber, ebinder, eop, eif, epair, efst, esnd, ederef, eassign, elet}
-use Rattle.tophat.specs.Syntax.{Code, edit, enter, update, then, next, fail, and, or, xor, if, let'}
+use Rattle.tophat.specs.Syntax.{unit, truth, number, pair, eunit, etruth, enumber, ebinder, eop, eif, epair, efst, esnd, ederef, eassign, elet}
+use Rattle.tophat.specs.Syntax.{edit, enter, update, then, next, fail, and, or, xor, if, let'}
 use Rattle.tophat.proofs.ComputeTyping.{bind}
 use Rattle.rows.specs.Kinds.{kindOf, Shape}
 use Rattle.rows.specs.Kinds.{unitK, truthK, numberK, pairK, cellK, eunitK, etruthK, enumberK, ebinderK, eopK, ifK, epairK, efstK, esndK, ederefK, eassignK, letK}

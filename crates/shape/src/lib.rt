@@ -1,16 +1,13 @@
 // Types as numbers: pair, components, leaves and leaf kinds of a shape.
 
 use ranges;
-use tophat;
+use tophat::MAX_LEAVES;
 ghost use mathlib.Core.Path.{_≡_};
 ghost use Prim.Native.Nat.{_+_, _*_, _/_, _^_, _<_, _≤_};
 ghost use lib.ListN.{length};
 ghost use Rattle.tophat.specs.Syntax.{maxLeaves};
 ghost use Rattle.shape.specs.Shape.{pairShape, firstShape, secondShape, leavesOf, kindsOf};
 ghost use Rattle.shape.specs.Digits.{maxDigits, count, width, leafDigits, storedFrom};
-
-// 01: "A type has at most 4 leaves"
-pub const MAX_LEAVES: usize = 4;
 
 // the shapes of one leaf
 pub const UNIT: u32 = 1;

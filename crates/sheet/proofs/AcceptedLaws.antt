@@ -1,6 +1,6 @@
--- `accepted_rows`, each way out: its count is the definition's, and so are the words at exit. Rests on Over and on the law that
+-- `accepted_rows`, each way out: its count is the definition's, and the words at exit are the rows' bits. Rests on Over and on the law that
 -- zeros after rows change no answer (grounds, SameWords).
-use mathlib.Core.Path.{_≡_, sym, ap, _∙_}
+use mathlib.Core.Path.{_≡_, sym, ap, subst, _∙_}
 use mathlib.Core.Bool.{Bool, true, false, not, _&&_}
 use mathlib.Core.List.{List, _++_, map}
 use Prim.Native.Nat.{ℕ, _*_, _-_, _/_, _%_, _≤_}
@@ -21,7 +21,7 @@ use Rattle.rows.specs.Rows.{maxRows, rowWords}
 use Rattle.rows.specs.Ground.{groundOfRows}
 use Rattle.grounds.specs.Accepted.{acceptedRows}
 use Rattle.grounds.proofs.SameWords.{padded-accepted}
-use Rattle.sheet.specs.Accepted.{rowCount, acceptsRows, acceptedCount, padded, acceptedBits}
+use Rattle.sheet.specs.Accepted.{rowCount, acceptsRows, acceptedCount, padded}
 use Rattle.sheet.proofs.Over.{drop-zeros}
 
 -- an accepted memory is no longer than the array
@@ -31,10 +31,10 @@ accepted-few rs m h =
     let b = leb m (maxRows * rowWords) in let c = eqb (m % rowWords) 0 && eqb (groundOfRows rs (m / rowWords)) 0 in
     leb-true m (maxRows * rowWords) (and-left b c (and-right (not (eqb m 0)) (b && c) h))
 
-module _ (rows : List ℤ) (own words : List ℕ) (c : words ≡ laid (ofZ w32) rows (replicate (maxRows * rowWords) 0)) where
+module _ (rows : List ℤ) (own words : List ℕ) (z : own ≡ replicate (maxRows * rowWords) 0) (c : words ≡ laid (ofZ w32) rows own) where
   -- what is answered, left and learnt
-  abbrev pub Counts : ℕ → List ℕ → Type 0
-  Counts r out = (r ≡ acceptedCount rows) × ((out ≡ acceptedBits rows own) × (1 ≤ r → AllWords rows))
+  abbrev pub Counts : ℕ → Type 0
+  Counts r = (r ≡ acceptedCount rows) × ((1 ≤ r → words ≡ padded rows) × (1 ≤ r → AllWords rows))
 
   module _ (few : length rows ≤ maxRows * rowWords) where
     whole : length rows ≤ length (replicate {A = ℕ} (maxRows * rowWords) 0)
@@ -42,7 +42,8 @@ module _ (rows : List ℤ) (own words : List ℕ) (c : words ≡ laid (ofZ w32) 
 
     is-padded : words ≡ padded rows
     is-padded =
-        c ∙ laid-front (ofZ w32) rows (replicate (maxRows * rowWords) 0) whole ∙ ap (λ l. map (ofZ w32) rows ++ l) (drop-zeros (length rows) (maxRows * rowWords))
+        c ∙ ap (laid (ofZ w32) rows) z
+        ∙ laid-front (ofZ w32) rows (replicate (maxRows * rowWords) 0) whole ∙ ap (λ l. map (ofZ w32) rows ++ l) (drop-zeros (length rows) (maxRows * rowWords))
 
   -- the copied words are accepted exactly where the rows are
   tested : acceptedRows words (length rows) ≡ acceptsRows rows
@@ -53,15 +54,14 @@ module _ (rows : List ℤ) (own words : List ℕ) (c : words ≡ laid (ofZ w32) 
       ∙ padded-accepted (map (ofZ w32) rows) (maxRows * rowWords - length rows) (length rows))
       (λ f. rw f)
 
-  pub counts-none : (b : Bool) → b ≡ acceptedRows words (length rows) → not b ≡ true → Counts 0 own
+  pub counts-none : (b : Bool) → b ≡ acceptedRows words (length rows) → not b ≡ true → Counts 0
   counts-none b e h =
       let a : acceptsRows rows ≡ false = sym tested ∙ sym e ∙ not-true b h in
-      (sym (rw a), (sym (rw a), λ l. absurd (omega arith)))
+      (sym (rw a), (λ l. absurd (omega arith), λ l. absurd (omega arith)))
 
-  pub counts-all : (b : Bool) → b ≡ acceptedRows words (length rows) → not b ≡ false
-      → AllWords (take (length (replicate {A = ℕ} (maxRows * rowWords) 0)) rows) → Counts (rowCount rows) words
+  pub counts-all : (b : Bool) → b ≡ acceptedRows words (length rows) → not b ≡ false → AllWords (take (length own) rows) → Counts (rowCount rows)
   counts-all b e h w =
       let t : acceptedRows words (length rows) ≡ true = sym e ∙ not-false b h in
       let a : acceptsRows rows ≡ true = sym tested ∙ t in
       let few = accepted-few words (length rows) t in
-      (sym (rw a), (is-padded few ∙ sym (rw a), λ l. words-whole (length (replicate {A = ℕ} (maxRows * rowWords) 0)) rows (whole few) w))
+      (sym (rw a), (λ l. is-padded few, λ l. words-whole (length own) rows (subst (λ y. length rows ≤ length y) (sym z) (whole few)) w))

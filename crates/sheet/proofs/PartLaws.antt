@@ -12,12 +12,12 @@ use mir.Val.{ofZ}
 use Rattle.word.specs.Word.{IsWord, eqZ}
 use Rattle.word.proofs.TwosComplement.{bits-lt, number-bits, number-low}
 use Rattle.word.proofs.Order.{equal-number}
-use Rattle.decimal.specs.Field.{Field, number, unreadable, rowColumns, wordColumns, readsAt, reading}
+use Rattle.decimal.specs.Field.{Field, number, unreadable, rowColumns, wordColumns, readsAt, reading, newline}
 use Rattle.decimal.specs.declared.field.Reading.{Reading}
 use Rattle.decimal.specs.declared.field.Reading.the-variants.{Number, Unreadable}
 use Rattle.decimal.proofs.Answers.{reads-at-word}
 use Rattle.rows.specs.Rows.{maxRows, rowWords}
-use Rattle.sheet.specs.Sheet.{lineBytes, newline, lineFields, columns, placeIn, said, only, part}
+use Rattle.sheet.specs.Sheet.{lineBytes, lineFields, columns, placeIn, said, only, part}
 use Rattle.sheet.specs.Scan.{onlyRow, kept}
 
 -- ---- where a part stands

@@ -9,9 +9,9 @@ use lib.ListN.{getD}
 use Rattle.word.specs.Word.{words, IsWord, eqZ}
 use Rattle.word.proofs.TwosComplement.{bits-lt}
 use Rattle.word.proofs.Lists.{AllBits}
-use Rattle.decimal.specs.Field.{Field, number, unreadable}
+use Rattle.decimal.specs.Field.{Field, number, unreadable, newline}
 use Rattle.decimal.proofs.Answers.{reads-at-word}
-use Rattle.sheet.specs.Sheet.{newline, lineFields, columns, placeIn, said, only, part, bitsOf, lineWords, rowsOf}
+use Rattle.sheet.specs.Sheet.{lineFields, columns, placeIn, said, only, part, bitsOf, lineWords, rowsOf}
 
 -- the field says a word, if it says anything
 abbrev Word : Field → Type 0

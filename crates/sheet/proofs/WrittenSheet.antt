@@ -16,10 +16,10 @@ use mir.Val.{toZ}
 use Rattle.word.proofs.TwosComplement.{number-word, number-low, bits-number}
 use Rattle.word.proofs.Order.{eqZ-refl}
 use Rattle.word.proofs.Lists.{AllBits}
-use Rattle.decimal.specs.Field.{number, rowColumns, wordColumns, reads, readsAt}
+use Rattle.decimal.specs.Field.{number, rowColumns, wordColumns, reads, readsAt, newline}
 use Rattle.rows.specs.Rows.{maxRows, rowWords, word, every}
 use Rattle.rows.proofs.Basics.{every-of}
-use Rattle.sheet.specs.Sheet.{lineBytes, newline, lineFields, columns, place, placeIn, said, only, part, readable, bitsOf, linesRead, lineWords, rowsOf, lines, sized}
+use Rattle.sheet.specs.Sheet.{lineBytes, lineFields, columns, place, placeIn, said, only, part, readable, bitsOf, linesRead, lineWords, rowsOf, lines, sized}
 use Rattle.sheet.proofs.Fits.{fieldText, Fits, row-fits, word-fits, field-length, field-reads}
 
 -- ---- pieces one after another: piece i stands after those before it
@@ -33,7 +33,7 @@ module _ (L g : ℕ → List ℕ) (more : (i : ℕ) → L (suc i) ≡ L i ++ g i
       (eq-or-lt-of-le (le-of-suc-le-suc h))
 
 -- a field after p and before q
-field-in : (p f q : List ℕ) (at w : ℕ) → length p ≡ at → length f ≡ w → readsAt (p ++ f ++ q) at w ≡ reads f
+pub field-in : (p f q : List ℕ) (at w : ℕ) → length p ≡ at → length f ≡ w → readsAt (p ++ f ++ q) at w ≡ reads f
 unfolding readsAt
 field-in p f q at w a b =
     let n : length (p ++ f) ≡ at + w = length-append p f ∙ (λ k. a k + b k) in

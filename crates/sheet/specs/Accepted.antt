@@ -27,13 +27,10 @@ rowCount rows = length rows / rowWords
 unfoldable pub acceptsRows : List ℤ → Bool
 acceptsRows rows = acceptedRows (map (ofZ w32) rows) (length rows)
 
--- what the test of rows memory answers, and what it leaves in `own`: the number of rows and their bits, zeros after them; 0, and
--- `own` as it was, where it fails
+-- what the test of rows memory answers, and what it leaves where it holds: the number of rows, or 0, and the rows' bits with zeros
+-- after them
 abbrev pub acceptedCount : List ℤ → ℕ
 acceptedCount rows = cond (acceptsRows rows) (rowCount rows) 0
 
 abbrev pub padded : List ℤ → List ℕ
 padded rows = map (ofZ w32) rows ++ replicate (maxRows * rowWords - length rows) 0
-
-abbrev pub acceptedBits : List ℤ → List ℕ → List ℕ
-acceptedBits rows own = cond (acceptsRows rows) (padded rows) own

@@ -9,16 +9,13 @@ use lib.ListN.{length, getD}
 use mir.Syntax.{w32}
 use mir.Val.{ofZ}
 use Rattle.word.specs.Word.{eqZ}
-use Rattle.decimal.specs.Field.{Field, number, unreadable, rowColumns, wordColumns, readsAt}
+use Rattle.decimal.specs.Field.{Field, number, unreadable, rowColumns, wordColumns, readsAt, newline}
 use Rattle.rows.specs.Rows.{maxRows, every}
 use Rattle.rows.specs.Ground.{groundOfRows}
 
 -- 01: "lines of 45 bytes: row number in columns 1-4, kind 5-8, operands A 9-20, B 21-32, C 33-44, then byte 10"
 abbrev pub lineBytes : ℕ
 lineBytes = 45
-
-abbrev pub newline : ℕ
-newline = 10
 
 -- a line's fields: 0 row number, 1 kind, 2 A, 3 B, 4 C; how wide each is, and where it stands (the byte 10 where a sixth would)
 abbrev pub lineFields : ℕ

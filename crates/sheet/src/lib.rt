@@ -1,27 +1,32 @@
 // Sheets: lines of text read into rows, and the call `load` (01, "The sheet", "Four calls"). What a text says and which ground
 // it gets stands in specs/Sheet.antt, what `load` answers and leaves in specs/Load.antt.
 ghost use mathlib.Core.Path.{_≡_};
-ghost use Prim.Native.Nat.{_≤_};
+ghost use Prim.Native.Nat.{_*_, _≤_};
+ghost use lib.ListN.{replicate};
+ghost use mir.Syntax.{w32};
+ghost use mir.Val.{ofZ};
 ghost use Rattle.word.specs.Word.{AllWords};
+ghost use Rattle.word.specs.Laid.{laid};
+ghost use Rattle.rows.specs.Rows.{maxRows, rowWords};
 ghost use Rattle.sheet.specs.Sheet.{sized};
 ghost use Rattle.sheet.specs.Load.{loaded};
-ghost use Rattle.sheet.specs.Accepted.{acceptedCount, acceptedBits};
-use decimal;
+ghost use Rattle.sheet.specs.Accepted.{acceptedCount, padded};
+use decimal::field::ROW_COLUMNS;
+use decimal::field::WORD_COLUMNS;
 use grounds;
 use ranges;
-use rows;
 use tophat;
 use typing;
 use word;
 
 mod scan; // ground 2: the lines and fields of a text
 
-use grounds::ROWS_WORDS;
-use scan::LINE_BYTES;
-use typing::ROW_WORDS;
+use rows::MAX_ROWS;
+use rows::ROW_WORDS;
+use rows::ROWS_WORDS;
 
-// 01: "1 to 256 lines"
-const MAX_ROWS: usize = ROWS_WORDS / ROW_WORDS;
+// A line: row number, kind, three operands, byte 10.
+pub const LINE_BYTES: usize = 2 * ROW_COLUMNS + 3 * WORD_COLUMNS + 1;
 
 // Whether a text of `len` bytes is 1 to 256 whole lines.
 fn is_sized(len: usize) -> bool
@@ -61,18 +66,18 @@ pub fn load(sheet: &[u8], rows: &mut [i32]) -> u32
     0
 }
 
-// How many rows of an accepted flow `rows` holds, with their bits and zeros after them in `own`. Where no accepted sheet loads
-// to them (01, ground 20) the answer is 0, and `own` is as it was.
+// How many rows of an accepted flow `rows` holds, with their bits in `own`, which is lent with zeros. Where no accepted sheet
+// loads to them (01, ground 20) the answer is 0.
 pub fn accepted_rows(rows: &[i32], own: &mut [u32; ROWS_WORDS]) -> usize
+    requires { ⌜ now own ≡ replicate (maxRows * rowWords) 0 ⌝ }
     ensures { λ r. ⌜ r ≡ acceptedCount (now (rows .entry)) ⌝ }
-    ensures { λ _. ⌜ now (own .exit) ≡ acceptedBits (now (rows .entry)) (now (own .entry)) ⌝ }
+    ensures { λ r. ⌜ (1 ≤ r → now (own .exit) ≡ padded (now (rows .entry))) ⌝ }
     ensures { λ r. ⌜ (1 ≤ r → AllWords (now (rows .entry))) ⌝ }
+    ensures { λ _. ⌜ now (own .exit) ≡ laid (ofZ w32) (now (rows .entry)) (now (own .entry)) ⌝ }
 {
-    let mut words = [0u32; ROWS_WORDS];
-    word::copy_in(rows, &mut words);
-    if !grounds::accepted_rows(&words, rows.len()) {
+    word::copy_in(rows, own);
+    if !grounds::accepted_rows(own, rows.len()) {
         return 0;
     }
-    *own = words;
     rows.len() / ROW_WORDS
 }

@@ -7,18 +7,16 @@ ghost use Rattle.decimal.specs.Field.{reading};
 ghost use Rattle.rows.specs.Rows.{maxRows, rowWords};
 ghost use Rattle.sheet.specs.Sheet.{lineBytes, lineFields, columns, placeIn, part, linesRead, rowsOf};
 ghost use Rattle.sheet.specs.Scan.{onlyRow, kept, over};
+use crate::LINE_BYTES;
+use decimal::field::NEWLINE;
 use decimal::field::ROW_COLUMNS;
 use decimal::field::Reading;
 use decimal::field::WORD_COLUMNS;
-use grounds::ROWS_WORDS;
-use typing::ROW_WORDS;
-
-pub const LINE_BYTES: usize = 45;
+use rows::ROW_WORDS;
+use rows::ROWS_WORDS;
 
 // The fields of a line: row number, kind, A, B, C.
 const LINE_FIELDS: usize = 5;
-
-const NEWLINE: u8 = 10;
 
 // How wide field f of a line is.
 fn columns_of(f: usize) -> usize

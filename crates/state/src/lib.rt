@@ -1,9 +1,14 @@
 // The words of rows and of a state, read and written: the one place that computes indices. A state row is 16 words: its tag,
 // a value's shape and four leaves, and zeros.
+use rows::MAX_BINDERS;
+use rows::MAX_ROWS;
+use rows::ROW_WORDS;
+use rows::ROWS_WORDS;
+use tophat::MAX_LEAVES;
 use value::Value;
 ghost use mathlib.Core.Path.{_≡_};
 ghost use mathlib.Core.List.{[], _∷_};
-ghost use Prim.Native.Nat.{ℕ, _+_, _*_, _<_, _≤_};
+ghost use Prim.Native.Nat.{_+_, _*_, _<_, _≤_};
 ghost use lib.ListN.{length, set};
 ghost use Rattle.rows.specs.Rows.{maxRows, rowWords, word};
 ghost use Rattle.rows.specs.Enclosing.{maxBinders};
@@ -12,8 +17,15 @@ ghost use Rattle.state.specs.Holds.{valueLength};
 ghost use Rattle.state.specs.Words.{wordsOf, Stored, Laid, valueAt, slot, binderAt, Pushed};
 ghost use Rattle.state.specs.Contracts.{Fine, ClearOk};
 
-// 01: "At most 16 binders enclose a row"
-pub const MAX_BINDERS: usize = 16;
+// 01: "A state is 16 words a row". How many words the engine's own state has.
+pub const STATE_WORDS: usize = 16;
+
+pub const STATE_SIZE: usize = MAX_ROWS * STATE_WORDS;
+
+// A value is its shape and its leaves. How many words an environment has.
+pub const VALUE_WORDS: usize = 1 + MAX_LEAVES;
+
+pub const ENV_WORDS: usize = MAX_BINDERS * VALUE_WORDS;
 
 // Tags: the row's own form, and the first and the second of two things that it may have become.
 pub const OWN: u32 = 1;
@@ -29,33 +41,33 @@ fn wide(x: u32) -> usize
 }
 
 // Word k of a row: its kind and operands A, B, C.
-pub fn get(rows: &[u32; 1024], row: usize, k: usize) -> u32
+pub fn get(rows: &[u32; ROWS_WORDS], row: usize, k: usize) -> u32
     requires { ⌜ (row < maxRows) × (k < rowWords) ⌝ }
     ensures { λ r. ⌜ r ≡ word (now (rows .entry)) row k ⌝ }
 {
-    rows[row * 4 + k]
+    rows[row * ROW_WORDS + k]
 }
 
 // An operand that names a row, a binder or a cell.
-pub fn operand(rows: &[u32; 1024], row: usize, k: usize) -> usize
+pub fn operand(rows: &[u32; ROWS_WORDS], row: usize, k: usize) -> usize
     requires { ⌜ (row < maxRows) × (k < rowWords) ⌝ }
     ensures { λ r. ⌜ r ≡ word (now (rows .entry)) row k ⌝ }
 {
-    wide(rows[row * 4 + k])
+    wide(rows[row * ROW_WORDS + k])
 }
 
-pub fn read(state: &[u32; 4096], row: usize, m: usize) -> u32
+pub fn read(state: &[u32; STATE_SIZE], row: usize, m: usize) -> u32
     requires { ⌜ (row < maxRows) × (m < stateWords) ⌝ }
     ensures { λ r. ⌜ r ≡ at (now (state .entry)) row m ⌝ }
 {
-    state[row * 16 + m]
+    state[row * STATE_WORDS + m]
 }
 
-pub fn put(state: &mut [u32; 4096], row: usize, m: usize, x: u32)
+pub fn put(state: &mut [u32; STATE_SIZE], row: usize, m: usize, x: u32)
     requires { ⌜ (row < maxRows) × (m < stateWords) ⌝ }
     ensures { λ _. ⌜ now (state .exit) ≡ set (now (state .entry)) (place row m) x ⌝ }
 {
-    state[row * 16 + m] = x;
+    state[row * STATE_WORDS + m] = x;
 }
 
 // Words stored from a place on.
@@ -69,7 +81,7 @@ fn store(to: &mut [u32], at: usize, words: &[u32])
 }
 
 // The row is no longer live.
-pub fn clear_row(state: &mut [u32; 4096], row: usize)
+pub fn clear_row(state: &mut [u32; STATE_SIZE], row: usize)
     requires { ⌜ row < maxRows ⌝ }
     ensures { λ _. ⌜ Laid (now (state .entry)) (now (state .exit)) row [] ⌝ }
 {
@@ -78,7 +90,7 @@ pub fn clear_row(state: &mut [u32; 4096], row: usize)
 }
 
 // The row is live by its tag alone.
-pub fn put_tag(state: &mut [u32; 4096], row: usize, tag: u32)
+pub fn put_tag(state: &mut [u32; STATE_SIZE], row: usize, tag: u32)
     requires { ⌜ row < maxRows ⌝ }
     ensures { λ _. ⌜ Laid (now (state .entry)) (now (state .exit)) row (tag ∷ []) ⌝ }
 {
@@ -88,7 +100,7 @@ pub fn put_tag(state: &mut [u32; 4096], row: usize, tag: u32)
 }
 
 // The row is live, and holds a value.
-pub fn put_value(state: &mut [u32; 4096], row: usize, tag: u32, v: Value)
+pub fn put_value(state: &mut [u32; STATE_SIZE], row: usize, tag: u32, v: Value)
     requires { ⌜ row < maxRows ⌝ }
     ensures { λ _. ⌜ Laid (now (state .entry)) (now (state .exit)) row (tag ∷ wordsOf v) ⌝ }
 {
@@ -104,7 +116,7 @@ pub fn put_value(state: &mut [u32; 4096], row: usize, tag: u32, v: Value)
 }
 
 // The value that the row holds.
-pub fn read_value(state: &[u32; 4096], row: usize) -> Value
+pub fn read_value(state: &[u32; STATE_SIZE], row: usize) -> Value
     requires { ⌜ row < maxRows ⌝ }
     ensures { λ r. ⌜ r ≡ valueAt (now (state .entry)) row ⌝ }
 {
@@ -120,15 +132,15 @@ pub fn read_value(state: &[u32; 4096], row: usize) -> Value
 }
 
 // Word m of a binder's value; slot 0 is the outermost's.
-fn read_slot(env: &[u32; 80], k: usize, m: usize) -> u32
+fn read_slot(env: &[u32; ENV_WORDS], k: usize, m: usize) -> u32
     requires { ⌜ (k < maxBinders) × (m < valueLength) ⌝ }
     ensures { λ r. ⌜ r ≡ slot (now (env .entry)) k m ⌝ }
 {
-    env[k * 5 + m]
+    env[k * VALUE_WORDS + m]
 }
 
 // The value of binder k, counted outward; none beyond the outermost.
-pub fn env_get(env: &[u32; 80], depth: usize, k: usize) -> Value
+pub fn env_get(env: &[u32; ENV_WORDS], depth: usize, k: usize) -> Value
     requires { ⌜ depth ≤ maxBinders ⌝ }
     ensures { λ r. ⌜ r ≡ binderAt (now (env .entry)) depth k ⌝ }
 {
@@ -151,17 +163,17 @@ pub fn env_get(env: &[u32; 80], depth: usize, k: usize) -> Value
 }
 
 // The value of a binder at that depth.
-pub fn env_put(env: &mut [u32; 80], depth: usize, v: Value)
+pub fn env_put(env: &mut [u32; ENV_WORDS], depth: usize, v: Value)
     requires { ⌜ depth < maxBinders ⌝ }
     ensures { λ _. ⌜ Pushed (now (env .entry)) (now (env .exit)) depth v ⌝ }
 {
     let leaves = v.leaves;
     let words = [v.shape, leaves[0], leaves[1], leaves[2], leaves[3]];
-    store(env, depth * 5, &words);
+    store(env, depth * VALUE_WORDS, &words);
 }
 
 // No row of the task at that row is live any more.
-pub fn clear(rows: &[u32; 1024], state: &mut [u32; 4096], row: usize)
+pub fn clear(rows: &[u32; ROWS_WORDS], state: &mut [u32; STATE_SIZE], row: usize)
     requires { ⌜ Fine (now rows) row 0 ⌝ }
     ensures { λ _. ⌜ ClearOk (now (rows .entry)) (now (state .entry)) (now (state .exit)) row ⌝ }
 {

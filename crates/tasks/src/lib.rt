@@ -1,9 +1,12 @@
 // What the rows of a state say of tasks: which row a row hands on to, the value of a task, and the evaluation of a code to its
 // task. Rests on crate eval for expressions, on crate state for the words and for what these functions ensure.
 use eval::eval;
+use rows::ROWS_WORDS;
+use state::ENV_WORDS;
 use state::ONE;
 use state::OTHER;
 use state::OWN;
+use state::STATE_SIZE;
 use state::env_put;
 use state::get;
 use state::operand;
@@ -25,7 +28,7 @@ ghost use Rattle.tasks.specs.Hands.{Handed, Bound, Under};
 ghost use Rattle.tasks.specs.Found.{found, nothing, bothFound};
 
 // The operand that names the row which the row hands on to, or 0.
-pub fn handed_on(rows: &[u32; 1024], state: &[u32; 4096], row: usize) -> usize
+pub fn handed_on(rows: &[u32; ROWS_WORDS], state: &[u32; STATE_SIZE], row: usize) -> usize
     requires { ⌜ row < maxRows ⌝ }
     ensures { λ r. ⌜ Handed (word (now (rows .entry)) row 0) (at (now (state .entry)) row 0) r ⌝ }
 {
@@ -47,7 +50,7 @@ pub fn handed_on(rows: &[u32; 1024], state: &[u32; 4096], row: usize) -> usize
 }
 
 // One more binder, whose value the row holds; the depth after it.
-fn bind(state: &[u32; 4096], row: usize, env: &mut [u32; 80], depth: usize) -> usize
+fn bind(state: &[u32; STATE_SIZE], row: usize, env: &mut [u32; ENV_WORDS], depth: usize) -> usize
     requires { ⌜ (row < maxRows) × (depth ≤ maxBinders) ⌝ }
     ensures { λ r. ⌜ Bound (now (state .entry)) row (now (env .entry)) (now (env .exit)) depth r ⌝ }
 {
@@ -61,10 +64,10 @@ fn bind(state: &[u32; 4096], row: usize, env: &mut [u32; 80], depth: usize) -> u
 
 // The binders' values around the row which the row hands on to; the depth there.
 pub fn enclose(
-    rows: &[u32; 1024],
-    state: &[u32; 4096],
+    rows: &[u32; ROWS_WORDS],
+    state: &[u32; STATE_SIZE],
     row: usize,
-    env: &mut [u32; 80],
+    env: &mut [u32; ENV_WORDS],
     depth: usize,
 ) -> usize
     requires { ⌜ (row < maxRows) × (depth ≤ maxBinders) ⌝ }
@@ -115,7 +118,7 @@ fn both(x: Found, y: Found) -> Found
 }
 
 // The value of the task at the row.
-pub fn value(rows: &[u32; 1024], state: &[u32; 4096], row: usize) -> Found
+pub fn value(rows: &[u32; ROWS_WORDS], state: &[u32; STATE_SIZE], row: usize) -> Found
     requires { ⌜ Fine (now rows) row 0 ⌝ }
     ensures { λ r. ⌜ ValueOk (now (rows .entry)) (now (state .entry)) row r ⌝ }
 {
@@ -154,10 +157,10 @@ pub fn value(rows: &[u32; 1024], state: &[u32; 4096], row: usize) -> Found
 
 // Evaluation of the code at the row, none of whose rows is live, to its task. A cell that an expression assigns is written.
 pub fn evaluate(
-    rows: &[u32; 1024],
-    state: &mut [u32; 4096],
+    rows: &[u32; ROWS_WORDS],
+    state: &mut [u32; STATE_SIZE],
     row: usize,
-    env: &[u32; 80],
+    env: &[u32; ENV_WORDS],
     depth: usize,
 )
     requires { ⌜ Fine (now rows) row depth ⌝ }

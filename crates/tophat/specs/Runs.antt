@@ -1,5 +1,5 @@
 -- Lists of look and handle calls on trees (01, "Four lines on the contracts", 3), and what holds after any of them.
--- proofs/EveryRun is the theorem; the crate `flow` carries it to bytes and words. Rests on Showing.
+-- proofs/EveryRun is the theorem; the crate `calls` carries it to bytes and words. Rests on Showing.
 use mathlib.Core.Path.{_≡_}
 use mathlib.Core.Bool.{true, false}
 use mathlib.Core.Logic.{_⊎_, _↔_}

@@ -1,1 +1,14 @@
-// The calculus: definitions in specs/, theorems in proofs/. No code.
+// The calculus: its rules in specs/, the theorems on them in proofs/. There is no function here; the numbers that 01 gives to the
+// calculus' notions have their names in code here.
+
+// 01: "A type has at most 4 leaves"
+pub const MAX_LEAVES: usize = 4;
+
+// 01: "action (1 value, 2 Continue, 3 Left, 4 Right)"
+pub const GIVE: u32 = 1;
+
+pub const CONTINUE: u32 = 2;
+
+pub const LEFT: u32 = 3;
+
+pub const RIGHT: u32 = 4;

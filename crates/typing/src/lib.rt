@@ -1,8 +1,11 @@
 // Typing of rows by shapes: each row is decoded once to what typing does with it, then typed by recursion on lower rows.
 
 use ranges;
-use rows;
+use rows::MAX_BINDERS;
+use rows::ROW_WORDS;
+use rows::ROWS_WORDS;
 use shape;
+use shape::TRUTH;
 use tophat;
 ghost use mathlib.Core.Path.{_≡_};
 ghost use mathlib.Core.Bool.{true};
@@ -14,14 +17,6 @@ ghost use Rattle.rows.specs.Enclosing.{maxBinders};
 ghost use Rattle.rows.specs.Ground.{flowType, passes4, passes6};
 ghost use Rattle.typing.specs.Nodes.{lower1, lower2, lower3, nodeFrom, nodeOf, Below};
 ghost use Rattle.typing.specs.RowTypes.{bothAre, opShape, sameShape, ifShape, assignShape, binderShape, typeOf, isTask, flowShape};
-
-// 01: 256 rows of 4 words
-pub const ROW_WORDS: usize = 4;
-
-pub const ROWS_WORDS: usize = 1024;
-
-// 01: "At most 16 binders"
-pub const MAX_BINDERS: usize = 16;
 
 // what typing does with a row
 pub enum Node {

@@ -1,7 +1,8 @@
 -- What the functions of this crate give on values of the calculus: an operator, a test, a pair and its parts are the
 -- calculus', wherever leaves are words and a type has at most four of them. Rests on crate shape's laws.
 use mathlib.Core.Path.{_≡_, refl, sym, ap, ap₂, _∙_}
-use mathlib.Core.Bool.{Bool, true, false, cond}
+use mathlib.Core.Bool.{Bool, true, false, cond, false≢true}
+use mathlib.Core.Option.{Option, none, some}
 use mathlib.Core.List.{List, [], _∷_, _++_}
 use Prim.Native.Nat.{ℕ, zero, suc, _+_, _-_, _≤_, _<_}
 use native.Mathlib.Omega.{arith}
@@ -25,7 +26,8 @@ use Rattle.shape.specs.Shape.{asShape, maybeShape, pairShape, firstShape, secon
 use Rattle.ranges.proofs.Ranges.{past}
 use Rattle.shape.proofs.Puts.{by-test, leaves-pos, fits, as-type}
 use Rattle.shape.proofs.Counts.{shape-leaves}
-use Rattle.value.specs.Values.{leafBits, asValue, noLeaves, leafNumber, four, joined, pairOf, firstOf, secondOf}
+use Rattle.value.specs.declared.Found.{Found}
+use Rattle.value.specs.Values.{leafBits, asValue, asFound, noLeaves, leafNumber, four, joined, pairOf, firstOf, secondOf}
 
 -- ---- leaves by place
 
@@ -177,3 +179,15 @@ by-leaf orOp v w = refl
 
 pub apply-value : (o : Op) (v w : Val) → IsWord (leaf v) → IsWord (leaf w) → apply o (leafNumber (asValue v)) (leafNumber (asValue w)) ≡ apply o v w
 apply-value o v w h g = ap₂ (apply o) (leaf-number v h) (leaf-number w g) ∙ by-leaf o v w
+
+-- ---- a value found, or none
+
+pub found-none : {f : Found} (o : Option Val) → f ≡ asFound o → f .has ≡ false → o ≡ none
+unfolding asFound
+found-none none e n = refl
+found-none (some v) e n = absurd (false≢true (sym n ∙ ap (λ f. f .has) e))
+
+pub found-some : {f : Found} (o : Option Val) → f ≡ asFound o → f .has ≡ true → (v : Val) × (o ≡ some v) × (f .value ≡ asValue v)
+unfolding asFound
+found-some none e n = absurd (false≢true (sym (ap (λ f. f .has) e) ∙ n))
+found-some (some v) e n = (v, refl, ap (λ f. f .value) e)

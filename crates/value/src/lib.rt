@@ -9,6 +9,7 @@ use shape::leaf_kinds;
 use shape::leaves_of;
 use shape::pair_shape;
 use shape::second_shape;
+use tophat::MAX_LEAVES;
 use word::add;
 use word::at_most;
 use word::equal;
@@ -29,7 +30,7 @@ ghost use Rattle.value.specs.Values.{asValue, leafNumber, joined, pairOf
 
 pub struct Value {
     pub shape: u32,
-    pub leaves: [u32; 4],
+    pub leaves: [u32; MAX_LEAVES],
 }
 
 // A value, or none: then the value is all 0.
@@ -141,7 +142,7 @@ pub fn apply(op: u32, a: Value, b: Value) -> Value
 }
 
 // Leaf i, and 0 past the last.
-fn leaf(leaves: [u32; 4], i: usize) -> u32
+fn leaf(leaves: [u32; MAX_LEAVES], i: usize) -> u32
     ensures { λ r. ⌜ r ≡ getD leaves i 0 ⌝ }
 {
     if i < 4 {
@@ -151,7 +152,7 @@ fn leaf(leaves: [u32; 4], i: usize) -> u32
 }
 
 // Leaf i of the first n leaves of xs with ys after them.
-fn joined(xs: [u32; 4], ys: [u32; 4], n: usize, i: usize) -> u32
+fn joined(xs: [u32; MAX_LEAVES], ys: [u32; MAX_LEAVES], n: usize, i: usize) -> u32
     ensures { λ r. ⌜ r ≡ joined n xs ys i ⌝ }
 {
     if i < n {
@@ -184,7 +185,7 @@ pub fn first(a: Value) -> Value
     let shape = first_shape(a.shape);
     let n = leaves_of(shape);
     let xs = a.leaves;
-    let none = [0u32; 4];
+    let none = [0u32; MAX_LEAVES];
     let x = joined(xs, none, n, 0);
     let y = joined(xs, none, n, 1);
     let z = joined(xs, none, n, 2);

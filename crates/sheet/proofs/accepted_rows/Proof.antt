@@ -6,10 +6,9 @@ use Rattle.sheet.proofs.accepted_rows.Tie as tie
 
 pub accepted-rows-spec : {M : Type 1} → statement M
 accepted-rows-spec = tie.close (tie.spec
-    (λ c. search needs)
     (λ c κs. search needs)
     (λ c κs. search needs)
-    (λ c. let copy-in′ = c .before .before .before .before .copy-in in let accepted-rows′ = c .before .accepted-rows in
-    let a = c .before .before .before .before .before .before .args in counts-none (a .rows .now) (a .own .now) (copy-in′ .last .1 .0) (copy-in′ .ensures .0) (accepted-rows′ .result) (accepted-rows′ .ensures) (c .if1 .taken))
-    (λ c. let copy-in′ = c .before .before .before .before .copy-in in let accepted-rows′ = c .before .accepted-rows in
-    let a = c .before .before .before .before .before .before .args in counts-all (a .rows .now) (a .own .now) (copy-in′ .last .1 .0) (copy-in′ .ensures .0) (accepted-rows′ .result) (accepted-rows′ .ensures) (c .if1 .left) (copy-in′ .ensures .1)))
+    (λ c. let s = c .before .before .before .before .before in let i = c .before .before .before .copy-in in let r = c .before .accepted-rows in
+    let t = counts-none (s .args .rows .now) (s .args .own .now) (i .last .1 .0) (s .pre) (i .ensures .0) (r .result) (r .ensures) (c .if1 .taken) in (t .0, (t .1 .0, (t .1 .1, i .ensures .0))))
+    (λ c. let s = c .before .before .before .before .before in let i = c .before .before .before .copy-in in let r = c .before .accepted-rows in
+    let t = counts-all (s .args .rows .now) (s .args .own .now) (i .last .1 .0) (s .pre) (i .ensures .0) (r .result) (r .ensures) (c .if1 .left) (i .ensures .1) in (t .0, (t .1 .0, (t .1 .1, i .ensures .0)))))
