@@ -1,15 +1,8 @@
-pub mod Bits
-pub mod Opening
-pub mod Flows
-pub mod Widths
 pub mod SameRows
 pub mod OpenLaws
 pub mod StartLaws
 pub mod TakeLaws
 pub mod ReadLaws
+pub mod EventLaws
 pub mod TaskRows
 pub mod LookLaws
-pub mod Standing
-pub mod Starting
-pub mod EveryTouch
-pub mod Grounds

@@ -1,14 +1,14 @@
 -- `look`, each way out: what is shown of an opened rest is what the definition says. Rests on OpenLaws, Widths, TaskRows, and the
--- contracts of `open`, `entries`, `value` and `failing`.
+-- contracts of `open`, `entries` and `value`.
 use mathlib.Core.Path.{_≡_, refl, sym, ap, ap₂, subst, _∙_}
-use mathlib.Core.Bool.{Bool, true, false, cond, _&&_}
+use mathlib.Core.Bool.{Bool, true, false, cond, _&&_, false≢true}
 use mathlib.Core.Option.{Option, none, some}
 use mathlib.Core.List.{List, [], _∷_, _++_, map, append-nil}
 use Prim.Native.Nat.{ℕ, suc, _+_, _*_, _-_, _<_, _≤_}
 use native.Mathlib.Numerals.{add-one}
 use native.Mathlib.Nat.{le-of-lt}
 use native.Mathlib.Omega.{arith}
-use borrow.Author.Tests.{le-leb, lt-leb, eqb-true}
+use borrow.Author.Tests.{le-leb, lt-leb, eqb-true, eq-eqb, ne-eqb}
 use borrow.Table.Steps.{cases}
 use lib.Dec.{leb, eqb}
 use lib.IntN.{ℤ}
@@ -25,6 +25,7 @@ use Rattle.tophat.specs.Normalising.{value}
 use Rattle.tophat.proofs.ComputeNormalising.{failing, stride}
 use Rattle.tophat.proofs.ComputeEntries.{entries}
 use Rattle.tophat.proofs.EntriesBound.{taskRows}
+use Rattle.tophat.proofs.EntriesFailing.{empty-failing}
 use Rattle.tophat.proofs.Preservation.{OptionType, o-some, value-type}
 use Rattle.tophat.proofs.TypeLeaves.{small-nil}
 use Rattle.rows.specs.Rows.{maxRows}
@@ -39,19 +40,19 @@ use Rattle.state.specs.Reading.{decode}
 use Rattle.value.specs.declared.Found.{Found}
 use Rattle.value.specs.Values.{asValue, asFound}
 use Rattle.state.specs.Holds.{World}
-use Rattle.state.specs.Contracts.{Fine, ValueOk, FailingOk}
+use Rattle.state.specs.Contracts.{Fine, ValueOk}
 use Rattle.state.proofs.OneState.{leaves-back}
 use Rattle.entries.specs.Entries.{entryBytes, listText}
 use Rattle.entries.specs.Listing.{Listed, EntriesOk}
 use Rattle.entries.proofs.Bounds.{entries-whole}
 use Rattle.flow.specs.declared.look.Looked.{Looked}
-use Rattle.flow.specs.Calls.{bits, Opened, shut, ready, atRest, decoded, readWith, codeOf, opened, valueMemory, hasOne, flag, lookIn, lookRefused, lookCall}
+use Rattle.calls.specs.Calls.{bits, Opened, shut, ready, atRest, decoded, readWith, codeOf, opened, valueMemory, hasOne, flag, lookIn, lookRefused, lookCall}
 use Rattle.flow.specs.declared.open.Opening.{Opening}
 use Rattle.flow.specs.Opens.{Ready, Opens, OpenOk}
 use Rattle.flow.specs.Looks.{Shown, ShowOk, LookOk}
-use Rattle.flow.proofs.Opening.{sized-of}
+use Rattle.calls.proofs.Opening.{sized-of}
 use Rattle.flow.proofs.OpenLaws.{opened-fine}
-use Rattle.flow.proofs.Widths.{entries-bytes}
+use Rattle.calls.proofs.Widths.{entries-bytes}
 use Rattle.flow.proofs.TaskRows.{task-rows-few}
 
 -- ---- the value
@@ -71,6 +72,18 @@ laid-all from to e =
     laid-front (toZ w32) from to (omega (arith, e))
     ∙ ap (λ l. map (toZ w32) from ++ l) (drop-of-length-le to {i = length from} (omega (arith, e)))
     ∙ append-nil (map (toZ w32) from)
+
+-- ---- the failing flag
+
+no-length : {A : Type 0} (l : List A) → length l ≡ 0 → l ≡ []
+no-length [] e = refl
+no-length (x ∷ l) e = absurd (omega (arith, e))
+
+-- a task that shows no entry fails, and only that
+no-bytes : (c : Code) (s : Store) (t : TaskOf c) (bytes : ℕ) → bytes ≡ length (entries c [] s t) * entryBytes → eqb bytes 0 ≡ failing c [] s t
+no-bytes c s t bytes e = cases (failing c [] s t)
+    (λ y. let z = ap length (empty-failing c [] s t .1 y) in eq-eqb bytes 0 (omega (arith, e, z)) ∙ sym y)
+    (λ y. ne-eqb bytes 0 (λ z. false≢true (sym y ∙ empty-failing c [] s t .0 (no-length (entries c [] s t) (omega (arith, e, z))))) ∙ sym y)
 
 -- ---- an opened rest
 
@@ -119,12 +132,12 @@ module _ (own words env work work₁ : List ℕ) (n bytes : ℕ) (room : length 
       subst (λ a. Shown a (record { number = 24; valued = 0; fails = 0; bytes = 0 }) vs list) (sym (refuses x m k vs list l))
       (record { number = refl; hasValue = refl; fails = refl; bytes = refl; value = refl; list = refl })
 
-  module _ (found : Found) (v : ValueOk own words (n - 1) found) (long : length (found .value .leaves) ≡ maxLeaves) (fails : Bool) (g : FailingOk own words (n - 1) env 0 fails) where
-    pub show-0 : (vs vs₁ : List ℤ) (list list₁ : List ℕ) (has failed : ℕ) → bytes ≤ length list → failed ≡ flag fails → has ≡ flag (found .has) → list₁ ≡ take bytes work₁ ++ drop bytes list
+  module _ (found : Found) (v : ValueOk own words (n - 1) found) (long : length (found .value .leaves) ≡ maxLeaves) where
+    pub show-0 : (vs vs₁ : List ℤ) (list list₁ : List ℕ) (has failed : ℕ) → bytes ≤ length list → failed ≡ flag (eqb bytes 0) → has ≡ flag (found .has) → list₁ ≡ take bytes work₁ ++ drop bytes list
         → vs₁ ≡ laid (toZ w32) (found .value .leaves) vs → ShowOk own words n vs list (record { number = 0; valued = has; fails = failed; bytes = bytes }) vs₁ list₁
     show-0 vs vs₁ list list₁ has failed l p q o u rows ws c t s x m k e =
         let d : found ≡ asFound (value c t s) = v 0 c (x .site .sits) (x .cells) [] (x .type) s t (x .typed) (x .stored) (x .site .small) small-nil (x .writing .holds) (x .writing .stores) in
-        let b : fails ≡ failing c [] s t = g c (x .site .sits) (x .cells) [] (x .type) s [] t (x .typed) (around x m k) (x .writing .holds) in
+        let b = no-bytes c s t bytes (counted x m k) in
         let y = listed x m k in
         subst (λ a. Shown a (record { number = 0; valued = has; fails = failed; bytes = bytes }) vs₁ list₁) (sym (answers x m k vs list l))
         (record {

@@ -2,9 +2,9 @@
 -- Opening, SameRows, and the contracts of `accepted_rows`, `held` and `stride`.
 use mathlib.Core.Path.{_≡_, refl, sym, ap, subst, _∙_}
 use mathlib.Core.Bool.{Bool, true, false, not, cond, _&&_}
-use mathlib.Core.Option.{Option, none, some}
-use mathlib.Core.List.{List, [], _++_, map}
-use Prim.Native.Nat.{ℕ, _+_, _*_, _-_, _%_, _<_, _≤_}
+use mathlib.Core.Option.{none, some}
+use mathlib.Core.List.{List, [], _++_}
+use Prim.Native.Nat.{ℕ, _+_, _*_, _-_, _%_, _≤_}
 use native.Mathlib.Omega.{arith}
 use borrow.Author.Tests.{leb-true, eq-eqb, ne-eqb, not-true, not-false}
 use borrow.Table.Steps.{cases}
@@ -17,9 +17,9 @@ use mir.Val.{ofZ}
 use Rattle.ranges.proofs.Ranges.{and-left, and-right}
 use Rattle.word.specs.Laid.{laid}
 use Rattle.word.proofs.Laid.{laid-front}
-use Rattle.tophat.specs.Syntax.{Ty, Code, TaskOf, Store}
+use Rattle.tophat.specs.Syntax.{TaskOf, Store}
 use Rattle.tophat.proofs.ComputeNormalising.{stride}
-use Rattle.rows.specs.Rows.{maxRows, rowWords, word}
+use Rattle.rows.specs.Rows.{maxRows, rowWords, word, movers}
 use Rattle.rows.specs.Ground.{groundOfRows}
 use Rattle.rows.specs.ComputeTrees.{codeAt, cellTypes}
 use Rattle.rows.proofs.Accepted.{Accepted, accepted}
@@ -27,20 +27,20 @@ use Rattle.rows.proofs.SameWords.{zeros-after, code-same, cells-same, ground-sa
 use Rattle.rows.proofs.TreesAgree.{code-is, cells-are}
 use Rattle.rows.proofs.CellsAt.{cells-small}
 use Rattle.grounds.specs.Accepted.{acceptedRows}
-use Rattle.sheet.specs.Accepted.{rowCount, acceptsRows, acceptedCount, padded, acceptedBits}
+use Rattle.sheet.specs.Accepted.{rowCount, acceptsRows, acceptedCount, padded}
 use Rattle.sheet.proofs.Over.{drop-zeros}
-use Rattle.state.specs.Layout.{stateWords, encode}
+use Rattle.state.specs.Layout.{stateWords}
 use Rattle.state.specs.Reading.{decode}
-use Rattle.state.specs.Contracts.{Fine}
+use Rattle.state.specs.Contracts.{Fine, StrideOk}
 use Rattle.state.proofs.Encode.{Writing, writing-same, padded-same, taken-same}
 use Rattle.state.proofs.SitsOf.{last-sits, within, fine, state-writing, state-is, world}
 use Rattle.state.proofs.Reading.{Written, decode-is, decode-none}
-use Rattle.held.specs.States.{Answer, State, HeldOk}
+use Rattle.held.specs.States.{State, Ends, HeldOk}
 use Rattle.flow.specs.declared.open.Opening.{Opening}
-use Rattle.flow.specs.Calls.{bits, Opened, shut, ready, atRest, decoded, readWith, codeOf, opened}
-use Rattle.flow.specs.Opens.{allWords, Site, Ready, Opens, OpenOk, MovesOk}
-use Rattle.flow.proofs.Opening.{Sized, sized-of}
-use Rattle.flow.proofs.SameRows.{decode-same}
+use Rattle.calls.specs.Calls.{bits, Opened, shut, ready, atRest, decoded, readWith, codeOf, opened}
+use Rattle.flow.specs.Opens.{allWords, Site, Opens, OpenOk}
+use Rattle.calls.proofs.Opening.{sized-of}
+use Rattle.flow.proofs.SameRows.{movers-same, decode-same}
 
 -- ---- ground 20
 
@@ -63,7 +63,7 @@ few-rows rows h =
 
 -- ---- accepted rows, copied in
 
-module _ (rows : List ℤ) (own₀ own : List ℕ) (n : ℕ) (e₀ : n ≡ acceptedCount rows) (o₀ : own ≡ acceptedBits rows own₀) (h₀ : n ≡ 0 → ⊥) where
+module _ (rows : List ℤ) (own : List ℕ) (n : ℕ) (e₀ : n ≡ acceptedCount rows) (o₀ : 1 ≤ n → own ≡ padded rows) (h₀ : n ≡ 0 → ⊥) where
   h : acceptsRows rows ≡ true
   h = counted-yes rows n e₀ h₀
 
@@ -71,7 +71,7 @@ module _ (rows : List ℤ) (own₀ own : List ℕ) (n : ℕ) (e₀ : n ≡ accep
   e = e₀ ∙ ap (λ b. cond b (rowCount rows) 0) h
 
   o : own ≡ padded rows
-  o = o₀ ∙ ap (λ b. cond b (padded rows) own₀) h
+  o = let l = sized-of rows h .some in let k = e in o₀ (omega (arith, k, l))
 
   pub is-accepted : acceptsRows rows ≡ true
   is-accepted = h
@@ -115,19 +115,20 @@ module _ (rows : List ℤ) (own₀ own : List ℕ) (n : ℕ) (e₀ : n ≡ accep
     few = most-rows;
     copied = o;
     small = cells-small (found .flow .cells);
+    moving = found .moving ∙ movers-same own (bits rows) alike n ∙ ap (movers (bits rows)) e;
     sits = last-sits own n found;
     within = within own n found rest;
     fine = is-fine;
   }
 
-  -- ---- a state memory of their size, copied in
+  -- ---- a state memory of their size, copied in over zeros
 
-  module _ (ws : List ℤ) (words : List ℕ) (l : length ws ≡ n * stateWords) (p₀ : words ≡ laid (ofZ w32) ws (replicate allWords 0)) where
+  module _ (ws : List ℤ) (words₀ words : List ℕ) (z₀ : words₀ ≡ replicate allWords 0) (l : length ws ≡ n * stateWords) (p₀ : words ≡ laid (ofZ w32) ws words₀) where
     p : words ≡ bits ws ++ replicate (allWords - length ws) 0
     p =
         let m = most-rows in
         let k = length-replicate {A = ℕ} allWords 0 in
-        p₀ ∙ laid-front (ofZ w32) ws (replicate allWords 0) (omega (arith, k, l, m)) ∙ ap (λ z. bits ws ++ z) (drop-zeros (length ws) allWords)
+        p₀ ∙ ap (laid (ofZ w32) ws) z₀ ∙ laid-front (ofZ w32) ws (replicate allWords 0) (omega (arith, k, l, m)) ∙ ap (λ z. bits ws ++ z) (drop-zeros (length ws) allWords)
 
     taken : take (n * stateWords) words ≡ bits ws
     taken = ap (take (n * stateWords)) p ∙ take-at (bits ws) (replicate (allWords - length ws) 0) (n * stateWords) (length-map ws (ofZ w32) ∙ l)
@@ -169,17 +170,23 @@ module _ (rows : List ℤ) (own₀ own : List ℕ) (n : ℕ) (e₀ : n ≡ accep
         let d = decode-here in
         rw (a, q, f, r, d)
 
-    module _ (fits : Bool) (f : fits ≡ true) (b : Bool) (k : HeldOk own n words b) where
+    -- zeros stand after them
+    pub ends : Ends n words
+    ends k g =
+        let z : length (bits ws) ≡ n * stateWords = length-map ws (ofZ w32) ∙ l in
+        ap (λ w. getD w k 0) p ∙ zeros-after (bits ws) (allWords - length ws) k ∙ List·getD-eq-default (bits ws) 0 (omega (arith, z, g))
+
+    module _ (fits : Bool) (f : fits ≡ true) (b : Bool) (work : List ℕ) (k : HeldOk own n words work b) where
       pub open-22 : not b ≡ true → OpenOk rows ws fits own words (record { number = 22; n = n })
       unfolding decoded
       open-22 z =
-          let no = k found rest .neg (not-true b z) in
+          let no = k found rest .0 .neg (not-true b z) in
           let d : decode own n (found .code) (found .cells) (bits ws) ≡ none = decode-none own n found (bits ws) rest .1 (λ t s w. no (state-of t s w)) in
           subst (Opens rows ws own words (record { number = 22; n = n })) (sym (opened-here fits f ∙ ap (decoded (found .code)) d)) (refl, omega arith)
 
-      module _ (z : not b ≡ false) (moved : Bool) (m : MovesOk own words n moved) where
+      module _ (z : not b ≡ false) (moved : Bool) (after env : List ℕ) (m : StrideOk own work after (n - 1) env 0 moved) where
         held-state : State own n found words
-        held-state = k found rest .pos (not-false b z)
+        held-state = k found rest .0 .pos (not-false b z)
 
         rests : opened rows ws fits ≡ atRest (found .code) (held-state .task) (held-state .store)
         unfolding decoded
@@ -188,7 +195,8 @@ module _ (rows : List ℤ) (own₀ own : List ℕ) (n : ℕ) (e₀ : n ≡ accep
         flag : moved ≡ stride (found .code) [] (held-state .store) (held-state .task) .2
         flag =
             let x = held-state in
-            m .2 (found .code) (last-sits own n found) (found .cells) [] (found .type) (x .store) [] (x .task) (x .typed) (world own n found (x .writing .stores) (x .stored)) (x .writing .holds) .1
+            let y = subst (λ ws. StrideOk own ws after (n - 1) env 0 moved) (k found rest .1 (not-false b z)) m in
+            y (found .code) (last-sits own n found) (found .cells) [] (found .type) (x .store) [] (x .task) (x .typed) (world own n found (x .writing .stores) (x .stored)) (x .writing .holds) .1
 
         pub open-23 : moved ≡ true → OpenOk rows ws fits own words (record { number = 23; n = n })
         unfolding atRest

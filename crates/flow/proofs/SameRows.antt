@@ -1,19 +1,19 @@
 -- States are read and written through the words of rows alone: rows that agree word by word write and read the same. Rests on
 -- state's Layout and Reading.
-use mathlib.Core.Path.{_≡_, refl, ap, ap₂}
-use mathlib.Core.Bool.{true, false, cond}
-use mathlib.Core.Option.{Option, none, some}
+use mathlib.Core.Path.{_≡_, refl}
+use mathlib.Core.Bool.{cond, _||_}
+use mathlib.Core.Option.{none, some}
 use mathlib.Core.List.{List, [], _∷_, _++_}
 use Prim.Native.Nat.{ℕ, zero, suc, _+_, _*_, _-_}
 use lib.Dec.{eqb}
 use lib.ListN.{getD, replicate}
-use Rattle.tophat.specs.Syntax.{Ty, unit, truth, number, pair, Code, edit, enter, update, then, next, fail, and, or, xor, if, let', Val, vunit, Store}
-use Rattle.tophat.specs.Syntax.{TaskOf, filled, blank, entered, shared, before, after, failed, both, either, orLeft, orRight, unpicked, pickedLeft, pickedRight, ifTrue, ifFalse, bound}
+use Rattle.tophat.specs.Syntax.{Ty, unit, truth, number, pair, Code, edit, enter, update, then, next, fail, and, or, xor, if, let', vunit, Store}
+use Rattle.tophat.specs.Syntax.{TaskOf, filled, blank, entered, before, after, both, either, orLeft, orRight, unpicked, pickedLeft, pickedRight, ifTrue, ifFalse, bound}
 use Rattle.tophat.proofs.ComputeTyping.{bind, infer, inferTask}
-use Rattle.rows.specs.Rows.{rowWords, word}
+use Rattle.rows.specs.Rows.{rowWords, word, count, movers}
 use Rattle.rows.specs.ComputeTrees.{cellType, contentOf, firstStore}
 use Rattle.state.specs.Layout.{stateWords, tagged, valued, own, one, other, writeTask, writeCells, encode}
-use Rattle.state.specs.Reading.{valueAt, byTag, readTask, cellAt, readStore, same, decode}
+use Rattle.state.specs.Reading.{valueAt, byTag, readTask, readStore, same, decode}
 
 module _ (rs ts : List ℕ) (e : (i : ℕ) → getD rs i 0 ≡ getD ts i 0) where
   -- word k of row i
@@ -70,6 +70,11 @@ module _ (rs ts : List ℕ) (e : (i : ℕ) → getD rs i 0 ≡ getD ts i 0) wher
   unfolding firstStore
   first-same zero = refl
   first-same (suc i) = λ j. first-same i j ++ content-same (cell-same i j) (at i 2 j) j ∷ []
+
+  pub movers-same : (n : ℕ) → movers rs n ≡ movers ts n
+  unfolding movers
+  movers-same zero = refl
+  movers-same (suc i) = λ j. movers-same i j + count (eqb (at i 0 j) 43 || eqb (at i 0 j) 47)
 
   -- ---- reading
 

@@ -1,70 +1,77 @@
 -- `start`, each way out, and what the functions below it leave. Rests on OpenLaws and on the contracts of evaluate and normalise.
 use mathlib.Core.Path.{_≡_, refl, sym, ap, subst, _∙_}
 use mathlib.Core.Bool.{Bool, true, false, cond}
-use mathlib.Core.Logic.{_⊎_, inl, inr, ⊎-elim}
-use mathlib.Core.Option.{none, some}
-use mathlib.Core.List.{List, [], _∷_, _++_, map}
-use Prim.Native.Nat.{ℕ, suc, _+_, _*_, _-_, _≤_, _<_}
-use native.Mathlib.Nat.{eq-or-lt-of-le, le-of-suc-le-suc}
+use mathlib.Core.Logic.{inr}
+use mathlib.Core.Option.{some}
+use mathlib.Core.List.{List, [], _∷_, map}
+use Prim.Native.Nat.{ℕ, _+_, _*_, _-_, _≤_, _<_}
 use native.Mathlib.Numerals.{add-one}
 use native.Mathlib.Omega.{arith}
 use borrow.Author.Tests.{eq-eqb, ne-eqb}
 use lib.Dec.{eqb}
 use lib.IntN.{ℤ}
-use lib.ListN.{length, getD, take, length-append, length-take, List·getD-append}
-use lib.Seq.{getD-append-seam, length-take-le}
+use lib.ListN.{length, getD, take}
+use lib.Seq.{length-take-le}
 use mir.Syntax.{w32}
 use mir.Val.{toZ}
 use Rattle.word.specs.Word.{words, AllWords}
 use Rattle.word.specs.Laid.{laid}
 use Rattle.word.proofs.Laid.{laid-full}
 use Rattle.word.proofs.Lists.{bits-bits}
-use Rattle.tophat.specs.Syntax.{Ty, unit, truth, number, Code, Val, vunit, vtruth, vnumber, TaskOf, Store}
+use Rattle.tophat.specs.Syntax.{Ty, unit, truth, number, Code, vunit, vtruth, vnumber, TaskOf, Store, moves}
 use Rattle.tophat.specs.Typing.{TaskType, ValueTypes, v-nil}
+use Rattle.tophat.specs.Normalising.{Normalises}
 use Rattle.tophat.proofs.ComputeEvaluation.{evaluate}
-use Rattle.tophat.proofs.ComputeNormalising.{normalise, settle}
+use Rattle.tophat.proofs.ComputeNormalising.{settle}
 use Rattle.tophat.proofs.TaskEvaluationAgrees.{evaluate-good}
 use Rattle.tophat.proofs.NormalisingSound.{normalise-sound}
 use Rattle.tophat.proofs.TypeLeaves.{small-nil}
-use Rattle.rows.specs.Rows.{maxRows, word, opA, opB}
+use Rattle.tophat.proofs.Bound.{normalises-bound}
+use Rattle.rows.specs.Rows.{word, opA, opB, movers}
 use Rattle.rows.specs.ComputeTrees.{cellType, contentOf, firstStore}
-use Rattle.rows.proofs.Accepted.{Accepted}
 use Rattle.rows.proofs.TreesAgree.{cells-are}
 use Rattle.rows.proofs.CellsAt.{store-typed}
-use Rattle.sheet.specs.Accepted.{rowCount, acceptsRows, acceptedCount, padded, acceptedBits}
+use Rattle.sheet.specs.Accepted.{rowCount, acceptedCount, padded}
 use Rattle.value.specs.declared.Value.{Value}
 use Rattle.value.specs.Values.{asValue}
 use Rattle.state.specs.Layout.{stateWords, own, valueWords, encode}
-use Rattle.state.specs.Holds.{treeOf, Cell, Row, Clear, Stores, Same, Area}
+use Rattle.state.specs.Holds.{treeOf, Cell, Row, Clear, Stores}
 use Rattle.state.specs.Words.{wordsOf, Laid}
 use Rattle.state.specs.Contracts.{EvaluateOk, NormaliseOk}
 use Rattle.state.proofs.Words.{laid-as, zeroWords}
-use Rattle.state.proofs.Frames.{same-refl, same-trans, same-weak, same-row, foot-cell}
+use Rattle.state.proofs.Frames.{same-refl, same-weak, same-row, foot-cell}
 use Rattle.state.proofs.Encode.{Writing, zero-row, writing-same, taken-same, encode-is}
 use Rattle.state.proofs.Typed.{fits-typed, store-short}
 use Rattle.state.proofs.SitsOf.{last-sits, within, world}
-use Rattle.held.specs.Copies.{CopyCell, CopyCells}
-use Rattle.flow.specs.declared.start.Answer.{Answer}
-use Rattle.flow.specs.Calls.{bits, stateOf, codeOf, startWith, startCall}
+use Rattle.held.proofs.Cells.{more-cells}
+use Rattle.calls.specs.Calls.{bits, stateOf, startWith, startCall}
 use Rattle.flow.specs.Opens.{allWords, Site}
-use Rattle.flow.specs.Starts.{Answered, contentAt, firstAt, CellFirst, CellsFirst, BeginOk}
+use Rattle.flow.specs.Starts.{Answered, Bounded, contentAt, firstAt, CellFirst, CellsFirst, BeginOk}
 use Rattle.flow.proofs.SameRows.{encode-same, first-same}
-use Rattle.flow.proofs.OpenLaws.{counted-yes, counted-no, is-accepted, is-count, alike, found, rest, code, site}
+use Rattle.flow.proofs.OpenLaws.{counted-no, is-accepted, is-count, alike, found, rest, code, site}
 
 -- ---- a cell's first content
 
-module _ (rs : List ℕ) (i : ℕ) {a k w : ℕ} (h : a ≡ opA rs i) (e : k ≡ word rs a 0) (o : w ≡ opB rs i) {r : Value} where
+-- the content of a cell of truths, or of numbers
+abbrev contentBy : List ℕ → ℕ → Bool → Value
+contentBy rs i b = asValue (contentOf rs (cond b truth number) (opB rs i))
+
+module _ (rs : List ℕ) (i : ℕ) {k w : ℕ} (e : k ≡ cond (eqb (word rs (opA rs i) 0) 2) 2 3) (o : w ≡ opB rs i) {r : Value} where
   pub content-truth : k ≡ 2 → (b : Bool) → b ≡ eqb w 1 → r ≡ asValue (vtruth b) → r ≡ asValue (contentAt rs i)
   unfolding contentOf
-  content-truth z b q p =
-      let t = eq-eqb (word rs (opA rs i) 0) 2 (ap (λ a. word rs a 0) (sym h) ∙ sym e ∙ z) in
-      p ∙ ap (λ b. asValue (vtruth b)) (q ∙ ap (λ w. eqb w 1) o) ∙ ap (λ b. asValue (contentOf rs (cond b truth number) (opB rs i))) (sym t)
+  content-truth z b q p = which (eqb (word rs (opA rs i) 0) 2) e
+    where
+      which : (t : Bool) → k ≡ cond t 2 3 → r ≡ contentBy rs i t
+      which true h = p ∙ ap (λ b. asValue (vtruth b)) (q ∙ ap (λ w. eqb w 1) o)
+      which false h = absurd (omega (arith, h, z))
 
   pub content-number : (k ≡ 2 → ⊥) → r ≡ asValue (vnumber (toZ w32 w)) → r ≡ asValue (contentAt rs i)
   unfolding contentOf
-  content-number n p =
-      let t = ne-eqb (word rs (opA rs i) 0) 2 (λ z. n (e ∙ ap (λ a. word rs a 0) h ∙ z)) in
-      p ∙ ap (λ w. asValue (vnumber (toZ w32 w))) o ∙ ap (λ b. asValue (contentOf rs (cond b truth number) (opB rs i))) (sym t)
+  content-number n p = which (eqb (word rs (opA rs i) 0) 2) e
+    where
+      which : (t : Bool) → k ≡ cond t 2 3 → r ≡ contentBy rs i t
+      which true h = absurd (n h)
+      which false h = p ∙ ap (λ w. asValue (vnumber (toZ w32 w))) o
 
 module _ (rs : List ℕ) (i : ℕ) {k : ℕ} (h : k ≡ word rs i 0) where
   pub first-is : {y y₁ : List ℕ} {v : Value} → k ≡ 10 → v ≡ asValue (contentAt rs i) → Laid y y₁ i (own ∷ wordsOf v) → CellFirst rs y y₁ i
@@ -86,23 +93,6 @@ unfolding firstStore
 no-firsts rs y = record { long = refl; cells = λ j l. absurd (omega arith); same = same-refl }
 
 module _ {rs y z y₁ : List ℕ} {i : ℕ} where
-  more-cells : {s : Store} {v : Val} → CopyCells rs y z i s → CopyCell rs z y₁ i v → CopyCells rs y y₁ (suc i) (s ++ v ∷ [])
-  more-cells {s} {v} a c = record {
-    long = length-append s (v ∷ []) ∙ (let e = a .long in omega arith);
-    cells = λ j l k. ⊎-elim (λ (e : j ≡ i). at-end j e k) (λ (h : j < i). before j h k) (eq-or-lt-of-le (le-of-suc-le-suc l));
-    same = same-trans (same-weak (λ j q. (q .0, let h = q .1 in omega arith)) (a .same)) (same-weak (λ j q. (q .0, let h = q .1 in omega arith)) (c .same));
-  }
-    where
-      at-end : (j : ℕ) → j ≡ i → Cell rs j → Row y₁ j (own ∷ valueWords (getD (s ++ v ∷ []) j vunit))
-      at-end j e k =
-          let q : getD (s ++ v ∷ []) j vunit ≡ v = ap (λ m. getD (s ++ v ∷ []) m vunit) (e ∙ sym (a .long)) ∙ getD-append-seam s v [] vunit in
-          subst (λ u. Row y₁ j (own ∷ valueWords u)) (sym q) (subst (λ m. Row y₁ m (own ∷ valueWords v)) (sym e) (c .row (subst (Cell rs) e k)))
-
-      before : (j : ℕ) → j < i → Cell rs j → Row y₁ j (own ∷ valueWords (getD (s ++ v ∷ []) j vunit))
-      before j h k =
-          let q = List·getD-append s (v ∷ []) vunit j (let e = a .long in omega arith) in
-          subst (λ u. Row y₁ j (own ∷ valueWords u)) (sym q) (same-row (c .same) (λ g. let e = g .1 in omega arith) (a .cells j h k))
-
   pub more-firsts : CellsFirst rs y z i → CellFirst rs z y₁ i → CellsFirst rs y y₁ (i + 1)
   unfolding firstStore
   more-firsts a c = subst (λ k. CellsFirst rs y y₁ k) (sym (add-one i)) (more-cells a c)
@@ -112,15 +102,16 @@ all-firsts {rs} {y} {y₁} e a = subst (CellsFirst rs y y₁) e a
 
 -- ---- evaluated and normalised
 
-pub begins : (rs : List ℕ) (n : ℕ) (w₀ w₁ w₂ env : List ℕ) (r : ℕ) → CellsFirst rs (zeroWords allWords) w₀ n → EvaluateOk rs w₀ w₁ (n - 1) env 0 → NormaliseOk rs w₁ w₂ (n - 1) env 0 r → BeginOk rs n w₂ r
+pub begins : (rs : List ℕ) (n : ℕ) (z w₀ w₁ w₂ env : List ℕ) (r : ℕ) → z ≡ zeroWords allWords → CellsFirst rs z w₀ n → EvaluateOk rs w₀ w₁ (n - 1) env 0 → NormaliseOk rs w₁ w₂ (n - 1) env 0 r → BeginOk rs n w₂ r
 unfolding settle
-begins rs n w₀ w₁ w₂ env r f ev nm a past bs =
+begins rs n z w₀ w₁ w₂ env r zs f ev nm a past bs =
     let c = a .code in
     let s = a .store in
     let si = last-sits rs n a in
+    let none : (j : ℕ) → Row z j [] = λ j. subst (λ z. Row z j []) (sym zs) (zero-row allWords j) in
     let q : s ≡ firstStore rs n = cells-are (a .flow .cells) .1 in
     let st : Stores rs w₀ s = record { cells = λ j k. subst (λ s. Row w₀ j (own ∷ valueWords (getD s j vunit))) (sym q) (f .cells j (within rs n a past j (omega (arith, k))) k) } in
-    let dead : Clear rs w₀ (n - 1) (treeOf c) = record { dead = λ j g. same-row (f .same) (λ k. foot-cell rs 0 (n - 1) c si j (k .0) g) (zero-row allWords j) } in
+    let dead : Clear rs w₀ (n - 1) (treeOf c) = record { dead = λ j g. same-row (f .same) (λ k. foot-cell rs 0 (n - 1) c si j (k .0) g) (none j) } in
     let vs = store-typed bs (a .flow .cells) in
     let g = evaluate-good (a .flow .typed) [] s v-nil vs in
     let x = ev c si (a .cells) [] (a .type) s [] (a .flow .typed) (world rs n a st vs) dead in
@@ -128,7 +119,7 @@ begins rs n w₀ w₁ w₂ env r f ev nm a past bs =
       record {
         holds = y .0 .holds;
         stores = y .0 .stores;
-        rest = λ j o. same-row (y .0 .same) o (same-row (x .same) o (same-row (f .same) (λ k. o (inr (k .0))) (zero-row allWords j)));
+        rest = λ j o. same-row (y .0 .same) o (same-row (x .same) o (same-row (f .same) (λ k. o (inr (k .0))) (none j)));
       },
       y .1,
     )
@@ -149,36 +140,46 @@ copied-out {rows} ws {own} {words} {n} {c} {Σ} {τ} {t} {s} z same k h w l m =
     ∙ ap (λ k. map (toZ w32) (take k words)) m
     ∙ ap (map (toZ w32)) (e ∙ encode-same own (bits rows) same n c t s ∙ ap (λ n. encode (bits rows) n c t s) (z .count))
 
+-- ---- the bound on strides
+
+-- a refusal counts none
+pub zero-bounded : (rows : List ℤ) → Bounded rows 0
+zero-bounded rows = omega arith
+
+-- what normalising counts
+pub bounded-by : (rows : List ℤ) {c : Code} {s s₁ : Store} {t t₁ : TaskOf c} {n j : ℕ} → Normalises c [] s t t₁ s₁ n → moves c ≡ movers (bits rows) (rowCount rows) → j ≡ n → Bounded rows j
+bounded-by rows d m e = let b = normalises-bound d in omega (arith, b, m, e)
+
 -- ---- start
 
-pub start-20 : (rows ws : List ℤ) (n : ℕ) → n ≡ acceptedCount rows → n ≡ 0 → Answered (startCall rows ws) (record { number = 20; strides = 0 }) ws
+pub start-20 : (rows ws : List ℤ) (n : ℕ) → n ≡ acceptedCount rows → n ≡ 0 → Answered (startCall rows ws) (record { number = 20; strides = 0 }) ws × Bounded rows 0
 unfolding startCall
-start-20 rows ws n e z = let a = counted-no rows n e z in rw a (refl, refl, refl)
+start-20 rows ws n e z = let a = counted-no rows n e z in (rw a (refl, refl, refl), zero-bounded rows)
 
-module _ (rows : List ℤ) (own₀ own : List ℕ) (n : ℕ) (e₀ : n ≡ acceptedCount rows) (o₀ : own ≡ acceptedBits rows own₀) (h₀ : n ≡ 0 → ⊥) (ws : List ℤ) where
-  pub start-21 : (length ws ≡ n * stateWords → ⊥) → Answered (startCall rows ws) (record { number = 21; strides = 0 }) ws
+module _ (rows : List ℤ) (own : List ℕ) (n : ℕ) (e₀ : n ≡ acceptedCount rows) (o₀ : 1 ≤ n → own ≡ padded rows) (h₀ : n ≡ 0 → ⊥) (ws : List ℤ) where
+  pub start-21 : (length ws ≡ n * stateWords → ⊥) → Answered (startCall rows ws) (record { number = 21; strides = 0 }) ws × Bounded rows 0
   unfolding startCall
   start-21 l =
-      let a = is-accepted rows own₀ own n e₀ o₀ h₀ in
-      let q = ne-eqb (length ws) (rowCount rows * stateWords) (λ z. l (z ∙ ap (λ k. k * stateWords) (sym (is-count rows own₀ own n e₀ o₀ h₀)))) in
-      rw (a, q) (refl, refl, refl)
+      let a = is-accepted rows own n e₀ o₀ h₀ in
+      let q = ne-eqb (length ws) (rowCount rows * stateWords) (λ z. l (z ∙ ap (λ k. k * stateWords) (sym (is-count rows own n e₀ o₀ h₀)))) in
+      (rw (a, q) (refl, refl, refl), zero-bounded rows)
 
   module _ (w : 1 ≤ n → AllWords rows) (l : length ws ≡ n * stateWords) (out : List ℤ) (words : List ℕ) (r : ℕ) (b : BeginOk own n words r) (m : length words ≡ allWords) (p : out ≡ laid (toZ w32) words ws) where
-    pub start-0 : Answered (startCall rows ws) (record { number = 0; strides = r }) out
+    pub start-0 : Answered (startCall rows ws) (record { number = 0; strides = r }) out × Bounded rows r
     unfolding startCall startWith settle
     start-0 =
-        let a = is-accepted rows own₀ own n e₀ o₀ h₀ in
-        let cnt = is-count rows own₀ own n e₀ o₀ h₀ in
+        let a = is-accepted rows own n e₀ o₀ h₀ in
+        let cnt = is-count rows own n e₀ o₀ h₀ in
         let q = eq-eqb (length ws) (rowCount rows * stateWords) (l ∙ ap (λ k. k * stateWords) cnt) in
-        let d = code rows own₀ own n e₀ o₀ h₀ in
-        let f = found rows own₀ own n e₀ o₀ h₀ in
-        let al = alike rows own₀ own n e₀ o₀ h₀ in
-        let si = site rows own₀ own n e₀ o₀ h₀ in
+        let d = code rows own n e₀ o₀ h₀ in
+        let f = found rows own n e₀ o₀ h₀ in
+        let al = alike rows own n e₀ o₀ h₀ in
+        let si = site rows own n e₀ o₀ h₀ in
         let all = bits-bits rows (w (si .some)) in
         let bs : (k : ℕ) → getD own k 0 < 4294967296 = λ k. subst (λ x. x < 4294967296) (sym (al k)) (all k) in
         let fs : firstStore (bits rows) (rowCount rows) ≡ f .store = ap (firstStore (bits rows)) (sym cnt) ∙ sym (first-same own (bits rows) al n) ∙ sym (cells-are (f .flow .cells) .1) in
-        let y = b f (rest rows own₀ own n e₀ o₀ h₀) bs in
+        let y = b f (rest rows own n e₀ o₀ h₀) bs in
         let g = evaluate-good (f .flow .typed) [] (f .store) v-nil (store-typed bs (f .flow .cells)) in
         let k = normalise-sound (f .code) [] _ _ (g .task) v-nil (g .store) in
         let o = copied-out {rows = rows} ws si al (k .task) (k .store) (y .0) m l in
-        rw (a, q, d, fs) (refl, y .1, p ∙ o)
+        (rw (a, q, d, fs) (refl, y .1, p ∙ o), bounded-by rows (k .derived) (si .moving) (y .1))

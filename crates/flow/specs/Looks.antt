@@ -10,7 +10,7 @@ use Rattle.tophat.proofs.EntriesBound.{taskRows}
 use Rattle.rows.specs.Rows.{maxRows}
 use Rattle.rows.proofs.Binders.{MarksFit}
 use Rattle.flow.specs.declared.look.Looked.{Looked}
-use Rattle.flow.specs.Calls as calls
+use Rattle.calls.specs.Calls as calls
 use Rattle.flow.specs.Opens.{Ready}
 
 pub record Shown (a : calls.Looked) (r : Looked) (vs : List ℤ) (bs : List ℕ) : Type 0 where

@@ -6,17 +6,17 @@ use mathlib.Core.List.{List, [], _++_}
 use Prim.Native.Nat.{ℕ, _*_, _-_, _<_, _≤_}
 use lib.IntN.{ℤ}
 use lib.ListN.{length, replicate}
-use Rattle.tophat.specs.Syntax.{Ty, Code, TaskOf, Store}
+use Rattle.tophat.specs.Syntax.{Ty, Code, TaskOf, Store, moves}
 use Rattle.tophat.specs.Typing.{TaskType, ValueTypes}
 use Rattle.tophat.proofs.TypeLeaves.{AllSmall}
-use Rattle.rows.specs.Rows.{maxRows, word}
+use Rattle.rows.specs.Rows.{maxRows, word, movers}
 use Rattle.sheet.specs.Accepted.{rowCount, padded}
 use Rattle.state.specs.Layout.{stateWords}
 use Rattle.state.specs.Holds.{Sits}
-use Rattle.state.specs.Contracts.{Fine, StrideOk}
+use Rattle.state.specs.Contracts.{Fine}
 use Rattle.state.proofs.Encode.{Writing}
 use Rattle.flow.specs.declared.open.Opening.{Opening}
-use Rattle.flow.specs.Calls.{bits, Opened, shut, ready, opened}
+use Rattle.calls.specs.Calls.{bits, Opened, shut, ready, opened}
 
 -- how many words the engine's own state has
 abbrev pub allWords : ℕ
@@ -29,6 +29,7 @@ pub record Site (rows : List ℤ) (own : List ℕ) (n : ℕ) (c : Code) (Σ : Li
   pub few : n ≤ maxRows
   pub copied : own ≡ padded rows
   pub small : AllSmall Σ
+  pub moving : moves c ≡ movers (bits rows) (rowCount rows)
   pub sits : Sits own 0 (n - 1) c
   pub within : (j : ℕ) → 10 ≤ word own j 0 → j < n
   pub fine : Fine own (n - 1) 0
@@ -51,7 +52,3 @@ module _ (rows ws : List ℤ) (own words : List ℕ) (r : Opening) where
 
 abbrev pub OpenOk : List ℤ → List ℤ → Bool → List ℕ → List ℕ → Opening → Type 0
 OpenOk rows ws fits own words r = Opens rows ws own words r (opened rows ws fits)
-
--- whether a stride changes the words, tried in a copy of them
-abbrev pub MovesOk : List ℕ → List ℕ → ℕ → Bool → Type 0
-MovesOk own words n r = (after env : List ℕ) × StrideOk own words after (n - 1) env 0 r

@@ -3,24 +3,30 @@
 use mathlib.Core.Path.{_≡_}
 use mathlib.Core.Bool.{cond}
 use mathlib.Core.List.{List, []}
-use Prim.Native.Nat.{ℕ, _-_, _≤_, _<_}
+use Prim.Native.Nat.{ℕ, _+_, _-_, _≤_, _<_}
 use lib.Dec.{eqb}
 use lib.IntN.{ℤ}
 use lib.ListN.{getD}
 use Rattle.word.specs.Word.{words}
 use Rattle.tophat.specs.Syntax.{truth, number, Val}
 use Rattle.tophat.proofs.ComputeNormalising.{settle}
-use Rattle.rows.specs.Rows.{word, opA, opB}
+use Rattle.rows.specs.Rows.{word, opA, opB, movers}
 use Rattle.rows.specs.ComputeTrees.{cellType, contentOf, firstStore}
 use Rattle.rows.proofs.Accepted.{Accepted}
+use Rattle.sheet.specs.Accepted.{rowCount}
 use Rattle.state.proofs.Encode.{Writing}
 use Rattle.held.specs.Copies.{CopyCell, CopyCells}
 use Rattle.flow.specs.declared.start.Answer.{Answer}
-use Rattle.flow.specs.Calls as calls
+use Rattle.calls.specs.Calls as calls
+use Rattle.calls.specs.Calls.{bits}
 
 -- number, strides and the state memory at exit are those of the definition
 abbrev pub Answered : calls.Answer → Answer → List ℤ → Type 0
 Answered a r out = (r .number ≡ a .number) × (r .strides ≡ a .strides) × (out ≡ a .state)
+
+-- 01: "a call counts at most 1 more than the rows of kind 43 and 47"
+abbrev pub Bounded : List ℤ → ℕ → Type 0
+Bounded rows n = n ≤ 1 + movers (bits rows) (rowCount rows)
 
 -- the first content of a cell's row
 abbrev pub contentAt : List ℕ → ℕ → Val

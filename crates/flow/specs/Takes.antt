@@ -6,12 +6,12 @@ use mathlib.Core.List.{List}
 use lib.IntN.{ℤ}
 use Rattle.decimal.specs.Path.{Path}
 use Rattle.tophat.specs.Handling.{Action}
-use Rattle.handle.specs.Events.{Readable, eventPath, eventAction}
-use Rattle.flow.specs.declared.take.EventReading.{EventReading}
+use Rattle.handle.specs.Events.{eventPath, eventAction}
+use Rattle.flow.specs.declared.event.EventReading.{EventReading}
 use Rattle.flow.specs.declared.start.Answer.{Answer}
-use Rattle.flow.specs.Calls as calls
-use Rattle.flow.specs.Calls.{Opened, shut, ready, refusedBy, heard, opened}
-use Rattle.flow.specs.Starts.{Answered}
+use Rattle.calls.specs.Calls as calls
+use Rattle.calls.specs.Calls.{Opened, shut, ready, refusedBy, heard, opened}
+use Rattle.flow.specs.Starts.{Answered, Bounded}
 
 -- what a reading says of an event
 abbrev pub Says : EventReading → Option (Path × Action) → Type 0
@@ -24,4 +24,4 @@ heardIn rows ws o (shut g) = refusedBy g ws
 heardIn rows ws o (ready c t s) = heard rows ws c t s o
 
 abbrev pub TakeOk : List ℤ → List ℤ → EventReading → Answer → List ℤ → Type 0
-TakeOk rows ws e r out = (o : Option (Path × Action)) → Says e o → Answered (heardIn rows ws o (opened rows ws true)) r out
+TakeOk rows ws e r out = (o : Option (Path × Action)) → Says e o → Answered (heardIn rows ws o (opened rows ws true)) r out × Bounded rows (r .strides)

@@ -1,7 +1,11 @@
 // The call look (01, "Four calls"): what a rest shows, in lent memory. Rests on `open`, and on crates tasks, cycle and entries.
 use super::open::open;
-use cycle::failing;
+use entries::LIST_BYTES;
 use entries::entries;
+use rows::ROWS_WORDS;
+use state::ENV_WORDS;
+use state::STATE_SIZE;
+use tophat::MAX_LEAVES;
 use value::Value;
 use word::copy_out;
 ghost use mathlib.Core.Path.{_≡_};
@@ -13,7 +17,7 @@ ghost use mir.Val.{toZ};
 ghost use Rattle.word.specs.Laid.{laid};
 ghost use Rattle.tophat.specs.Syntax.{maxLeaves};
 ghost use Rattle.state.specs.Contracts.{Fine};
-ghost use Rattle.flow.specs.Calls.{flag, lookCall};
+ghost use Rattle.calls.specs.Calls.{flag, lookCall};
 ghost use Rattle.flow.specs.Looks.{Shown, ShowOk, LookOk};
 
 // 0 or the ground, the flags, and how many bytes the part has.
@@ -52,19 +56,19 @@ fn value_out(v: Value, lent: &mut [i32])
     copy_out(&leaves, lent);
 }
 
-// What the rest shows, where the list has room for it.
+// What the rest shows, where the list has room for it. It fails exactly where it shows no entry.
 fn show(
-    own: &[u32; 1024],
-    words: &[u32; 4096],
+    own: &[u32; ROWS_WORDS],
+    words: &[u32; STATE_SIZE],
     n: usize,
-    work: &mut [u8; 6912],
+    work: &mut [u8; LIST_BYTES],
     value: &mut [i32],
     list: &mut [u8],
 ) -> Looked
     requires { ⌜ (1 ≤ n) × Fine (now own) (n - 1) 0 ⌝ }
     ensures { λ r. ⌜ ShowOk (now (own .entry)) (now (words .entry)) n (now (value .entry)) (now (list .entry)) r (now (value .exit)) (now (list .exit)) ⌝ }
 {
-    let none = [0u32; 80];
+    let none = [0u32; ENV_WORDS];
     let bytes = entries(own, words, n - 1, &none, 0, 0, 1, work);
     if list.len() < bytes {
         return Looked {
@@ -75,7 +79,7 @@ fn show(
         };
     }
     let found = tasks::value(own, words, n - 1);
-    let fails = flag(failing(own, words, n - 1, &none, 0));
+    let fails = flag(bytes == 0);
     let has_value = flag(found.has);
     put_bytes(work, bytes, list);
     value_out(found.value, value);
@@ -91,9 +95,9 @@ fn show(
 pub fn fill(rows: &[i32], state: &[i32], value: &mut [i32], list: &mut [u8]) -> Looked
     ensures { λ r. ⌜ Shown (lookCall (now (rows .entry)) (now (state .entry)) (now (value .entry)) (now (list .entry))) r (now (value .exit)) (now (list .exit)) ⌝ }
 {
-    let mut own = [0u32; 1024];
-    let mut words = [0u32; 4096];
-    let fits = value.len() == 4;
+    let mut own = [0u32; ROWS_WORDS];
+    let mut words = [0u32; STATE_SIZE];
+    let fits = value.len() == MAX_LEAVES;
     let rest = open(rows, state, fits, &mut own, &mut words);
     if rest.number != 0 {
         return Looked {
@@ -103,7 +107,7 @@ pub fn fill(rows: &[i32], state: &[i32], value: &mut [i32], list: &mut [u8]) -> 
             bytes: 0,
         };
     }
-    let mut work = [0u8; 6912];
+    let mut work = [0u8; LIST_BYTES];
     show(&own, &words, rest.n, &mut work, value, list)
 }
 

@@ -1,10 +1,17 @@
 // The call `start`: accepted rows, their cells' first contents, the last row evaluated and normalised (01, "Normalise").
-use super::open::STATE_WORDS;
 use cycle::normalise;
+use held::cell_shape;
+use rows::CELL;
+use rows::MAX_ROWS;
+use rows::ROW_WORDS;
+use rows::ROWS_WORDS;
+use shape::TRUTH;
 use sheet::accepted_rows;
+use state::ENV_WORDS;
 use state::OWN;
+use state::STATE_SIZE;
+use state::STATE_WORDS;
 use state::get;
-use state::operand;
 use state::put_value;
 use tasks::evaluate;
 use value::Value;
@@ -12,19 +19,17 @@ use value::number;
 use value::truth;
 use word::copy_out;
 ghost use mathlib.Core.Path.{_≡_};
-ghost use mathlib.Core.Bool.{cond};
 ghost use Prim.Native.Nat.{_-_, _<_, _≤_};
-ghost use lib.Dec.{eqb};
 ghost use lib.ListN.{length, replicate};
 ghost use mir.Syntax.{w32};
 ghost use mir.Val.{toZ};
 ghost use Rattle.word.specs.Laid.{laid};
-ghost use Rattle.rows.specs.Rows.{maxRows, rowWords, word, opA};
+ghost use Rattle.rows.specs.Rows.{maxRows};
 ghost use Rattle.value.specs.Values.{asValue};
 ghost use Rattle.state.specs.Contracts.{Fine};
-ghost use Rattle.flow.specs.Calls.{startCall};
+ghost use Rattle.calls.specs.Calls.{startCall};
 ghost use Rattle.flow.specs.Opens.{allWords};
-ghost use Rattle.flow.specs.Starts.{Answered, contentAt, CellFirst, CellsFirst, BeginOk};
+ghost use Rattle.flow.specs.Starts.{Answered, Bounded, contentAt, CellFirst, CellsFirst, BeginOk};
 
 // 0 or the ground, and the strides.
 pub struct Answer {
@@ -32,38 +37,20 @@ pub struct Answer {
     pub strides: u32,
 }
 
-// The kind of a cell, and of the type of truths.
-const CELL: u32 = 10;
-
-const TRUTH: u32 = 2;
-
-// Word k of a row, 0 past the last.
-fn word_of(rows: &[u32], row: usize, k: usize) -> u32
-    requires { ⌜ (length (now rows) ≡ 1024) × (k < rowWords) ⌝ }
-    ensures { λ r. ⌜ r ≡ word (now (rows .entry)) row k ⌝ }
-{
-    if row < 256 {
-        return rows[row * 4 + k];
-    }
-    0
-}
-
 // The first content of a cell.
-fn content(rows: &[u32; 1024], row: usize) -> Value
+fn content(rows: &[u32; ROWS_WORDS], row: usize) -> Value
     requires { ⌜ row < maxRows ⌝ }
     ensures { λ r. ⌜ r ≡ asValue (contentAt (now (rows .entry)) row) ⌝ }
 {
-    let a = operand(rows, row, 1);
-    let kind = word_of(rows, a, 0);
     let w = get(rows, row, 2);
-    if kind == TRUTH {
+    if cell_shape(rows, row) == TRUTH {
         return truth(w == 1);
     }
     number(w)
 }
 
 // The row's first content, if it is a cell.
-fn first_cell(rows: &[u32; 1024], row: usize, work: &mut [u32; 4096])
+fn first_cell(rows: &[u32; ROWS_WORDS], row: usize, work: &mut [u32; STATE_SIZE])
     requires { ⌜ row < maxRows ⌝ }
     ensures { λ _. ⌜ CellFirst (now (rows .entry)) (now (work .entry)) (now (work .exit)) row ⌝ }
 {
@@ -75,7 +62,7 @@ fn first_cell(rows: &[u32; 1024], row: usize, work: &mut [u32; 4096])
 }
 
 // The cells among the first n rows.
-fn first_cells(rows: &[u32; 1024], n: usize, work: &mut [u32; 4096])
+fn first_cells(rows: &[u32; ROWS_WORDS], n: usize, work: &mut [u32; STATE_SIZE])
     requires { ⌜ n ≤ maxRows ⌝ }
     ensures { λ _. ⌜ CellsFirst (now (rows .entry)) (now (work .entry)) (now (work .exit)) n ⌝ }
 {
@@ -84,22 +71,20 @@ fn first_cells(rows: &[u32; 1024], n: usize, work: &mut [u32; 4096])
     }
 }
 
-// The last row of n, evaluated and normalised from the first contents.
-fn begin(rows: &[u32; 1024], n: usize, words: &mut [u32; 4096]) -> u32
+// The last row of n, evaluated and normalised from the first contents, in words of zeros.
+fn begin(rows: &[u32; ROWS_WORDS], n: usize, words: &mut [u32; STATE_SIZE]) -> u32
     requires { ⌜ (1 ≤ n) × Fine (now rows) (n - 1) 0 ⌝ }
+    requires { ⌜ now words ≡ replicate allWords 0 ⌝ }
     ensures { λ r. ⌜ BeginOk (now (rows .entry)) n (now (words .exit)) r ⌝ }
 {
-    let mut work = [0u32; 4096];
-    first_cells(rows, n, &mut work);
-    let none = [0u32; 80];
-    evaluate(rows, &mut work, n - 1, &none, 0);
-    let strides = normalise(rows, &mut work, n - 1, &none, 0);
-    *words = work;
-    strides
+    first_cells(rows, n, words);
+    let none = [0u32; ENV_WORDS];
+    evaluate(rows, words, n - 1, &none, 0);
+    normalise(rows, words, n - 1, &none, 0)
 }
 
 // Words copied out over a lent state.
-pub fn put_out(words: &[u32; 4096], state: &mut [i32])
+pub fn put_out(words: &[u32; STATE_SIZE], state: &mut [i32])
     ensures { λ _. ⌜ now (state .exit) ≡ laid (toZ w32) (now (words .entry)) (now (state .entry)) ⌝ }
     ensures { λ _. ⌜ length (now (words .entry)) ≡ allWords ⌝ }
 {
@@ -109,8 +94,9 @@ pub fn put_out(words: &[u32; 4096], state: &mut [i32])
 // Starts a flow: the answer, and the state at exit.
 pub fn start(rows: &[i32], state: &mut [i32]) -> Answer
     ensures { λ r. ⌜ Answered (startCall (now (rows .entry)) (now (state .entry))) r (now (state .exit)) ⌝ }
+    ensures { λ r. ⌜ Bounded (now (rows .entry)) (r .strides) ⌝ }
 {
-    let mut own = [0u32; 1024];
+    let mut own = [0u32; ROWS_WORDS];
     let n = accepted_rows(rows, &mut own);
     if n == 0 {
         return Answer {
@@ -124,7 +110,7 @@ pub fn start(rows: &[i32], state: &mut [i32]) -> Answer
             strides: 0,
         };
     }
-    let mut words = [0u32; 4096];
+    let mut words = [0u32; STATE_SIZE];
     let strides = begin(&own, n, &mut words);
     put_out(&words, state);
     Answer {

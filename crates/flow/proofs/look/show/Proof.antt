@@ -22,12 +22,6 @@ sub-value c = search needs
 value-requires : tie.Need-value-requires
 value-requires c κs = search needs
 
-sub-failing : tie.Need-sub-failing
-sub-failing c = search needs
-
-failing-requires : tie.Need-failing-requires
-failing-requires c κs = search needs
-
 flag-requires : tie.Need-flag-requires
 flag-requires c κs = search needs
 
@@ -47,7 +41,7 @@ same-length-2 : tie.Need-same-length-2
 same-length-2 c = search needs
 
 returns-2 : tie.Need-returns-2
-returns-2 c = let a = c .before .before .before .before .before .before .before .before .before .before .before .before .before .before .before .before .before .before .before .args in let q = c .before .before .before .before .before .before .before .before .before .before .before .before .before .before .before .entries in let v = c .before .before .before .before .before .before .before .before .before .before .before .before .before .value in let g = c .before .before .before .before .before .before .before .before .before .before .before .failing in let f = c .before .before .before .before .before .before .before .before .before .before .flag in let h = c .before .before .before .before .before .before .before .before .before .flag2 in let p = c .before .before .before .before .before .put-bytes in let o = c .before .value-out in let room : length (a .work .now) ≡ 6912 = search needs in show-0 (a .own .now) (a .words .now) _ (a .work .now) (q .last .1 .1 .1 .1 .1 .1 .1 .0) (a .n) (q .result) room (q .ensures .1) (v .result) (v .ensures) (o .ensures .1) (g .result) (g .ensures) (a .value .now) (o .last .1 .0) (a .list .now) (p .last .1 .1 .0) (h .result) (f .result) (c .before .before .before .before .before .before .before .before .before .before .before .before .before .before .if1 .left) (f .ensures) (h .ensures) (p .ensures) (o .ensures .0)
+returns-2 c = let a = c .before .before .before .before .before .before .before .before .before .before .before .before .before .before .before .before .before .args in let q = c .before .before .before .before .before .before .before .before .before .before .before .before .before .entries in let v = c .before .before .before .before .before .before .before .before .before .before .before .value in let f = c .before .before .before .before .before .before .before .before .before .before .flag in let h = c .before .before .before .before .before .before .before .before .before .flag2 in let p = c .before .before .before .before .before .put-bytes in let o = c .before .value-out in let room : length (a .work .now) ≡ 6912 = search needs in show-0 (a .own .now) (a .words .now) _ (a .work .now) (q .last .1 .1 .1 .1 .1 .1 .1 .0) (a .n) (q .result) room (q .ensures .1) (v .result) (v .ensures) (o .ensures .1) (a .value .now) (o .last .1 .0) (a .list .now) (p .last .1 .1 .0) (h .result) (f .result) (c .before .before .before .before .before .before .before .before .before .before .before .before .if1 .left) (f .ensures) (h .ensures) (p .ensures) (o .ensures .0)
 
 pub show-spec : {M : Type 1} → statement M
-show-spec = tie.close (tie.spec sub-entries entries-requires returns sub-value value-requires sub-failing failing-requires flag-requires flag-requires-2 put-bytes-requires value-out-requires same-length same-length-2 returns-2)
+show-spec = tie.close (tie.spec sub-entries entries-requires returns sub-value value-requires flag-requires flag-requires-2 put-bytes-requires value-out-requires same-length same-length-2 returns-2)

@@ -1,14 +1,13 @@
 -- `begin` meets its contract. Assumes nothing.
 use native.Mathlib.Omega.{arith}
-use mathlib.Core.Path.{_≡_, refl, sym}
-use Prim.Native.Nat.{_-_, _≤_}
+use Prim.Native.Nat.{_-_}
 use borrow.Author.Needs.{needs}
 use Rattle.flow.proofs.StartLaws.{begins}
 use Rattle.flow.proofs.start.begin.Statement.{statement}
 use Rattle.flow.proofs.start.begin.Tie as tie
 
 first-cells-requires′ : tie.Need-first-cells-requires
-first-cells-requires′ = λ c κs. let l = c .before .pre .0 in let h = c .before .pre .1 .low in omega arith
+first-cells-requires′ = λ c κs. let l = c .before .pre .0 .0 in let h = c .before .pre .0 .1 .low in omega arith
 
 sub-evaluate′ : tie.Need-sub-evaluate
 sub-evaluate′ = λ c. search needs
@@ -23,7 +22,7 @@ normalise-requires′ : tie.Need-normalise-requires
 normalise-requires′ = λ c κs. search needs
 
 returns′ : tie.Need-returns
-returns′ = λ c. let a = c .before .before .before .before .before .before .before .before .args in begins (a .rows .now) (a .n) (c .before .before .before .before .before .before .first-cells .last .1 .1 .0) (c .before .before .before .evaluate .last .1 .0) (c .normalise .last .1 .0) _ (c .normalise .result) (c .before .before .before .before .before .before .first-cells .ensures) (c .before .before .before .evaluate .ensures) (c .normalise .ensures)
+returns′ = λ c. let s = c .before .before .before .before .before .before .before .before in let f = c .before .before .before .before .before .before .first-cells in let v = c .before .before .before .evaluate in let m = c .normalise in begins (s .args .rows .now) (s .args .n) (s .args .words .now) (f .last .1 .1 .0) (v .last .1 .0) (m .last .1 .0) _ (m .result) (s .pre .1) (f .ensures) (v .ensures) (m .ensures)
 
 pub begin-spec : {M : Type 1} → statement M
 begin-spec = tie.close (tie.spec first-cells-requires′ sub-evaluate′ evaluate-requires′ sub-normalise′ normalise-requires′ returns′)

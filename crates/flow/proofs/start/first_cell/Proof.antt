@@ -1,7 +1,5 @@
 -- `first_cell` meets its contract. Assumes nothing.
-use native.Mathlib.Omega.{arith}
-use mathlib.Core.Path.{_≡_, refl, sym}
-use Prim.Native.Nat.{_-_, _≤_}
+use Prim.Native.Nat.{_-_}
 use borrow.Author.Needs.{needs}
 use Rattle.flow.proofs.StartLaws.{first-is, first-none}
 use Rattle.flow.proofs.start.first_cell.Statement.{statement}

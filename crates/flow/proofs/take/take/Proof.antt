@@ -1,9 +1,8 @@
 -- `take` meets its contract, each way out by its law. Assumes nothing.
-use native.Mathlib.Omega.{arith}
 use borrow.Author.Needs.{needs}
 use mathlib.Core.Bool.{true}
-use Rattle.flow.specs.Calls.{opened}
-use borrow.Author.Tests.{not-true, not-false}
+use Rattle.calls.specs.Calls.{opened}
+use borrow.Author.Tests.{not-false}
 use Rattle.flow.proofs.OpenLaws.{opened-fine}
 use Rattle.flow.proofs.TakeLaws.{take-refused, take-8, take-9, take-0}
 use Rattle.flow.proofs.take.take.Statement.{statement}

@@ -8,11 +8,12 @@ use lib.Dec.{eqb}
 use lib.IntN.{ℤ, pos}
 use lib.ListN.{length, getD}
 use Rattle.word.specs.Word.{eqZ}
-use Rattle.decimal.specs.Field.{Field, number, unreadable, readsAt, actionColumns, wordColumns}
+use Rattle.decimal.specs.Field.{Field, number, unreadable, readsAt, actionColumns, wordColumns, newline}
 use Rattle.decimal.specs.Path.{Path, pathColumns, readsPathAt}
 use Rattle.tophat.specs.Syntax.{maxLeaves}
 use Rattle.tophat.specs.Handling.{Action, give, press, continue, left, right}
 use Rattle.tophat.proofs.ComputeTyping.{bind}
+use Rattle.handle.specs.Events.{giving, continuing, leftward, rightward}
 
 -- where the action and leaf k stand, and how long an event is
 abbrev pub actionPlace : ℕ
@@ -42,14 +43,14 @@ allZero (z ∷ zs) = eqZ z (pos 0) && allZero zs
 -- 01: "action (1 value, 2 Continue, 3 Left, 4 Right)", and "a leaf not 0 at actions 2 to 4" is ground 8
 unfoldable pub actionOf : ℤ → List ℤ → Option Action
 actionOf a ls =
-    cond (eqZ a (pos 1)) (some (give ls))
+    cond (eqZ a (pos giving)) (some (give ls))
     (cond (allZero ls)
-    (cond (eqZ a (pos 2)) (some (press continue)) (cond (eqZ a (pos 3)) (some (press left)) (cond (eqZ a (pos 4)) (some (press right)) none)))
+    (cond (eqZ a (pos continuing)) (some (press continue)) (cond (eqZ a (pos leftward)) (some (press left)) (cond (eqZ a (pos rightward)) (some (press right)) none)))
     none)
 
 -- what an event's bytes say; none is ground 8
 unfoldable pub eventOf : List ℕ → Option (Path × Action)
 eventOf s =
-    cond (eqb (length s) eventBytes && eqb (getD s (leafPlace maxLeaves) 0) 10)
+    cond (eqb (length s) eventBytes && eqb (getD s (leafPlace maxLeaves) 0) newline)
     (bind (readsPathAt s 0) λ p. bind (said (readsAt s actionPlace actionColumns)) λ a. bind (leavesAt s 0 maxLeaves) λ ls. bind (actionOf a ls) λ x. some (p, x))
     none

@@ -17,6 +17,7 @@ use Rattle.tophat.specs.Typing.{v-nil}
 use Rattle.tophat.specs.Normalising.{value, Fails}
 use Rattle.tophat.specs.Handling.{Action}
 use Rattle.tophat.specs.Runs.{Accepts, Refuses, Rest, Stands as TreeStands}
+use Rattle.tophat.proofs.TypeLeaves.{small-nil}
 use Rattle.tophat.proofs.Basics.{All, all-none, all-some}
 use Rattle.tophat.proofs.ComputeNormalising.{failing}
 use Rattle.tophat.proofs.ComputeHandling as compute
@@ -29,12 +30,13 @@ use Rattle.tophat.proofs.EntriesAgree.{shows-is}
 use Rattle.tophat.proofs.Bound.{normalises-bound, normal-rest}
 use Rattle.tophat.proofs.EveryRun.{rest-stands}
 use Rattle.rows.proofs.CellsAt.{cells-small}
-use Rattle.flow.specs.Events.{eventOf}
+use Rattle.calls.specs.Events.{eventOf}
 use Rattle.entries.specs.Entries.{entryBytes, listText}
-use Rattle.flow.specs.Calls.{shut, ready, opened, Answer, refusedBy, handled, heard, handleIn, handleCall, Looked, flag, lookRefused, valueMemory, hasOne, lookIn, lookCall}
-use Rattle.flow.specs.Touches.{Call, look, handle, after, Accepted, IsRest, Shown, Moved, Stands}
-use Rattle.flow.proofs.Opening.{opens, moving, marks-fit, state-once}
-use Rattle.flow.proofs.Widths.{entries-bytes}
+use Rattle.calls.specs.Calls.{shut, ready, opened, Answer, refusedBy, handled, heard, handleIn, handleCall, Looked, flag, lookRefused, valueMemory, hasOne, lookIn, lookCall}
+use Rattle.calls.specs.Touches.{Call, look, handle, after, Accepted, IsRest, Shown, Moved, Stands}
+use Rattle.calls.proofs.Opening.{opens, moving, marks-fit, state-once}
+use Rattle.calls.proofs.Widths.{Fits, entries-fit, entries-bytes}
+use Rattle.calls.proofs.WrittenEvents.{covers-some, shown-said}
 
 -- ---- flags
 
@@ -66,6 +68,9 @@ module _ {rows ws : List ℤ} {c : Code} {Σ : List Ty} {τ : Ty} (a : Accepted 
 
   listed : entries c [] s t ≡ tree .shown
   listed = shows-is (tree .shows)
+
+  listed-fit : Fits 0 (tree .shown)
+  listed-fit = subst (Fits 0) listed (entries-fit (cells-small (a .flow .cells)) (r .stored) 0 [] (r .typed) small-nil (omega arith) (marks-fit a))
 
   listed-bytes : length (listText (tree .shown)) ≡ length (tree .shown) * entryBytes
   listed-bytes = subst (λ es. length (listText es) ≡ length es * entryBytes) listed (entries-bytes (cells-small (a .flow .cells)) (r .stored) (r .typed) (marks-fit a))
@@ -213,6 +218,8 @@ module _ {rows ws : List ℤ} {c : Code} {Σ : List Ty} {τ : Ty} (a : Accepted 
         let g = tree .lit p x in
         ((λ h. g .0 (f .0 h)), (λ k. f .1 (g .1 k)));
     once = tree .once;
+    offers = λ i e h. covers-some e;
+    said = λ i e p x h g. shown-said listed-fit h p x g;
     dark = tree .dark;
     live = tree .live;
   }

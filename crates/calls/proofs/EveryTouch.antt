@@ -13,20 +13,21 @@
 -- - handle answers 8 to an event that cannot be read; to a readable one 9 exactly when no handling rule derives a step, and 0
 --   exactly when one does. Then the state left is the writing of the normal form that handling and normalising derive, and the
 --   strides are the number that they derive, at most 1 more than the rows of kind 43 and 47;
--- - a readable event is accepted exactly when an entry of the list shown covers it, and no two entries cover one event;
+-- - a readable event is accepted exactly when an entry of the list shown covers it, and no two entries cover one event; each
+--   entry covers some touch, and every touch that it covers is said by some 67 bytes: no entry is dead;
 -- - the list shown is empty exactly when the rules say that the task fails.
 --
--- What start, look and handle answer is what their definitions in specs/Calls give, with which the code's contracts are to be
--- equations; nothing else here speaks of the engine: the rules are tophat's relations. That start of an accepted flow answers 0,
+-- What start, look and handle answer is what their definitions in specs/Calls give, and the contracts of the code (src/start, look
+-- and touch) are equations with these; nothing else here speaks of the engine: the rules are tophat's relations. That start of an accepted flow answers 0,
 -- and with which task, store and strides, is `starts` in Starting; that every accepted sheet loads to such a flow, of one code and
 -- one type, is in Flows. Rests on Standing and Starting.
 use mathlib.Core.Logic.{_⊎_, ⊎-elim}
 use mathlib.Core.List.{List, [], _∷_}
 use lib.IntN.{ℤ}
 use Rattle.tophat.specs.Syntax.{Ty, Code}
-use Rattle.flow.specs.Touches.{Call, run, Accepted, IsRest, Started, Stands}
-use Rattle.flow.proofs.Standing.{stands, call-rest}
-use Rattle.flow.proofs.Starting.{started-is-rest}
+use Rattle.calls.specs.Touches.{Call, run, Accepted, IsRest, Started, Stands}
+use Rattle.calls.proofs.Standing.{stands, call-rest}
+use Rattle.calls.proofs.Starting.{started-is-rest}
 
 module _ {rows : List ℤ} {c : Code} {Σ : List Ty} {τ : Ty} (a : Accepted rows c Σ τ) where
   -- a list of calls leaves a rest

@@ -41,9 +41,9 @@ use Rattle.state.specs.Layout.{stateWords, encode}
 use Rattle.state.specs.Reading.{decode}
 use Rattle.state.proofs.SitsOf.{state-writing, state-one}
 use Rattle.state.proofs.Reading.{decode-is, decode-sound}
-use Rattle.flow.specs.Calls.{bits, stateOf, shut, ready, atRest, decoded, readWith, codeOf, opened}
-use Rattle.flow.specs.Touches.{Accepted}
-use Rattle.flow.proofs.Bits.{encode-bits}
+use Rattle.calls.specs.Calls.{bits, stateOf, shut, ready, atRest, decoded, readWith, codeOf, opened}
+use Rattle.calls.specs.Touches.{Accepted}
+use Rattle.calls.proofs.Bits.{encode-bits}
 
 -- ---- accepted rows
 

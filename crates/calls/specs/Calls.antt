@@ -21,7 +21,7 @@ use Rattle.rows.specs.ComputeTrees.{codeAt, cellTypes, firstStore}
 use Rattle.sheet.specs.Accepted.{acceptsRows, rowCount}
 use Rattle.state.specs.Layout.{stateWords, encode}
 use Rattle.state.specs.Reading.{decode}
-use Rattle.flow.specs.Events.{eventOf}
+use Rattle.calls.specs.Events.{eventOf}
 use Rattle.entries.specs.Entries.{entryBytes, listText}
 
 -- lent words as the bits that rows and states are read in

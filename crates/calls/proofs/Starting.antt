@@ -17,9 +17,9 @@ use Rattle.rows.proofs.TreesAgree.{cells-are}
 use Rattle.rows.proofs.CellsAt.{store-typed}
 use Rattle.sheet.specs.Accepted.{rowCount}
 use Rattle.state.specs.Layout.{stateWords}
-use Rattle.flow.specs.Calls.{stateOf, Answer, startWith, startCall}
-use Rattle.flow.specs.Touches.{Accepted, IsRest, Started, Begins}
-use Rattle.flow.proofs.Opening.{all-words, accepts, moving, code-found}
+use Rattle.calls.specs.Calls.{stateOf, Answer, startWith, startCall}
+use Rattle.calls.specs.Touches.{Accepted, IsRest, Started, Begins}
+use Rattle.calls.proofs.Opening.{all-words, accepts, moving, code-found}
 
 module _ {rows : List ℤ} {c : Code} {Σ : List Ty} {τ : Ty} (a : Accepted rows c Σ τ) where
   -- the first contents are of the cells' types

@@ -12,6 +12,7 @@ use lib.IntN.{pos}
 use lib.ListN.{length, getD, replicate, length-append, length-replicate, length-map}
 use Rattle.decimal.specs.Field.{space, text, justified, actionColumns}
 use Rattle.decimal.specs.Path.{Mark, Path, maxMarks, pathColumns, marksText, pathText, writtenPath}
+use Rattle.decimal.proofs.Justified.{justified-length}
 use Rattle.decimal.proofs.WriteLaws.{decimal-count, decimal-0}
 use Rattle.tophat.specs.Syntax.{maxLeaves, Ty, unit, truth, number, pair, leaves, Code, Val, TaskOf, Env, Store}
 use Rattle.tophat.specs.Typing.{ValueType, ValueTypes, TaskType, k-filled, k-blank, k-entered, k-shared, k-then-before, k-then-after, k-next-before, k-next-after}
@@ -42,13 +43,22 @@ unfolding marksText
 marks-length [] = refl
 marks-length (m ∷ p) = ap suc (marks-length p)
 
-path-short : (p : Path) → length p ≤ maxMarks → length (pathText p) ≤ pathColumns
+pub path-short : (p : Path) → length p ≤ maxMarks → length (pathText p) ≤ pathColumns
 unfolding pathText
 path-short [] l = omega arith
 path-short (m ∷ p) l = let e = marks-length (m ∷ p) in omega arith
 
+-- a path's field, where the path is short enough
+pub path-bytes : (p : Path) → length p ≤ maxMarks → (bs : List ℕ) × (writtenPath p ≡ some bs) × (length bs ≡ pathColumns)
+unfolding justified
+path-bytes p l =
+    let e = le-leb (length (pathText p)) pathColumns (path-short p l) in
+    let bs = replicate (pathColumns - length (pathText p)) space ++ pathText p in
+    let w : writtenPath p ≡ some bs = rw e in
+    (bs, w, justified-length pathColumns (pathText p) bs w)
+
 -- numbers of one digit
-digit-short : (n : ℕ) → n < 10 → length (text (pos n)) ≤ actionColumns
+pub digit-short : (n : ℕ) → n < 10 → length (text (pos n)) ≤ actionColumns
 unfolding text
 digit-short zero h = omega arith
 digit-short (suc n) h =
@@ -98,7 +108,7 @@ action-digit (button b) = button-digit b
 -- ---- entries
 
 -- under m marks no path is too long, and each entry has four leaf kinds
-data Fits (m : ℕ) : List Entry → Type 0 where
+pub data Fits (m : ℕ) : List Entry → Type 0 where
   fit-none : Fits m []
   fit-more : {e : Entry} {es : List Entry} → m + length (e .0) ≤ maxMarks → length (kindNumbers (e .1)) ≡ maxLeaves → Fits m es → Fits m (e ∷ es)
 
@@ -173,7 +183,7 @@ of-type : {m : ℕ} {v : Val} {τ : Ty} → ValueType v τ → m ≤ maxMarks �
 of-type {m} t l h = subst (λ τ. Fits m (offers τ)) (sym (type-of t)) (fit-offers _ l h)
 
 module _ {Σ : List Ty} {s : Store} (g : AllSmall Σ) (q : ValueTypes s Σ) where
-  entries-fit : {Γ : List Ty} {τ : Ty} {c : Code} {t : TaskOf c} (m : ℕ) (ρ : Env) → TaskType Σ Γ c t τ → AllSmall Γ → m ≤ maxMarks → MarksFit m c → Fits m (entries c ρ s t)
+  pub entries-fit : {Γ : List Ty} {τ : Ty} {c : Code} {t : TaskOf c} (m : ℕ) (ρ : Env) → TaskType Σ Γ c t τ → AllSmall Γ → m ≤ maxMarks → MarksFit m c → Fits m (entries c ρ s t)
   unfolding entries
   entries-fit m ρ (k-filled d v) h l f = of-type v l (type-leaves d g h)
   entries-fit m ρ (k-blank w) h l f = fit-offers _ l w

@@ -21,9 +21,9 @@ use Rattle.rows.specs.Rows.{movers}
 use Rattle.rows.specs.Trees.{Flow}
 use Rattle.sheet.specs.Accepted.{Loads, rowCount}
 use Rattle.state.specs.Layout.{stateWords}
-use Rattle.flow.specs.Events.{eventOf}
+use Rattle.calls.specs.Events.{eventOf}
 use Rattle.entries.specs.Entries.{entryBytes, listText}
-use Rattle.flow.specs.Calls.{bits, stateOf, Answer, refusedBy, startCall, handleCall, Looked, lookRefused, valueMemory, hasOne, lookCall}
+use Rattle.calls.specs.Calls.{bits, stateOf, Answer, refusedBy, startCall, handleCall, Looked, lookRefused, valueMemory, hasOne, lookCall}
 
 -- ---- calls
 
@@ -138,6 +138,9 @@ pub record Stands (rows ws : List ℤ) (c : Code) (Σ : List Ty) (τ : Ty) : Typ
   pub lit : (event : List ℕ) (p : Path) (x : Action) → eventOf event ≡ some (p, x)
       → (handleCall rows ws event .number ≡ 0) ↔ ((i : ℕ) × (e : Entry) × At shown i e × Covers e p x)
   pub once : (i j : ℕ) (e f : Entry) (p : Path) (x : Action) → At shown i e → At shown j f → Covers e p x → Covers f p x → i ≡ j
+  -- no entry is dead: each covers a touch, and every touch that it covers is said by some event's bytes
+  pub offers : (i : ℕ) (e : Entry) → At shown i e → (p : Path) × (x : Action) × Covers e p x
+  pub said : (i : ℕ) (e : Entry) (p : Path) (x : Action) → At shown i e → Covers e p x → (event : List ℕ) × (eventOf event ≡ some (p, x))
   -- the list shown is empty exactly when the flow is failing, and the rules say whether it is
   pub dark : (shown ≡ []) ↔ Fails c [] store task true
   pub live : (shown ≡ [] → ⊥) ↔ Fails c [] store task false

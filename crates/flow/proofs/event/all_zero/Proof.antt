@@ -1,0 +1,56 @@
+-- `all_zero` meets its contract: all leaves up to here are 0. Assumes nothing.
+use mathlib.Core.Path.{_≡_}
+use Prim.Native.Nat.{ℕ, _-_, _≤_, _<_}
+use native.Mathlib.Omega.{arith}
+use lib.ListN.{getD}
+use borrow.Author.Needs.{needs}
+use Rattle.flow.proofs.EventLaws.{some-leaf, no-leaf, one-more}
+use Rattle.flow.proofs.event.all_zero.Statement.{statement}
+use Rattle.flow.proofs.event.all_zero.Tie as tie
+use Rattle.flow.proofs.event.all_zero.Reads as reads
+use Rattle.flow.proofs.event.all_zero.Lts as lts
+
+abbrev Inv-loop : tie.InvT-loop
+Inv-loop leaves k₀ k = (k ≤ 4) × ((i : ℕ) → i < k → getD leaves i 0 ≡ 0)
+
+abbrev μ-loop : tie.MeasureT-loop
+μ-loop leaves k₀ k = 4 - k
+
+loop-holds : tie.Need-loop-holds Inv-loop μ-loop
+loop-holds c = (omega arith, (λ i l. absurd (omega arith)))
+
+mul-if1 : tie.Need-mul-if1 Inv-loop μ-loop
+mul-if1 c = search needs
+
+array-read-if1 : tie.Need-array-read-if1 Inv-loop μ-loop
+array-read-if1 c = search needs
+
+returns : tie.Need-returns Inv-loop μ-loop
+returns c = some-leaf (c .before .before .before .args .t1) (c .before .before .loop .k) (omega arith) (c .if1 .taken)
+
+add-k : tie.Need-add-k Inv-loop μ-loop
+add-k c = search needs
+
+loop-less : tie.Need-loop-less Inv-loop μ-loop
+loop-less c = omega arith
+
+loop-again : tie.Need-loop-again Inv-loop μ-loop
+loop-again c = (omega arith, one-more (c .before .before .before .args .t1) (c .before .before .loop .k) (c .before .before .loop .inv .1) (c .if1 .left))
+
+returns-2 : tie.Need-returns-2 Inv-loop μ-loop
+returns-2 c = no-leaf (c .before .before .args .t1) (c .before .loop .k) (omega arith) (c .before .loop .inv .1)
+
+pub all-zero-spec : {M : Type 1} → statement M
+all-zero-spec =
+    tie.close
+    (tie.spec
+    Inv-loop
+    μ-loop
+    loop-holds
+    mul-if1
+    array-read-if1
+    returns
+    add-k
+    loop-less
+    loop-again
+    returns-2)
