@@ -1,0 +1,22 @@
+-- `read` meets its contract. Assumes nothing.
+use native.Mathlib.Omega.{arith}
+use native.Mathlib.Nat.{le-of-lt}
+use borrow.Author.Needs.{needs}
+use lib.ListN.{drop}
+use Rattle.console.proofs.Fronts.{front, counts-front}
+use Rattle.console.proofs.read.Statement.{statement}
+use Rattle.console.proofs.read.Tie as tie
+
+pub read-spec : {M : Type 1} → statement M
+read-spec = tie.close (tie.spec
+    (λ c. search needs)
+    (λ c. front (c .before .before .before .args .left) (c .before .before .before .args .to .now) (le-of-lt (c .before .if1 .taken)))
+    (λ c κs. search needs)
+    (λ c. search needs)
+    (λ c.
+    let a = c .before .before .before .before .before .before .args in let q = c .before .before .read-full in
+    let k = front (a .left) (a .to .now) (le-of-lt (c .before .before .before .before .if1 .taken)) in
+    (omega (arith, q .ensures .0, q .kept .1 .0, k), counts-front (q .result) (q .last .1 .0) (drop (a .left) (a .to .now)) (q .ensures)))
+    (λ c κs. search needs)
+    (λ c. search needs)
+    (λ c. search needs))

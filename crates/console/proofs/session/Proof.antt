@@ -1,0 +1,28 @@
+-- `session` meets its contract: fresh memory has room for as many rows as a count says. Assumes nothing.
+use Prim.Native.Nat.{_*_}
+use native.Mathlib.Omega.{arith}
+use borrow.Author.Needs.{needs}
+use lib.IntN.{pos}
+use Rattle.console.proofs.Fronts.{fresh}
+use Rattle.console.proofs.session.Statement.{statement}
+use Rattle.console.proofs.session.Tie as tie
+
+pub session-spec : {M : Type 1} → statement M
+session-spec = tie.close (tie.spec
+    (λ c. search needs)
+    (λ c κs. search needs)
+    (λ c. search needs)
+    (λ c. search needs)
+    (λ c κs. search needs)
+    (λ c. search needs)
+    (λ c. search needs)
+    (λ c. let n = c .before .read2 in fresh (n .result * 45) 11520 0 (omega (arith, n .ensures .1)))
+    (λ c. search needs)
+    (λ c. search needs)
+    (λ c. let n = c .before .before .read2 in fresh (n .result * 4) 1024 (pos 0) (omega (arith, n .ensures .1)))
+    (λ c. search needs)
+    (λ c. search needs)
+    (λ c. let n = c .before .before .before .read2 in fresh (n .result * 16) 4096 (pos 0) (omega (arith, n .ensures .1)))
+    (λ c. search needs)
+    (λ c κs. search needs)
+    (λ c. search needs))

@@ -1,0 +1,94 @@
+// A session over standard input and standard output (01, "A session in full"). Reads, calls crate screens, prints. The memory is
+// of a fixed size, and the input of any length.
+ghost use Prim.Native.Nat.{_≤_};
+ghost use Rattle.io.specs.Counts.{Counts};
+use flow::touch::EVENT_BYTES;
+use libc::STDIN_FILENO;
+use libc::STDOUT_FILENO;
+use rows::MAX_ROWS;
+use rows::ROW_WORDS;
+use rows::ROWS_WORDS;
+use screens::count;
+use screens::count::COUNT_BYTES;
+use screens::turn::SCREEN_BYTES;
+use screens::turn::begin;
+use screens::turn::touch;
+use sheet::LINE_BYTES;
+use state::STATE_SIZE;
+use state::STATE_WORDS;
+
+// Reads until `to` is full, `left` bytes are read, or the input ends. How many bytes it put at the front of `to`.
+pub fn read(to: &mut [u8], left: usize) -> usize
+    ensures { λ r. ⌜ (r ≤ left) × Counts r (now (to .exit)) ⌝ }
+{
+    if left < to.len() {
+        return io::read_full(STDIN_FILENO, &mut to[..left]);
+    }
+    io::read_full(STDIN_FILENO, to)
+}
+
+// Hands events to a flow and prints their screens, until the input ends or no byte is left. How many are left.
+fn events(rows: &[i32], state: &mut [i32], left: usize) -> usize
+    ensures { λ r. ⌜ r ≤ left ⌝ }
+{
+    let mut event = [0u8; EVENT_BYTES];
+    let mut out = [0u8; SCREEN_BYTES];
+    let mut rest = left;
+    while 0 < rest {
+        let got = read(&mut event, rest);
+        if got == 0 {
+            return rest;
+        }
+        let bytes = touch(rows, state, &event[..got], &mut out);
+        io::write_all(STDOUT_FILENO, &out[..bytes]);
+        rest -= got;
+    }
+    rest
+}
+
+// A sheet of n lines and its events, in memory for n rows. How many bytes are left.
+fn run(n: usize, sheet: &mut [u8], rows: &mut [i32], state: &mut [i32], left: usize) -> usize
+    ensures { λ r. ⌜ r ≤ left ⌝ }
+{
+    let got = read(sheet, left);
+    let mut out = [0u8; SCREEN_BYTES];
+    let begun = begin(n, &sheet[..got], rows, state, &mut out);
+    let bytes = begun.bytes;
+    io::write_all(STDOUT_FILENO, &out[..bytes]);
+    if !begun.started {
+        return left - got;
+    }
+    events(rows, state, left - got)
+}
+
+// A session of at most `left` bytes. How many of them are left.
+pub fn session(left: usize) -> usize
+    ensures { λ r. ⌜ r ≤ left ⌝ }
+{
+    let mut text = [0u8; COUNT_BYTES];
+    let got = read(&mut text, left);
+    let n = count::read(&text[..got]);
+    let mut sheet = [0u8; MAX_ROWS * LINE_BYTES];
+    let mut rows = [0i32; ROWS_WORDS];
+    let mut state = [0i32; STATE_SIZE];
+    run(
+        n,
+        &mut sheet[..n * LINE_BYTES],
+        &mut rows[..n * ROW_WORDS],
+        &mut state[..n * STATE_WORDS],
+        left - got,
+    )
+}
+
+// Reads `left` bytes, fewer only where the input ends, and drops them.
+pub fn skip(left: usize) {
+    let mut dropped = io::buffer();
+    let mut rest = left;
+    while 0 < rest {
+        let got = read(&mut dropped, rest);
+        if got == 0 {
+            return;
+        }
+        rest -= got;
+    }
+}

@@ -1,0 +1,6 @@
+pub mod CountLaws
+pub mod HeadLaws
+pub mod HeadText
+pub mod ScreenLaws
+pub mod Bounds
+mod Cases
