@@ -1,0 +1,113 @@
+/* Each export from C with memory that is wrong in one way: the number that it answers, its single answers, and that lent memory, and
+ * what stands beside it, keeps its content. Prints nothing where all is as nannyjiffy.h says. */
+#include "nannyjiffy.h"
+
+#include <stdio.h>
+#include <stdlib.h>
+#include <string.h>
+
+enum { ROWS = 2 };
+
+static const char sheet[] = "   0   3           0           0           0\n"
+                            "   1  41           0           0           0\n";
+static const char entry[] = "               0 1 3 0 0 0\n";
+static const char give[] = "               0 1          12           0           0           0\n";
+static const char left[] = "               0 3           0           0           0           0\n";
+
+/* Each memory has room in front and behind that no call may write. */
+static struct {
+    int32_t before_rows[4], rows[ROWS * NANNYJIFFY_ROW_WORDS + 1];
+    int32_t before_state[4], state[ROWS * NANNYJIFFY_STATE_WORDS + 1];
+    int32_t before_value[4], value[NANNYJIFFY_VALUE_WORDS + 1];
+    uint8_t before_list[4], list[NANNYJIFFY_LIST_BYTES(ROWS) + 1];
+} lent, kept;
+
+enum { ROWS_WORDS = ROWS * NANNYJIFFY_ROW_WORDS, STATE_WORDS = ROWS * NANNYJIFFY_STATE_WORDS };
+
+#define CHECK(that)                                                         \
+    do {                                                                    \
+        if (!(that)) {                                                      \
+            fprintf(stderr, "%s:%d: not %s\n", __FILE__, __LINE__, #that);  \
+            exit(EXIT_FAILURE);                                             \
+        }                                                                   \
+    } while (0)
+
+static uint32_t load(size_t bytes, size_t words)
+{
+    return nannyjiffy_load((const uint8_t *)sheet, bytes, lent.rows, words);
+}
+
+static uint32_t start(size_t rows, size_t words, uint32_t *strides)
+{
+    *strides = 99;
+    return nannyjiffy_start(lent.rows, rows, lent.state, words, strides);
+}
+
+static uint32_t handle(size_t words, const char *event, size_t bytes, uint32_t *strides)
+{
+    *strides = 99;
+    return nannyjiffy_handle(lent.rows, ROWS_WORDS, lent.state, words, (const uint8_t *)event, bytes, strides);
+}
+
+static struct {
+    uint32_t valued, fails;
+    size_t bytes;
+} seen;
+
+static uint32_t look(size_t words, size_t value, size_t list)
+{
+    seen.valued = seen.fails = 99, seen.bytes = 99;
+    return nannyjiffy_look(lent.rows, ROWS_WORDS, lent.state, words, lent.value, value, lent.list, list, &seen.valued,
+                           &seen.fails, &seen.bytes);
+}
+
+/* A refused look. */
+static void check_look(uint32_t number, uint32_t expected)
+{
+    CHECK(number == expected);
+    CHECK(seen.valued == 0 && seen.fails == 0 && seen.bytes == 0);
+    CHECK(memcmp(&lent, &kept, sizeof lent) == 0);
+}
+
+int main(void)
+{
+    uint32_t strides;
+    memset(&lent, 0x77, sizeof lent);
+    kept = lent;
+
+    CHECK(load(0, 0) == NANNYJIFFY_LENGTH);
+    CHECK(load(sizeof sheet - 2, ROWS_WORDS) == NANNYJIFFY_LENGTH);
+    CHECK(load(sizeof sheet - 1, ROWS_WORDS + 1) == NANNYJIFFY_MEMORY);
+    CHECK(load(NANNYJIFFY_LINE_BYTES, NANNYJIFFY_ROW_WORDS) == NANNYJIFFY_NAMING);
+    CHECK(start(ROWS_WORDS, STATE_WORDS, &strides) == NANNYJIFFY_ROWS && strides == 0);
+    CHECK(memcmp(&lent, &kept, sizeof lent) == 0);
+
+    CHECK(load(sizeof sheet - 1, ROWS_WORDS) == NANNYJIFFY_ACCEPTED);
+    memcpy(kept.rows, (const int32_t[]){3, 0, 0, 0, 41, 0, 0, 0}, ROWS_WORDS * sizeof(int32_t));
+    CHECK(memcmp(&lent, &kept, sizeof lent) == 0);
+    CHECK(start(0, 0, &strides) == NANNYJIFFY_ROWS && strides == 0);
+    CHECK(start(ROWS_WORDS, STATE_WORDS + 1, &strides) == NANNYJIFFY_MEMORY && strides == 0);
+    check_look(look(STATE_WORDS, NANNYJIFFY_VALUE_WORDS, 0), NANNYJIFFY_NO_STATE);
+
+    CHECK(start(ROWS_WORDS, STATE_WORDS, &strides) == NANNYJIFFY_ACCEPTED && strides == 1);
+    memset(kept.state, 0, STATE_WORDS * sizeof(int32_t));
+    kept.state[NANNYJIFFY_STATE_WORDS] = 1;
+    CHECK(memcmp(&lent, &kept, sizeof lent) == 0);
+    check_look(look(STATE_WORDS - 1, NANNYJIFFY_VALUE_WORDS, sizeof entry), NANNYJIFFY_MEMORY);
+    check_look(look(STATE_WORDS, NANNYJIFFY_VALUE_WORDS + 1, sizeof entry), NANNYJIFFY_MEMORY);
+    check_look(look(STATE_WORDS, NANNYJIFFY_VALUE_WORDS, NANNYJIFFY_ENTRY_BYTES - 1), NANNYJIFFY_LIST);
+    CHECK(handle(STATE_WORDS - 1, give, NANNYJIFFY_EVENT_BYTES, &strides) == NANNYJIFFY_MEMORY && strides == 0);
+    CHECK(handle(STATE_WORDS, give, NANNYJIFFY_EVENT_BYTES - 1, &strides) == NANNYJIFFY_EVENT && strides == 0);
+    CHECK(handle(STATE_WORDS, left, NANNYJIFFY_EVENT_BYTES, &strides) == NANNYJIFFY_HANDLING && strides == 0);
+    CHECK(memcmp(&lent, &kept, sizeof lent) == 0);
+
+    CHECK(handle(STATE_WORDS, give, NANNYJIFFY_EVENT_BYTES, &strides) == NANNYJIFFY_ACCEPTED && strides == 1);
+    memcpy(&kept.state[NANNYJIFFY_STATE_WORDS], (const int32_t[]){2, 3, 12}, 3 * sizeof(int32_t));
+    CHECK(memcmp(&lent, &kept, sizeof lent) == 0);
+    CHECK(look(STATE_WORDS, NANNYJIFFY_VALUE_WORDS, sizeof lent.list - 1) == NANNYJIFFY_ACCEPTED);
+    CHECK(seen.valued == 1 && seen.fails == 0 && seen.bytes == NANNYJIFFY_ENTRY_BYTES);
+    memcpy(kept.value, (const int32_t[]){12, 0, 0, 0}, sizeof lent.value - sizeof(int32_t));
+    memcpy(kept.list, entry, NANNYJIFFY_ENTRY_BYTES);
+    CHECK(memcmp(&lent, &kept, sizeof lent) == 0);
+    return EXIT_SUCCESS;
+}

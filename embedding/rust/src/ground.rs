@@ -1,0 +1,69 @@
+//! The grounds on which a call is refused (01, "Grounds in the input" and "Grounds in the state").
+
+use core::error::Error;
+use core::fmt::{Display, Formatter, Result as Written};
+
+/// A ground, with its number in 01. `docs/NUMBERS.md` says what to do about each.
+#[derive(Clone, Copy, Debug, PartialEq, Eq, PartialOrd, Ord, Hash)]
+pub enum Ground {
+    Length = 1,
+    Unreadable = 2,
+    NotListed = 3,
+    Sort = 4,
+    Naming = 5,
+    Limit = 6,
+    Typing = 7,
+    Event = 8,
+    Handling = 9,
+    Rows = 20,
+    Memory = 21,
+    NoState = 22,
+    NoRest = 23,
+    List = 24,
+}
+
+/// All of them, with 01's words.
+const GROUNDS: [(Ground, &str); 14] = [
+    (Ground::Length, "sheet length not 45 times 1 to 256"),
+    (Ground::Unreadable, "a field or byte 10 unreadable, or a wrong row number"),
+    (Ground::NotListed, "a kind, operator, truth or unused operand not as listed"),
+    (Ground::Sort, "an operand not a lower row, or not of the sort asked"),
+    (Ground::Naming, "the naming rule broken, or a last row that is no task by its kind"),
+    (Ground::Limit, "a type row over 4 leaves, or over 16 binders or marks"),
+    (Ground::Typing, "no typing for the last row as a task"),
+    (Ground::Event, "event length, byte 10, field, path digit or action bad, or a leaf not 0 at actions 2 to 4"),
+    (Ground::Handling, "no handling rule derives a step"),
+    (Ground::Rows, "rows that no accepted sheet loads to"),
+    (Ground::Memory, "rows memory at load, state or value memory not of its exact length"),
+    (Ground::NoState, "not the writing of a state"),
+    (Ground::NoRest, "normalising would change the state"),
+    (Ground::List, "list memory under 27 bytes an entry"),
+];
+
+impl Ground {
+    pub const fn number(self) -> u32 {
+        self as u32
+    }
+
+    /// The ground of a number, if it has one.
+    pub fn of(number: u32) -> Option<Self> {
+        GROUNDS.iter().map(|&(ground, _)| ground).find(|ground| ground.number() == number)
+    }
+}
+
+/// What a call's number says: 0 is accepted.
+pub(crate) fn answer(number: u32) -> Result<(), Ground> {
+    match number {
+        0 => Ok(()),
+        _ => Err(Ground::of(number).expect("a call answers 0 or a ground of 01")),
+    }
+}
+
+impl Display for Ground {
+    fn fmt(&self, to: &mut Formatter<'_>) -> Written {
+        let words = GROUNDS.iter().find(|(ground, _)| ground == self).map_or("", |(_, words)| words);
+        write!(to, "{}: {words}", self.number())
+    }
+}
+
+impl Error for Ground {}

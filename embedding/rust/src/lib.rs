@@ -1,0 +1,53 @@
+//! Kiosk order flows (document 01) by the proved engine, which is linked as a static archive.
+//!
+//! [`Flow`] and [`Rest`] own fixed memory and refuse only what a sheet or an event can break. [`calls`] has the four
+//! calls as they are, on memory that the caller lends. Nothing allocates. What the exports promise is proved
+//! (`crates/flow_c`); that the declarations here fit them is tested (`tests/`).
+//!
+//! ```
+//! use nannyjiffy::{Flow, Ground, Rest};
+//!
+//! // An empty editor for a number.
+//! let sheet = b"   0   3           0           0           0\n   1  41           0           0           0\n";
+//! let flow = Flow::load(sheet)?;
+//! let mut rest = Rest::start(&flow);
+//! assert_eq!(rest.look().entries(), b"               0 1 3 0 0 0\n");
+//!
+//! // The number 12 at the empty path.
+//! rest.handle(b"               0 1          12           0           0           0\n")?;
+//! assert_eq!(rest.look().value, Some([12, 0, 0, 0]));
+//! # Ok::<(), Ground>(())
+//! ```
+#![no_std]
+
+pub mod calls;
+pub mod exports;
+mod flow;
+mod ground;
+
+pub use flow::{Flow, Rest, Screen};
+pub use ground::Ground;
+
+/// Lines of a sheet, at most.
+pub const MAX_ROWS: usize = 256;
+/// Bytes of a sheet's line.
+pub const LINE_BYTES: usize = 45;
+/// Bytes of an event.
+pub const EVENT_BYTES: usize = 67;
+/// Bytes of a list entry.
+pub const ENTRY_BYTES: usize = 27;
+/// Words of rows memory for each row: kind, A, B, C.
+pub const ROW_WORDS: usize = 4;
+/// Words of a state for each row.
+pub const STATE_WORDS: usize = 16;
+/// Words of a value.
+pub const VALUE_WORDS: usize = 4;
+
+/// Stack that suffices for each call on every sheet that was measured, the deepest of 256 rows among them. A thread that Rust
+/// starts has less, unless it is told otherwise; too little ends the program, at the stack's guard page.
+pub const STACK_BYTES: usize = 5 << 19;
+
+/// List memory that suffices at every rest of a flow of so many rows: it never shows more entries than it has rows.
+pub const fn list_bytes(rows: usize) -> usize {
+    ENTRY_BYTES * rows
+}

@@ -1,0 +1,151 @@
+//! The four exports on lent memory of every kind, right and wrong in length and content, against the second implementation:
+//! every number, every single answer and every word and byte at exit, and nothing outside what is lent.
+//!
+//! NANNYJIFFY_SEED and NANNYJIFFY_COUNT set another seed and another number of inputs.
+
+mod common;
+
+use common::{Archive, Calls};
+use reference::coverage::Tally;
+use reference::engine::{Answers, Reference};
+use reference::lent::{self, Lent};
+use reference::random::Random;
+use std::env;
+
+const SEED: u64 = 1;
+const COUNT: u64 = 10_000;
+
+/// The numbers of load, start, look and handle.
+const NUMBERS: [(&str, &[usize]); 4] = [
+    ("load", &[0, 1, 2, 3, 4, 5, 6, 7, 21]),
+    ("start", &[0, 20, 21]),
+    ("look", &[0, 20, 21, 22, 23, 24]),
+    ("handle", &[0, 8, 9, 20, 21, 22, 23]),
+];
+
+fn set(name: &str, or: u64) -> u64 {
+    env::var(name).map_or(or, |text| text.parse().expect("a number"))
+}
+
+/// Compares the answers to each input, and tallies the numbers of each call.
+fn compare(inputs: impl Iterator<Item = Lent>) -> [Tally; 4] {
+    let archive = Archive::new();
+    let mut tallies = NUMBERS.map(|_| Tally::default());
+    for (at, lent) in inputs.enumerate() {
+        let answers = Answers::of(&archive, &lent);
+        let expected = Answers::of(&Reference, &lent);
+        assert!(answers == expected, "input {at}: {:?}, not {:?}", answers.numbers(), expected.numbers());
+        assert!(Answers::of(&Calls, &lent) == expected, "input {at}: the safe calls differ");
+        assert!(answers.keep(&lent), "input {at}: {:?}", answers.numbers());
+        for (tally, number) in tallies.iter_mut().zip(answers.numbers()) {
+            tally.add(number as usize);
+        }
+    }
+    for (tally, (call, numbers)) in tallies.iter().zip(NUMBERS) {
+        println!("{call}:{tally}");
+        assert_eq!(tally.total(), numbers.iter().map(|&number| tally.of(number)).sum(), "{call}:{tally}");
+    }
+    tallies
+}
+
+/// Right memory, and memory that is wrong in one or several ways.
+#[test]
+fn the_exports_answer_as_the_reference() {
+    let (seed, count) = (set("NANNYJIFFY_SEED", SEED), set("NANNYJIFFY_COUNT", COUNT));
+    println!("seed {seed}, {count} inputs");
+    let tallies = compare(lent::inputs(seed, count));
+    for (tally, (call, numbers)) in tallies.iter().zip(NUMBERS) {
+        for &number in numbers {
+            assert!(tally.of(number) as u64 >= count / 100, "{call}:{tally}");
+        }
+    }
+}
+
+/// Words and bytes of a memory at most: the fence has room for them.
+const MOST_WORDS: usize = 60_000;
+const MOST_BYTES: usize = 4 * MOST_WORDS;
+
+/// A length: 0, any, so many rows, lines, entries or events, or the most.
+fn length(random: &mut Random, unit: usize, most: usize) -> usize {
+    match random.below(100) {
+        0..=24 => 0,
+        25..=49 => random.below(3000),
+        50..=97 => random.below(300) * unit,
+        _ => most,
+    }
+}
+
+fn bytes(random: &mut Random, unit: usize) -> Vec<u8> {
+    let near = random.chance(50);
+    let byte =
+        |random: &mut Random| if near { *random.pick(b" 0123\n-\xff").expect("bytes") } else { random.draw() as u8 };
+    (0..length(random, unit, MOST_BYTES)).map(|_| byte(random)).collect()
+}
+
+fn words(random: &mut Random, unit: usize) -> Vec<i32> {
+    let near = random.chance(50);
+    let word = |random: &mut Random| if near { random.word() } else { random.draw() as i32 };
+    (0..length(random, unit, MOST_WORDS)).map(|_| word(random)).collect()
+}
+
+/// Memory of any length, 0 and very long ones too, and any content, in the place of some or of each that would serve.
+#[test]
+fn any_memory_is_answered() {
+    let mut lengths = [[0; 2]; 7];
+    let drawn = |(at, mut lent): (usize, Lent)| {
+        let random = &mut Random::of_case(SEED, at as u64);
+        let percent = [30, 60, 100][at % 3];
+        let Lent { text, room, rows, state, value, list, event } = &mut lent;
+        let (texts, all_words) =
+            ([(text, 45), (list, 27), (event, 67)], [(room, 4), (rows, 4), (state, 16), (value, 4)]);
+        for ((memory, unit), [none, most]) in texts.into_iter().zip(&mut lengths[..3]) {
+            if random.chance(percent) {
+                *memory = bytes(random, unit);
+            }
+            (*none, *most) = (*none + u32::from(memory.is_empty()), *most + u32::from(memory.len() == MOST_BYTES));
+        }
+        for ((memory, unit), [none, most]) in all_words.into_iter().zip(&mut lengths[3..]) {
+            if random.chance(percent) {
+                *memory = words(random, unit);
+            }
+            (*none, *most) = (*none + u32::from(memory.is_empty()), *most + u32::from(memory.len() == MOST_WORDS));
+        }
+        lent
+    };
+    compare(lent::inputs(SEED + 1, COUNT).enumerate().map(drawn));
+    println!("memories of length 0, and of the most: {lengths:?}");
+    assert!(lengths.iter().flatten().all(|&count| u64::from(count) >= COUNT / 200), "{lengths:?}");
+}
+
+/// The fence is one.
+mod fence {
+    use crate::common::fence::{Fence, Place};
+
+    /// Writes over byte `at` of, or beside, 8 bytes that are lent as content.
+    fn write(place: Place, at: isize) {
+        let (fence, content) = (Fence::new(), [7u8; 8]);
+        let lent = fence.lend(&content, place);
+        // SAFETY: guard bytes are in the fence's room.
+        unsafe { *lent.start().offset(at) = 9 };
+        assert_eq!(lent.content()[at as usize], 9);
+        lent.assert_same();
+    }
+
+    #[test]
+    #[should_panic(expected = "outside")]
+    fn tells_a_byte_before() {
+        write(Place::Middle, -1);
+    }
+
+    #[test]
+    #[should_panic(expected = "outside")]
+    fn tells_a_byte_after() {
+        write(Place::First, 8);
+    }
+
+    #[test]
+    #[should_panic(expected = "only read")]
+    fn tells_a_byte_in_it() {
+        write(Place::Last, 7);
+    }
+}

@@ -1,0 +1,47 @@
+//! `Flow` and `Rest` in whole sessions (01, "A session in full"), byte for byte against the second implementation.
+
+#[path = "common/screens.rs"]
+mod screens;
+
+use nannyjiffy::{Flow, Ground, EVENT_BYTES};
+use reference::compare;
+use screens::screens;
+
+const SEED: u64 = 2;
+const COUNT: u64 = 1000;
+
+#[test]
+fn sessions_print_what_the_reference_prints() {
+    let (mut sessions, mut events) = (0, 0);
+    for (at, case) in compare::cases(SEED, COUNT).iter().enumerate() {
+        // Any other row count is the session program's matter.
+        if let Some(screens) = screens(&case.input) {
+            assert!(screens == case.screens, "seed {SEED}, case {at}");
+            (sessions, events) = (sessions + 1, events + case.input.len() / EVENT_BYTES);
+        }
+    }
+    println!("{sessions} sessions");
+    assert!(sessions >= COUNT * 9 / 10 && events > 1000);
+}
+
+#[test]
+fn edges() {
+    let line = |row: usize, kind: i32, a: i32| format!("{row:4}{kind:4}{a:12}{:12}{:12}\n", 0, 0);
+    // Types in front of an empty editor of the first.
+    let sheet =
+        |rows: usize| (0..rows).map(|row| line(row, if row + 1 < rows { 3 } else { 41 }, 0)).collect::<String>();
+    assert_eq!(Flow::load(sheet(256).as_bytes()).map(|flow| flow.count()), Ok(256));
+    assert_eq!(Flow::load(sheet(257).as_bytes()).map(drop), Err(Ground::Length));
+    assert_eq!(Flow::load(b"").map(drop), Err(Ground::Length));
+    assert_eq!(Flow::load(&[b' '; 44]).map(drop), Err(Ground::Length));
+    assert_eq!(Flow::load(&[b' '; 46]).map(drop), Err(Ground::Length));
+    let large = format!("{}{}", line(0, 3, 0), line(1, 41, 0).replacen("           0", "  2147483648", 1));
+    assert_eq!(Flow::load(large.as_bytes()).map(drop), Err(Ground::Unreadable));
+}
+
+#[test]
+fn grounds_have_their_numbers() {
+    let numbers: Vec<u32> = (0..100).filter_map(Ground::of).map(Ground::number).collect();
+    assert_eq!(numbers, [1, 2, 3, 4, 5, 6, 7, 8, 9, 20, 21, 22, 23, 24]);
+    assert_eq!(Ground::Handling.to_string(), "9: no handling rule derives a step");
+}

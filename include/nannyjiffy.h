@@ -1,0 +1,99 @@
+/* Nannyjiffy's four calls for C: load a sheet, start its flow, look at a rest, handle an event. They stand in libflow_c.a
+ * (`rt staticlib flow_c`), whose contracts are in crates/flow_c/src/lib.rt; document 01 says what sheets, events and list
+ * entries are, docs/STATE.md what a state's words are, and docs/NUMBERS.md what to do about each number.
+ *
+ * Memory. Every memory is the caller's: the library allocates nothing, keeps nothing between calls, has no globals, and so may
+ * run on several threads at once. A memory is lent for one call, as a pointer and a count of its bytes or words. A call
+ *   - reads and writes nothing outside what it is lent, and writes nothing that is lent as const;
+ *   - takes every count and every content: what does not serve is refused by a number, never undefined;
+ *   - changes no word and no byte of lent memory where it answers another number than 0;
+ *   - writes its single answers (strides, valued, fails, bytes) at every call, refused ones too, there with 0.
+ * The caller owes what a pointer in C owes: it is not NULL (also where its count is 0), is aligned for its type, has as many
+ * words or bytes as the count says, and the memories that one call writes overlap with no other memory lent to that call.
+ *
+ * Stack. The deeper a sheet nests, the more a call takes: 45 KB and up, at most NANNYJIFFY_STACK_BYTES on every sheet that was
+ * measured, the deepest of 256 rows among them (docs/PERFORMANCE.md). Too little ends the program, at the stack's guard page.
+ */
+#ifndef NANNYJIFFY_H
+#define NANNYJIFFY_H
+
+#include <stddef.h>
+#include <stdint.h>
+
+#ifdef __cplusplus
+extern "C" {
+#endif
+
+/* A sheet is 1 to 256 lines, each of 45 bytes; an event is 67 bytes; a list entry is 27. */
+#define NANNYJIFFY_MAX_ROWS 256
+#define NANNYJIFFY_LINE_BYTES 45
+#define NANNYJIFFY_EVENT_BYTES 67
+#define NANNYJIFFY_ENTRY_BYTES 27
+
+/* Words of rows memory and of a state for each row, and words of a value. */
+#define NANNYJIFFY_ROW_WORDS 4
+#define NANNYJIFFY_STATE_WORDS 16
+#define NANNYJIFFY_VALUE_WORDS 4
+
+/* Stack that suffices for each call, 2.5 MiB. */
+#define NANNYJIFFY_STACK_BYTES 2621440
+
+/* List memory that suffices at every rest of a flow of so many rows: it never shows more entries than it has rows. */
+#define NANNYJIFFY_LIST_BYTES(rows) (NANNYJIFFY_ENTRY_BYTES * (rows))
+
+/* What a call answers: 0, or the first ground that holds, in the order that each call names. */
+enum nannyjiffy_number {
+    NANNYJIFFY_ACCEPTED = 0,
+    NANNYJIFFY_LENGTH = 1,     /* sheet length not 45 times 1 to 256 */
+    NANNYJIFFY_UNREADABLE = 2, /* a field or byte 10 unreadable, or a wrong row number */
+    NANNYJIFFY_NOT_LISTED = 3, /* a kind, operator, truth or unused operand not as listed */
+    NANNYJIFFY_SORT = 4,       /* an operand not a lower row, or not of the sort asked */
+    NANNYJIFFY_NAMING = 5,     /* the naming rule broken, or a last row that is no task by its kind */
+    NANNYJIFFY_LIMIT = 6,      /* a type row over 4 leaves, or over 16 binders or marks */
+    NANNYJIFFY_TYPING = 7,     /* no typing for the last row as a task */
+    NANNYJIFFY_EVENT = 8,      /* event length, byte 10, field, path digit or action bad, or a leaf not 0 at actions 2 to 4 */
+    NANNYJIFFY_HANDLING = 9,   /* no handling rule derives a step: the flow does not take this event now */
+    NANNYJIFFY_ROWS = 20,      /* rows that no accepted sheet loads to */
+    NANNYJIFFY_MEMORY = 21,    /* rows memory at load, state or value memory not of its exact length */
+    NANNYJIFFY_NO_STATE = 22,  /* not the writing of a state */
+    NANNYJIFFY_NO_REST = 23,   /* normalising would change the state */
+    NANNYJIFFY_LIST = 24       /* list memory under 27 bytes an entry */
+};
+
+/* Loads a sheet. Asks 1, 21, 2, 3, 4, 5, 6, 7.
+ *   sheet  read: the lines, 45 bytes each
+ *   rows   accepted: every word written, kind, A, B and C of each line; 4 words a line exactly, else 21 */
+uint32_t nannyjiffy_load(const uint8_t *sheet, size_t sheet_bytes, int32_t *rows, size_t rows_words);
+
+/* Starts a flow: the cells' first contents, and the last row evaluated and normalised. Asks 20, 21.
+ *   rows     read: what load wrote; any count and content that no accepted sheet loads to is 20
+ *   state    accepted: every word written, whatever it held; 16 words a row exactly, else 21
+ *   strides  how many strides normalising took, at most 1 more than the rows of kind 43 and 47; refused: 0 */
+uint32_t nannyjiffy_start(const int32_t *rows, size_t rows_words, int32_t *state, size_t state_words, uint32_t *strides);
+
+/* Looks at a rest. Asks 20, 21, 22, 23, 24.
+ *   rows    read, as by start
+ *   state   read: what start or handle wrote; 16 words a row exactly, else 21
+ *   value   accepted: all 4 words written, the value's leaves, unused ones 0, all 0 without a value; 4 words exactly, else 21
+ *   list    accepted: the entries from its first byte on, 27 bytes each; the bytes after them keep their content.
+ *           Too short for the entries: 24. NANNYJIFFY_LIST_BYTES(rows) always suffice; a failing flow needs none
+ *   valued  1 with a value, else 0; refused: 0
+ *   fails   1 where the flow fails, else 0; refused: 0
+ *   bytes   how many bytes of the list the entries are, a multiple of 27; refused: 0 */
+uint32_t nannyjiffy_look(const int32_t *rows, size_t rows_words, const int32_t *state, size_t state_words, int32_t *value,
+                         size_t value_words, uint8_t *list, size_t list_bytes, uint32_t *valued, uint32_t *fails,
+                         size_t *bytes);
+
+/* Handles an event, and normalises. Asks 20, 21, 22, 23, 8, 9.
+ *   rows     read, as by start
+ *   state    a rest; accepted: every word written, the rest that the event leads to; 16 words a row exactly, else 21
+ *   event    read: 67 bytes, else 8
+ *   strides  how many strides normalising took, as by start; refused: 0 */
+uint32_t nannyjiffy_handle(const int32_t *rows, size_t rows_words, int32_t *state, size_t state_words,
+                           const uint8_t *event, size_t event_bytes, uint32_t *strides);
+
+#ifdef __cplusplus
+}
+#endif
+
+#endif
