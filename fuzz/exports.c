@@ -1,0 +1,221 @@
+/* The exports under libFuzzer. An input is a session (row count, sheet, events), as the files of corpus/ are; an event whose
+ * first byte is 128 or more changes lent memory instead: a word of it, or its length. An input without a readable row count is
+ * cut into memories as it is. Every lent memory ends at a page that may not be touched, with guard bytes before it.
+ *
+ * Each call is asked: does it answer a number of its list; does a refusal change nothing and answer 0 beside its number; is what
+ * start and handle leave a rest; are entries whole, and none exactly where the flow fails; are strides within their bound.
+ *
+ * The archive tells libFuzzer nothing of its branches, so the answers do: libFuzzer keeps an input that sets a new counter. */
+#define _DEFAULT_SOURCE /* MAP_ANONYMOUS */
+#include "nannyjiffy.h"
+
+#include <stdio.h>
+#include <stdlib.h>
+#include <string.h>
+#include <sys/mman.h>
+
+enum { PAGE = 4096, ROOM = 32 * PAGE, GUARD = 64, COUNTERS = 1 << 14 };
+enum { PATTERN = 0xc3, MOST_WORDS = 6000, MOST_BYTES = 20000 };
+
+__attribute__((section("__libfuzzer_extra_counters"))) static uint8_t counters[COUNTERS];
+
+static void shown(uint32_t what, uint32_t a, uint32_t b) {
+    uint32_t hash = (what * 0x9e3779b1u ^ a) * 0x85ebca6bu ^ b * 0xc2b2ae35u;
+    counters[(hash ^ hash >> 15) % COUNTERS] = 1;
+}
+
+static void ask(int holds, const char *what) {
+    if (!holds) {
+        fprintf(stderr, "exports: %s\n", what);
+        abort();
+    }
+}
+
+/* A memory: `room` is the fence, `own` what a call is to be lent. Words or bytes, by `unit`. */
+struct memory {
+    uint8_t *room;
+    uint8_t own[MOST_WORDS * 4];
+    size_t count, unit;
+};
+
+static struct memory sheet = {.unit = 1}, rows = {.unit = 4}, state = {.unit = 4}, value = {.unit = 4}, list = {.unit = 1},
+                     event = {.unit = 1};
+
+static size_t bytes(const struct memory *m) { return m->count * m->unit; }
+
+/* Lends a copy, at the end of the room. */
+static void *lend(struct memory *m) {
+    if (!m->room) {
+        m->room = mmap(NULL, ROOM + PAGE, PROT_READ | PROT_WRITE, MAP_PRIVATE | MAP_ANONYMOUS, -1, 0);
+        ask(m->room != MAP_FAILED && mprotect(m->room + ROOM, PAGE, PROT_NONE) == 0, "no memory");
+    }
+    uint8_t *lent = m->room + ROOM - bytes(m);
+    memset(lent - GUARD, PATTERN, GUARD);
+    memcpy(lent, m->own, bytes(m));
+    return lent;
+}
+
+/* Whether what was lent is as it was, from `after` on. Asks the guard bytes too. */
+static int kept(const struct memory *m, size_t after) {
+    const uint8_t *lent = m->room + ROOM - bytes(m);
+    for (int at = 1; at <= GUARD; at++) ask(lent[-at] == PATTERN, "written before what is lent");
+    return memcmp(lent + after, m->own + after, bytes(m) - after) == 0;
+}
+
+/* Takes over what a call left. */
+static void take(struct memory *m) { memcpy(m->own, m->room + ROOM - bytes(m), bytes(m)); }
+
+static void resize(struct memory *m, size_t count) {
+    size_t most = m->unit == 4 ? MOST_WORDS : MOST_BYTES, before = bytes(m);
+    m->count = count < most ? count : most;
+    if (bytes(m) > before) memset(m->own + before, 0, bytes(m) - before);
+}
+
+static void fill(struct memory *m, const uint8_t *from, size_t size) {
+    resize(m, size / m->unit);
+    memcpy(m->own, from, bytes(m));
+}
+
+static int listed(uint32_t number, const char *numbers) {
+    for (; *numbers; numbers++)
+        if ((uint32_t)(*numbers - 'a') == number) return 1;
+    return 0;
+}
+
+/* Rows of kind 43 and 47, and 1. */
+static uint32_t most_strides(void) {
+    uint32_t most = 1;
+    for (size_t at = 0; at + 4 <= rows.count; at += 4) {
+        int32_t kind;
+        memcpy(&kind, rows.own + 4 * at, 4);
+        most += kind == 43 || kind == 47;
+    }
+    return most;
+}
+
+/* In the lists of numbers, letter n stands for n: a 0, b 1, .., j 9, u 20, .., y 24. */
+static uint32_t load(void) {
+    const uint8_t *text = lend(&sheet);
+    uint32_t number = nannyjiffy_load(text, sheet.count, lend(&rows), rows.count);
+    ask(listed(number, "abcdefghv"), "load answers a number that is not its own");
+    ask(kept(&sheet, 0), "load changed the sheet");
+    ask(kept(&rows, 0) || number == 0, "a refused load changed the rows");
+    shown(1, number, 0);
+    if (number == 0) take(&rows);
+    return number;
+}
+
+static uint32_t look(void) {
+    uint32_t valued = 7, fails = 7;
+    size_t written = 7;
+    const int32_t *lent_rows = lend(&rows), *lent_state = lend(&state);
+    int32_t *lent_value = lend(&value);
+    uint32_t number = nannyjiffy_look(lent_rows, rows.count, lent_state, state.count, lent_value, value.count, lend(&list),
+                                      list.count, &valued, &fails, &written);
+    ask(listed(number, "auvwxy"), "look answers a number that is not its own");
+    ask(kept(&rows, 0) && kept(&state, 0), "look changed what it reads");
+    ask(valued <= 1 && fails <= 1 && written <= list.count && written % 27 == 0, "flags or entries");
+    ask(kept(&list, written), "look changed the list after its part");
+    ask(number == 0 || (!valued && !fails && !written && kept(&value, 0)), "a refused look left something");
+    ask(number != 0 || fails == (written == 0), "failing is not the empty list");
+    ask(number != 0 || valued || !(lent_value[0] | lent_value[1] | lent_value[2] | lent_value[3]), "leaves without a value");
+    kept(&value, 0); /* for its guard bytes */
+    shown(2, number, (uint32_t)written * 4 + valued * 2 + fails);
+    return number;
+}
+
+/* What start or handle left is a rest, and strides are within their bound. */
+static void moved(const char *numbers, uint32_t number, uint32_t strides, uint32_t call) {
+    ask(listed(number, numbers), "a number that is not the call's own");
+    ask(kept(&rows, 0), "the rows changed");
+    ask(kept(&state, 0) || number == 0, "a refused call changed the state");
+    ask(number == 0 ? strides >= 1 && strides <= most_strides() : strides == 0, "strides");
+    shown(call, number, strides);
+    if (number != 0) return;
+    take(&state);
+    size_t before = value.count;
+    resize(&value, 4);
+    number = look();
+    resize(&value, before);
+    ask(number == 0 || number == 24, "what a call left is no rest");
+    for (size_t row = 0; row * 4 < rows.count; row++) shown(5, rows.own[16 * row], state.own[64 * row]);
+}
+
+static uint32_t start(void) {
+    uint32_t strides = 7777;
+    const int32_t *lent = lend(&rows);
+    uint32_t number = nannyjiffy_start(lent, rows.count, lend(&state), state.count, &strides);
+    moved("auv", number, strides, 3);
+    return number;
+}
+
+static void handle(void) {
+    uint32_t strides = 7777;
+    const int32_t *lent_rows = lend(&rows);
+    const uint8_t *lent_event = lend(&event);
+    uint32_t number = nannyjiffy_handle(lent_rows, rows.count, lend(&state), state.count, lent_event, event.count, &strides);
+    ask(kept(&event, 0), "handle changed the event");
+    moved("aijuvwx", number, strides, 4);
+}
+
+/* Changes a word or a length, by the bytes of an event that is none: which memory (1), where (2 and 3), how (4) and what (5 to 8). */
+static void poke(const uint8_t *from, size_t size) {
+    struct memory *memories[] = {&rows, &state, &state, &value, &list, &event};
+    if (size < 9) return;
+    struct memory *m = memories[from[1] % 6];
+    size_t place = (size_t)from[2] + 256u * from[3];
+    int32_t small = from[5] % 8;
+    if (from[4] % 8 == 7) {
+        resize(m, from[5] % 2 ? m->count + small - 4 : place);
+    } else if (m->count > 0) {
+        memcpy(m->own + place % m->count * m->unit, from[4] % 8 == 6 ? from + 5 : (const uint8_t *)&small, m->unit);
+    }
+    shown(6, look(), from[1] % 6);
+    if (from[4] >= 128) start();
+}
+
+/* Memories as the bytes come: a ninth each of sheet, rows and value, the list and the event, and the rest the state. */
+static void raw(const uint8_t *data, size_t size) {
+    size_t part = size / 9;
+    fill(&sheet, data, size);
+    load();
+    fill(&rows, data, part);
+    fill(&value, data + part, size % 2 ? part : 0);
+    if (size % 2 == 0) resize(&value, 4);
+    fill(&list, data + part, part);
+    fill(&event, data + 2 * part, part);
+    fill(&state, data + 3 * part, size - 3 * part);
+    start();
+    look();
+    handle();
+}
+
+int LLVMFuzzerTestOneInput(const uint8_t *data, size_t size) {
+    struct memory *memories[] = {&sheet, &rows, &state, &value, &list, &event};
+    for (int at = 0; at < 6; at++) resize(memories[at], 0);
+    char field[6] = {0};
+    memcpy(field, data, size < 5 ? size : 5);
+    size_t count = (size_t)strtoul(field, NULL, 10);
+    if (count == 0 || count > 300 || size < 5 + 45 * count) {
+        raw(data, size);
+        return 0;
+    }
+    fill(&sheet, data + 5, 45 * count);
+    resize(&rows, 4 * count);
+    resize(&value, 4);
+    resize(&list, 27 * count);
+    if (load() != 0) return 0;
+    resize(&state, 16 * count);
+    start();
+    for (size_t at = 5 + 45 * count; at < size; at += 67) {
+        size_t rest = size - at < 67 ? size - at : 67;
+        if (data[at] >= 128) {
+            poke(data + at, rest);
+        } else {
+            fill(&event, data + at, rest);
+            handle();
+            look();
+        }
+    }
+    return 0;
+}

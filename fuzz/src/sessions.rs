@@ -1,0 +1,137 @@
+//! Sessions: bytes to count, rows and events and back, and changes of them.
+
+use crate::lines;
+use reference::event::EVENT;
+use reference::generate::{self, touches};
+use reference::random::Random;
+use reference::rules::Rules;
+use reference::session::{self, COUNT};
+use reference::sheet::{self, Row, LINE};
+use reference::slips::Slip;
+use reference::state::State;
+
+/// Bytes that fields are made of, and some that they are not.
+const BYTES: &[u8] = b"    0123456789-+\n\r\0\xffx";
+/// Bytes of a session at most.
+const MOST: usize = 16_000;
+
+/// A session of those in the pool, changed in one or some ways; now and then one of the second implementation's cases.
+pub fn make(random: &mut Random, pool: &[Vec<u8>]) -> Vec<u8> {
+    if random.chance(4) {
+        return generate::cases(random.draw(), 1).next().expect("one");
+    }
+    let mut input = random.pick(pool).expect("a pool").clone();
+    let other = random.pick(pool).expect("a pool");
+    for _ in 0..1 + random.below(3) {
+        match random.below(10) {
+            0..=1 => change_bytes(random, &mut input, BYTES),
+            2..=4 => change_rows(random, &mut input, other),
+            5 => change_events(random, &mut input, other),
+            _ => touch(random, &mut input),
+        }
+    }
+    input.truncate(MOST);
+    input
+}
+
+/// Rows and events, where the count and the lines can be read.
+pub fn parts(input: &[u8]) -> Option<(Vec<Row>, &[u8])> {
+    let (count, rest) = input.split_at_checked(COUNT)?;
+    let count: usize = std::str::from_utf8(count).ok()?.trim().parse().ok()?;
+    let (text, events) = rest.split_at_checked(count.checked_mul(LINE)?)?;
+    sheet::read(text, Slip::None).ok().map(|rows| (rows, events))
+}
+
+/// A byte or a few put, taken out or put in.
+pub fn change_bytes(random: &mut Random, bytes: &mut Vec<u8>, from: &[u8]) {
+    let at = random.below(bytes.len() + 1);
+    let count = random.below(bytes.len() - at + 1).min(1 + random.below(80));
+    let byte = *random.pick(from).expect("bytes");
+    match random.below(8) {
+        0..=2 if at < bytes.len() => bytes[at] = byte,
+        3 if at < bytes.len() => bytes[at] ^= 1 << random.below(8),
+        4 => bytes.insert(at, byte),
+        5 => drop(bytes.drain(at..at + count)),
+        6 => {
+            let part = bytes[at..at + count].to_vec();
+            let to = random.below(bytes.len() + 1);
+            bytes.splice(to..to, part);
+        }
+        _ => bytes.truncate(at),
+    }
+}
+
+fn change_rows(random: &mut Random, input: &mut Vec<u8>, other: &[u8]) {
+    let Some((mut rows, events)) = parts(input) else { return };
+    let other = parts(other).map_or(Vec::new(), |(rows, _)| rows);
+    lines::change(random, &mut rows, &other);
+    *input = [generate::counted(&rows), events.to_vec()].concat();
+}
+
+/// Events in another order, twice, left out, or those of another session.
+fn change_events(random: &mut Random, input: &mut Vec<u8>, other: &[u8]) {
+    let (Some((rows, events)), Some((_, others))) = (parts(input), parts(other)) else { return };
+    let mut events: Vec<&[u8]> = events.chunks(EVENT).collect();
+    let at = random.below(events.len() + 1);
+    match random.below(4) {
+        0 => events.extend(others.chunks(EVENT)),
+        1 => drop(events.drain(at..)),
+        2 if at < events.len() => drop(events.remove(at)),
+        _ if at < events.len() => {
+            let with = random.below(events.len());
+            events.swap(at, with);
+        }
+        _ => {}
+    }
+    *input = [generate::counted(&rows), events.concat()].concat();
+}
+
+/// Further events, for what the session shows at its end.
+fn touch(random: &mut Random, input: &mut Vec<u8>) {
+    let text = input.clone();
+    let mut rest = &text[..];
+    let Ok(Ok(flow)) = session::load(&mut rest, Rules::default()) else { return };
+    let (mut state, _) = State::start(&flow);
+    // A short last event is left out. A refused event leaves the state as it is.
+    let whole = input.len() - rest.len() % EVENT;
+    for event in rest.chunks_exact(EVENT) {
+        let _ = state.handle(event);
+    }
+    input.truncate(whole);
+    for _ in 0..1 + random.below(4) {
+        let event = touches::event(random, &state.look().entries);
+        let _ = state.handle(&event);
+        input.extend(event);
+    }
+}
+
+/// What the screens show, each and from one to the next: the head line, without leaves, and the entries.
+pub fn shown(screens: &[u8]) -> Vec<u64> {
+    let (mut shown, mut before) = (Vec::new(), 0);
+    let mut rest = screens;
+    while let Some((head, after)) = rest.split_at_checked(65) {
+        let count = number(&head[60..64]) as usize;
+        let Some((entries, after)) = after.split_at_checked(27 * count) else { break };
+        let own = hash([number(&head[..4]), number(&head[4..8]), number(&head[8..12]), count as u64]);
+        shown.extend([own, hash([own, before, 0, 1]), hash([own, actions(entries), 0, 2])]);
+        (rest, before) = (after, own);
+    }
+    shown
+}
+
+/// Actions, path lengths and leaf kinds of entries.
+fn actions(entries: &[u8]) -> u64 {
+    entries.chunks(27).fold(0, |sum, entry| {
+        let marks = entry[..16].iter().filter(|&&byte| byte != b' ').count() as u64;
+        hash([sum, marks, number(&entry[16..18]), number(&entry[18..26])])
+    })
+}
+
+/// The digits of columns.
+fn number(columns: &[u8]) -> u64 {
+    columns.iter().filter(|byte| byte.is_ascii_digit()).fold(0, |sum, byte| 10 * sum + u64::from(byte - b'0'))
+}
+
+pub fn hash(numbers: [u64; 4]) -> u64 {
+    numbers.into_iter().fold(0, |sum, number| Random::new(sum ^ number).draw())
+}
