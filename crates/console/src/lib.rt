@@ -2,7 +2,7 @@
 // of a fixed size, and the input of any length.
 ghost use Prim.Native.Nat.{_≤_};
 ghost use Rattle.io.specs.Counts.{Counts};
-use flow::touch::EVENT_BYTES;
+use formats::EVENT_BYTES;
 use libc::STDIN_FILENO;
 use libc::STDOUT_FILENO;
 use rows::MAX_ROWS;
@@ -13,7 +13,7 @@ use screens::count::COUNT_BYTES;
 use screens::turn::SCREEN_BYTES;
 use screens::turn::begin;
 use screens::turn::touch;
-use sheet::LINE_BYTES;
+use formats::LINE_BYTES;
 use state::STATE_SIZE;
 use state::STATE_WORDS;
 

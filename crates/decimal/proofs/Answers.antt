@@ -1,6 +1,6 @@
 -- What a caller learns from an answer: the cases of `Reading`, `PathReading` and `Front` turned back into fields and paths,
 -- and what a write leaves to be read. Rests on proofs/Fields.antt, proofs/Paths.antt and proofs/PathNumbers.antt.
-use Prim.Native.Nat.{ℕ, _+_, _*_, _-_, _^_, _≤_}
+use Prim.Native.Nat.{ℕ, _+_, _*_, _^_, _≤_}
 use mathlib.Core.Path.{_≡_, refl, sym, ap, _∙_}
 use mathlib.Core.Bool.{true, false}
 use mathlib.Core.List.{List, [], _∷_, _++_}

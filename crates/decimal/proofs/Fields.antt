@@ -1,6 +1,6 @@
 -- THE THEOREM of fields: in every width, bytes read as a number exactly where they are what writing that word in that width gives.
 -- So reading tells numbers apart, and what was written is read back. Rests on proofs/Justified.antt and proofs/Digits.antt.
-use Prim.Native.Nat.{ℕ, zero, suc, _+_, _-_, _≤_}
+use Prim.Native.Nat.{ℕ, zero, suc, _-_, _≤_}
 use mathlib.Core.Path.{_≡_, refl, sym, ap, _∙_}
 use mathlib.Core.List.{List, [], _∷_, _++_, append-nil}
 use mathlib.Core.Option.{some, Option·some-injective}

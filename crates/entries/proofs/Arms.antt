@@ -2,7 +2,7 @@
 -- on and on the view of those that do, on Fronts and on Texts.
 use mathlib.Core.Path.{_≡_, sym, ap, ap₂, _∙_, subst}
 use mathlib.Core.Bool.{Bool, not, cond}
-use mathlib.Core.Logic.{_⊎_, ⊎-elim}
+use mathlib.Core.Logic.{⊎-elim}
 use mathlib.Core.List.{List, [], _∷_, _++_}
 use Prim.Native.Nat.{ℕ, _+_, _-_, _≤_}
 use native.Mathlib.Omega.{arith}
@@ -10,35 +10,37 @@ use borrow.Rule.Slice.PartMut.{putMid}
 use lib.ListN.{length, length-append}
 use Rattle.decimal.specs.Path.{Mark, first, second, Path, maxMarks}
 use Rattle.tophat.specs.Syntax.{Code, edit, enter, update, then, next, fail, and, or, xor, if, let', TaskOf, Env, Store}
-use Rattle.tophat.specs.Handling.{continue, left, right}
-use Rattle.tophat.specs.Showing.{Entry, marked, lit}
+use Rattle.tophat.specs.Handling.{continue, left, right, giving, pressing, actNumber}
+use Rattle.tophat.specs.Showing.{Entry, marked, buttonIf}
 use Rattle.tophat.proofs.ComputeNormalising.{normalise, settle}
 use Rattle.tophat.proofs.ComputeEntries.{entries}
-use Rattle.rows.specs.Rows.{word, opA, opB}
+use Rattle.tophat.proofs.Became.{alike}
+use Rattle.rows.specs.Kinds.{taskK, editK, thenK, nextK, failK, andK, orK, xorK, numberOf}
+use Rattle.rows.specs.Rows.{word, opA, opB, OfKind, FromKind, UpToKind}
 use Rattle.shape.specs.Shape.{kindsOf}
 use Rattle.state.specs.Layout.{at}
-use Rattle.tasks.specs.Hands.{HandsOn, Under}
-use Rattle.tasks.proofs.Hands.{inside, hands}
-use Rattle.tasks.proofs.Handing.{sits-in, world-in}
-use Rattle.tasks.proofs.Forms.{Unhanded, on-then-before, on-next-before, on-either, on-unpicked, on-no-if, on-no-let, on-failed, on-both}
-use Rattle.cycle.specs.Trying.{TriedOk}
-use Rattle.cycle.proofs.Asking.{two-kinds}
-use Rattle.entries.specs.Entries.{buttonNumber, noKinds, numbersText, listText, under}
-use Rattle.entries.specs.Listing.{Lists, Wrote, Fit, ContentOk, GoesOnOk, EntriesOk}
+use Rattle.running.specs.Hands.{HandsOn, Under, Unhanded}
+use Rattle.running.proofs.Hands.{inside, hands}
+use Rattle.running.proofs.Handing.{sits-in, world-in}
+use Rattle.running.proofs.Forms.{on-then-before, on-next-before, on-either, on-unpicked, on-no-if, on-no-let, on-failed, on-both}
+use Rattle.normalising.specs.Trying.{TriedOk}
+use Rattle.normalising.proofs.Asking.{two-kinds}
+use Rattle.formats.specs.Lists.{noKinds, numbersEntry, listText, under, Fits}
+use Rattle.entries.specs.Listing.{Lists, Wrote, ContentOk, GoesOnOk, EntriesOk}
 use Rattle.entries.proofs.Fronts.{tailOf, lists-after, lists-none}
-use Rattle.entries.proofs.Texts.{lit-text, offer-text, text-after, under-mark, fit-left, fit-right, fit-inner, fit-full}
+use Rattle.entries.proofs.Texts.{button-text, offer-text, text-after, under-mark, fit-left, fit-right, fit-inner, fit-full}
 
 length-more : (p : Path) (m : Mark) → length p + 1 ≡ length (p ++ m ∷ [])
 length-more p m = sym (length-append p (m ∷ []))
 
--- where a button is lit, its bytes
-abbrev pub litText : Path → Bool → ℕ → List ℕ
-litText p x n = cond x (numbersText p n noKinds) []
+-- the bytes of a button that can be pressed
+abbrev pub buttonText : Path → Bool → ℕ → List ℕ
+buttonText p x n = cond x (numbersEntry p n noKinds) []
 
 module _ (rs ws : List ℕ) (i : ℕ) (env : List ℕ) (d : ℕ) (p : Path) (list : List ℕ) where
   -- what is shown of a task
   abbrev Told : List ℕ → ℕ → Env → Store → (c : Code) → TaskOf c → Type 0
-  Told l₁ n ρ s c t = Fit (length p) (entries c ρ s t) → Lists list l₁ n (listText (under p (entries c ρ s t)))
+  Told l₁ n ρ s c t = Fits (length p) (entries c ρ s t) → Lists list l₁ n (listText (under p (entries c ρ s t)))
 
   abbrev Shows : Path → List ℕ → List ℕ → ℕ → ℕ → Type 0
   Shows q l l₁ n a = EntriesOk rs ws a env d q l l₁ n
@@ -49,32 +51,32 @@ module _ (rs ws : List ℕ) (i : ℕ) (env : List ℕ) (d : ℕ) (p : Path) (lis
   entries-hands h e env₁ d₁ u l₁ n f c z Σ Γ τ s ρ t y w g m =
       let v = hands rs ws d i h c z t g in
       let o = v .inner y in
-      let q = v .passes .entries-is ρ s in
+      let q = ap (entries c ρ s) (v .is) ∙ alike (v .became) .shows s (v .task) in
       subst (λ es. Lists list l₁ n (listText (under p es))) (sym q)
-      (subst (λ a. EntriesOk rs ws a env₁ d₁ p list l₁ n) e f (v .part) (sits-in v u) Σ (o .types) τ s (inside (v .binder) ρ) (v .task) (o .typed) (world-in v u y w) (v .holds) (subst (Fit (length p)) q m))
+      (subst (λ a. EntriesOk rs ws a env₁ d₁ p list l₁ n) e f (v .part) (sits-in v u) Σ (o .types) τ s (inside (v .binder) ρ) (v .task) (o .typed) (world-in v u y w) (v .holds) (subst (Fits (length p)) q m))
 
   -- ---- 40, 41 and 42
-  pub entries-offer : (l₁ : List ℕ) (n r : ℕ) → ContentOk rs ws i r → Wrote list l₁ n (numbersText p 1 (kindsOf r)) → EntriesOk rs ws i env d p list l₁ n
+  pub entries-offer : (l₁ : List ℕ) (n r : ℕ) → ContentOk rs ws i r → Wrote list l₁ n (numbersEntry p (actNumber giving) (kindsOf r)) → EntriesOk rs ws i env d p list l₁ n
   entries-offer l₁ n r f k c z Σ Γ τ s ρ t y w g m =
       let o = f d c z env Σ Γ τ s ρ t y w g in
-      subst (Lists list l₁ n) (ap (λ x. numbersText p 1 (kindsOf x)) (o .1) ∙ sym (offer-text p (o .0) (o .2)) ∙ ap (λ es. listText (under p es)) (sym (o .3))) (k .lists)
+      subst (Lists list l₁ n) (ap (λ x. numbersEntry p (actNumber giving) (kindsOf x)) (o .1) ∙ sym (offer-text p (o .0) (o .2)) ∙ ap (λ es. listText (under p es)) (sym (o .3))) (k .lists)
 
   -- ---- 45
-  pub entries-fail : word rs i 0 ≡ 45 → EntriesOk rs ws i env d p list list 0
+  pub entries-fail : OfKind rs i (taskK failK) → EntriesOk rs ws i env d p list list 0
   unfolding entries listText under
   entries-fail q c k Σ Γ τ s ρ t y w g = on-failed rs ws d i Σ Γ (λ c t τ. Told list 0 ρ s c t) q (λ τ k g l m. lists-none list) c k τ t y g
 
   module _ (z : Unhanded rs ws i) where
     -- ---- 43: the left side's
-    pub entries-then : (l₁ : List ℕ) (a n : ℕ) → word rs i 0 ≡ 43 → a ≡ opA rs i → Shows p list l₁ n a → EntriesOk rs ws i env d p list l₁ n
+    pub entries-then : (l₁ : List ℕ) (a n : ℕ) → OfKind rs i (taskK thenK) → a ≡ opA rs i → Shows p list l₁ n a → EntriesOk rs ws i env d p list l₁ n
     unfolding entries
     entries-then l₁ a n q e h c k Σ Γ τ s ρ t y w g =
         let f = subst (Shows p list l₁ n) e h in
         on-then-before rs ws d i Σ Γ (λ c t τ. Told l₁ n ρ s c t) z q (λ a b t σ υ k g y x m. f a (k .1) Σ Γ σ s ρ t y w (g .1) m) c k τ t y g
 
     -- ---- 44: the left side's, and Continue
-    pub entries-next : (l₁ l₂ : List ℕ) (a n m : ℕ) (x : Bool) → word rs i 0 ≡ 44 → a ≡ opA rs i → length l₁ ≡ length list → Shows p list l₁ n a → GoesOnOk rs ws i env d x
-        → Wrote (tailOf n l₁) l₂ m (litText p x (buttonNumber continue)) → EntriesOk rs ws i env d p list (putMid n (length l₁ - n) l₁ l₂) (n + m)
+    pub entries-next : (l₁ l₂ : List ℕ) (a n m : ℕ) (x : Bool) → OfKind rs i (taskK nextK) → a ≡ opA rs i → length l₁ ≡ length list → Shows p list l₁ n a → GoesOnOk rs ws i env d x
+        → Wrote (tailOf n l₁) l₂ m (buttonText p x (actNumber (pressing continue))) → EntriesOk rs ws i env d p list (putMid n (length l₁ - n) l₁ l₂) (n + m)
     unfolding entries
     entries-next l₁ l₂ a n m x q e kept h go wr c k Σ Γ τ s ρ t y w g =
         let f = subst (Shows p list l₁ n) e h in
@@ -82,23 +84,23 @@ module _ (rs ws : List ℕ) (i : ℕ) (env : List ℕ) (d : ℕ) (p : Path) (lis
         (λ a b t σ υ k g y v fit.
         let o = go a b k Σ Γ σ υ s ρ t y v w g in
         subst (Lists list (putMid n (length l₁ - n) l₁ l₂) (n + m))
-        (ap (λ bs. listText (under p (entries a ρ s t)) ++ bs) (sym (lit-text p x continue) ∙ ap (λ es. listText (under p es)) o) ∙ sym (text-after p (entries a ρ s t) _))
+        (ap (λ bs. listText (under p (entries a ρ s t)) ++ bs) (sym (button-text p x continue) ∙ ap (λ es. listText (under p es)) o) ∙ sym (text-after p (entries a ρ s t) _))
         (lists-after list l₁ l₂ n m kept (f a (k .1) Σ Γ σ s ρ t y w (g .1) (fit-left (length p) (entries a ρ s t) _ fit)) (wr .lists)))
         c k τ t y g
 
     -- ---- 46 and 47: the left part's under the first mark, and the right part's under the second
     module _ (l₁ l₂ : List ℕ) (n m : ℕ) (kept : length l₁ ≡ length list) where
-      both-listed : (es fs : List Entry) → (Fit (length (p ++ first ∷ [])) es → Lists list l₁ n (listText (under (p ++ first ∷ []) es)))
-          → (Fit (length (p ++ second ∷ [])) fs → Lists (tailOf n l₁) l₂ m (listText (under (p ++ second ∷ []) fs))) → Fit (length p) (marked first es ++ marked second fs)
+      both-listed : (es fs : List Entry) → (Fits (length (p ++ first ∷ [])) es → Lists list l₁ n (listText (under (p ++ first ∷ []) es)))
+          → (Fits (length (p ++ second ∷ [])) fs → Lists (tailOf n l₁) l₂ m (listText (under (p ++ second ∷ []) fs))) → Fits (length p) (marked first es ++ marked second fs)
           → Lists list (putMid n (length l₁ - n) l₁ l₂) (n + m) (listText (under p (marked first es ++ marked second fs)))
       both-listed es fs f h k =
           subst (Lists list (putMid n (length l₁ - n) l₁ l₂) (n + m))
           (ap₂ (λ x y. listText x ++ listText y) (sym (under-mark p first es)) (sym (under-mark p second fs)) ∙ sym (text-after p (marked first es) (marked second fs)))
           (lists-after list l₁ l₂ n m kept
-          (f (subst (λ k. Fit k es) (length-more p first) (fit-inner (length p) first es (fit-left (length p) (marked first es) (marked second fs) k))))
-          (h (subst (λ k. Fit k fs) (length-more p second) (fit-inner (length p) second fs (fit-right (length p) (marked first es) (marked second fs) k)))))
+          (f (subst (λ k. Fits k es) (length-more p first) (fit-inner (length p) first es (fit-left (length p) (marked first es) (marked second fs) k))))
+          (h (subst (λ k. Fits k fs) (length-more p second) (fit-inner (length p) second fs (fit-right (length p) (marked first es) (marked second fs) k)))))
 
-      pub entries-both : (a b : ℕ) → 46 ≤ word rs i 0 → word rs i 0 ≤ 47 → a ≡ opA rs i → b ≡ opB rs i → Shows (p ++ first ∷ []) list l₁ n a → Shows (p ++ second ∷ []) (tailOf n l₁) l₂ m b
+      pub entries-both : (a b : ℕ) → FromKind rs i (taskK andK) → UpToKind rs i (taskK orK) → a ≡ opA rs i → b ≡ opB rs i → Shows (p ++ first ∷ []) list l₁ n a → Shows (p ++ second ∷ []) (tailOf n l₁) l₂ m b
           → EntriesOk rs ws i env d p list (putMid n (length l₁ - n) l₁ l₂) (n + m)
       unfolding entries
       entries-both a b l r ea eb h h₁ c k Σ Γ τ s ρ t y w g =
@@ -109,26 +111,26 @@ module _ (rs ws : List ℕ) (i : ℕ) (env : List ℕ) (d : ℕ) (p : Path) (lis
           (λ a b t u σ υ k g y x l. both-listed (entries a ρ s t) (entries b ρ s u) (f a (k .1) Σ Γ σ s ρ t y w (g .1)) (f₁ b (k .2) Σ Γ υ s ρ u x w (g .2))) c k τ t y g)
           (λ q. on-either rs ws d i Σ Γ (λ c t τ. Told (putMid n (length l₁ - n) l₁ l₂) (n + m) ρ s c t) z q
           (λ a b t u σ k g y x. both-listed (entries a ρ s t) (entries b ρ s u) (f a (k .1) Σ Γ σ s ρ t y w (g .1)) (f₁ b (k .2) Σ Γ σ s ρ u x w (g .2))) c k τ t y g)
-          (two-kinds 46 (word rs i 0) l r)
+          (two-kinds (numberOf (taskK andK)) (word rs i 0) l r)
 
     -- no mark more: neither part shows an entry
-    full-listed : (es fs : List Entry) → maxMarks ≤ length p → Fit (length p) (marked first es ++ marked second fs) → Lists list list 0 (listText (under p (marked first es ++ marked second fs)))
+    full-listed : (es fs : List Entry) → maxMarks ≤ length p → Fits (length p) (marked first es ++ marked second fs) → Lists list list 0 (listText (under p (marked first es ++ marked second fs)))
     unfolding listText under
     full-listed es fs l k =
         subst (λ es. Lists list list 0 (listText (under p es)))
         (sym (ap₂ _++_ (fit-full (length p) first es l (fit-left (length p) (marked first es) (marked second fs) k)) (fit-full (length p) second fs l (fit-right (length p) (marked first es) (marked second fs) k))))
         (lists-none list)
 
-    pub entries-full : 46 ≤ word rs i 0 → word rs i 0 ≤ 47 → maxMarks ≤ length p → EntriesOk rs ws i env d p list list 0
+    pub entries-full : FromKind rs i (taskK andK) → UpToKind rs i (taskK orK) → maxMarks ≤ length p → EntriesOk rs ws i env d p list list 0
     unfolding entries
     entries-full l r h c k Σ Γ τ s ρ t y w g = ⊎-elim
         (λ q. on-both rs ws d i Σ Γ (λ c t τ. Told list 0 ρ s c t) q (λ a b t u σ υ k g y x l. full-listed (entries a ρ s t) (entries b ρ s u) h) c k τ t y g)
         (λ q. on-either rs ws d i Σ Γ (λ c t τ. Told list 0 ρ s c t) z q (λ a b t u σ k g y x. full-listed (entries a ρ s t) (entries b ρ s u) h) c k τ t y g)
-        (two-kinds 46 (word rs i 0) l r)
+        (two-kinds (numberOf (taskK andK)) (word rs i 0) l r)
 
     -- ---- 48: Left and Right, each where that branch, settled, does not fail
-    pub entries-choice : (l₁ l₂ : List ℕ) (a b n m : ℕ) (x y : Bool) → word rs i 0 ≡ 48 → a ≡ opA rs i → b ≡ opB rs i → length l₁ ≡ length list → TriedOk rs ws a env d x → TriedOk rs ws b env d y
-        → Wrote list l₁ n (litText p (not x) (buttonNumber left)) → Wrote (tailOf n l₁) l₂ m (litText p (not y) (buttonNumber right))
+    pub entries-choice : (l₁ l₂ : List ℕ) (a b n m : ℕ) (x y : Bool) → OfKind rs i (taskK xorK) → a ≡ opA rs i → b ≡ opB rs i → length l₁ ≡ length list → TriedOk rs ws a env d x → TriedOk rs ws b env d y
+        → Wrote list l₁ n (buttonText p (not x) (actNumber (pressing left))) → Wrote (tailOf n l₁) l₂ m (buttonText p (not y) (actNumber (pressing right)))
         → EntriesOk rs ws i env d p list (putMid n (length l₁ - n) l₁ l₂) (n + m)
     unfolding entries settle normalise
     entries-choice l₁ l₂ a b n m x₀ y₀ q ea eb kept h h₁ wr wr₁ c k Σ Γ τ s ρ t y w g =
@@ -137,14 +139,14 @@ module _ (rs ws : List ℕ) (i : ℕ) (env : List ℕ) (d : ℕ) (p : Path) (lis
         on-unpicked rs ws d i Σ Γ (λ c t τ. Told (putMid n (length l₁ - n) l₁ l₂) (n + m) ρ s c t) z q
         (λ a b σ k g y x fit.
         subst (Lists list (putMid n (length l₁ - n) l₁ l₂) (n + m))
-        (ap₂ _++_ (sym (lit-text p (not x₀) left)) (sym (lit-text p (not y₀) right))
-        ∙ sym (text-after p (lit (not x₀) left) (lit (not y₀) right))
-        ∙ ap₂ (λ u v. listText (under p (lit (not u) left ++ lit (not v) right))) (f a (k .1) Σ Γ σ s ρ y w (g .1)) (f₁ b (k .2) Σ Γ σ s ρ x w (g .2)))
+        (ap₂ _++_ (sym (button-text p (not x₀) left)) (sym (button-text p (not y₀) right))
+        ∙ sym (text-after p (buttonIf (not x₀) left) (buttonIf (not y₀) right))
+        ∙ ap₂ (λ u v. listText (under p (buttonIf (not u) left ++ buttonIf (not v) right))) (f a (k .1) Σ Γ σ s ρ y w (g .1)) (f₁ b (k .2) Σ Γ σ s ρ x w (g .2)))
         (lists-after list l₁ l₂ n m kept (wr .lists) (wr₁ .lists)))
         c k τ t y g
 
     -- ---- no other kind is a task that does not hand on
-    pub entries-none : (40 ≤ word rs i 0 → word rs i 0 ≤ 44 → ⊥) → (46 ≤ word rs i 0 → word rs i 0 ≤ 48 → ⊥) → EntriesOk rs ws i env d p list list 0
+    pub entries-none : (FromKind rs i (taskK editK) → UpToKind rs i (taskK nextK) → ⊥) → (FromKind rs i (taskK andK) → UpToKind rs i (taskK xorK) → ⊥) → EntriesOk rs ws i env d p list list 0
     unfolding entries
     entries-none n o (edit e) k Σ Γ τ s ρ t y w g = absurd (let q = k .0 in n (omega arith) (omega arith))
     entries-none n o (enter υ) k Σ Γ τ s ρ t y w g = absurd (let q = k .0 in n (omega arith) (omega arith))

@@ -1,92 +1,35 @@
--- The bytes of entries: a field of one digit, a path of at most 16 marks, a button's and an editor's entry; entries one after
--- another, and under marks. Rests on specs/Entries.
-use mathlib.Core.Path.{_≡_, refl, sym, ap, ap₂, _∙_, subst}
+-- The bytes of entries: a button's and an editor's entry; entries one after another, and under marks. Rests on crate formats' lists.
+use mathlib.Core.Path.{_≡_, refl, sym, ap, ap₂, _∙_}
 use mathlib.Core.Bool.{Bool, true, false, cond}
-use mathlib.Core.Option.{some}
 use mathlib.Core.List.{List, [], _∷_, _++_, map, append-assoc, append-nil}
-use Prim.Native.Nat.{ℕ, zero, suc, _+_, _-_, _<_, _≤_}
+use Prim.Native.Nat.{ℕ, zero, suc, _+_, _-_, _≤_}
 use native.Mathlib.Omega.{arith}
-use borrow.Author.Tests.{le-leb}
-use lib.ListN.{length, replicate, length-append, length-replicate, length-map}
-use mir.Syntax.{w32}
-use mir.Val.{toZ}
-use Rattle.ranges.proofs.Ranges.{nothing, in-range}
-use Rattle.decimal.specs.Field.{space, digits, text, justified, written, actionColumns}
-use Rattle.decimal.specs.Path.{Mark, Path, maxMarks, pathColumns, marksText, pathText, writtenPath}
+use lib.ListN.{length, replicate, length-map}
+use Rattle.decimal.specs.Path.{Mark, Path, maxMarks}
 use Rattle.tophat.specs.Syntax.{maxLeaves, Ty, leaves}
-use Rattle.tophat.specs.Handling.{padded, Button}
-use Rattle.tophat.specs.Showing.{Leaf, noLeaf, leafKinds, Entry, marked, offers, lit}
-use Rattle.shape.specs.Shape.{asShape, leafNumber, kindsOf}
+use Rattle.tophat.specs.Handling.{Button, giving, pressing, actNumber}
+use Rattle.tophat.specs.Leaves.{padded, Leaf, noLeaf, leafKinds, leafNumber}
+use Rattle.tophat.specs.Showing.{Entry, marked, offers, buttonIf}
+use Rattle.shape.specs.Shape.{asShape, kindsOf}
 use Rattle.shape.proofs.Shapes.{kinds-of}
-use Rattle.entries.specs.Entries.{textOf, fieldText, buttonNumber, actionNumber, noKinds, kindNumbers, numbersText, entryText, listText, under}
-use Rattle.entries.specs.Listing.{Fit, fit-none, fit-more}
-use Rattle.entries.proofs.Fronts.{Text}
-
--- ---- fields
-
--- a number of one digit
-pub digit-text : (n : ℕ) → n < 10 → Text actionColumns (written actionColumns (toZ w32 n)) (fieldText n)
-unfolding fieldText textOf text justified digits
-digit-text n h = in-range (λ n. Text actionColumns (written actionColumns (toZ w32 n)) (fieldText n)) 0 10 {x = n} (
-  record { is = refl; long = refl },
-  (
-    record { is = refl; long = refl },
-    (
-      record { is = refl; long = refl },
-      (
-        record { is = refl; long = refl },
-        (
-          record { is = refl; long = refl },
-          (
-            record { is = refl; long = refl },
-            (record { is = refl; long = refl }, (record { is = refl; long = refl }, (record { is = refl; long = refl }, (record { is = refl; long = refl }, nothing)))),
-          ),
-        ),
-      ),
-    ),
-  ),
-)
-    (omega arith) (omega arith)
-
-justified-is : (w : ℕ) (t : List ℕ) → length t ≤ w → justified w t ≡ some (replicate (w - length t) space ++ t)
-unfolding justified
-justified-is w t h = rw (le-leb (length t) w h)
-
-justified-text : (w : ℕ) (t : List ℕ) → length t ≤ w → Text w (justified w t) (textOf (justified w t))
-unfolding textOf
-justified-text w t h = subst (λ o. Text w o (textOf o)) (sym (justified-is w t h))
-    (record { is = refl; long = let e = length-append (replicate (w - length t) space) t in let f = length-replicate (w - length t) space in omega arith })
-
-length-marks : (p : Path) → length (marksText p) ≡ length p
-unfolding marksText
-length-marks [] = refl
-length-marks (m ∷ p) = ap suc (length-marks p)
-
-path-short : (p : Path) → length p ≤ maxMarks → length (pathText p) ≤ pathColumns
-unfolding pathText
-path-short [] h = omega arith
-path-short (m ∷ p) h = let e = length-marks (m ∷ p) in omega arith
-
--- a path
-pub path-field : (p : Path) → length p ≤ maxMarks → Text pathColumns (writtenPath p) (textOf (writtenPath p))
-path-field p h = justified-text pathColumns (pathText p) (path-short p h)
+use Rattle.formats.specs.Lists.{offerAct, offerKinds, noKinds, numbersEntry, entryText, listText, under, Fits, fit-none, fit-more}
 
 -- ---- entries
 
-pub lit-text : (p : Path) (x : Bool) (b : Button) → listText (under p (lit x b)) ≡ cond x (numbersText p (buttonNumber b) noKinds) []
-unfolding lit listText under entryText actionNumber kindNumbers
-lit-text p true b = append-nil _ ∙ ap (λ q. numbersText q (buttonNumber b) noKinds) (append-nil p)
-lit-text p false b = refl
+pub button-text : (p : Path) (x : Bool) (b : Button) → listText (under p (buttonIf x b)) ≡ cond x (numbersEntry p (actNumber (pressing b)) noKinds) []
+unfolding buttonIf listText under entryText offerAct offerKinds
+button-text p true b = append-nil _ ∙ ap (λ q. numbersEntry q (actNumber (pressing b)) noKinds) (append-nil p)
+button-text p false b = refl
 
 map-padded : (f : Leaf → ℕ) (n : ℕ) (xs : List Leaf) → map f (xs ++ replicate n noLeaf) ≡ map f xs ++ replicate n (f noLeaf)
 map-padded f zero [] = refl
 map-padded f (suc n) [] = ap (λ l. f noLeaf ∷ l) (map-padded f n [])
 map-padded f n (x ∷ xs) = ap (λ l. f x ∷ l) (map-padded f n xs)
 
-pub offer-text : (p : Path) (τ : Ty) → leaves τ ≤ maxLeaves → listText (under p (offers τ)) ≡ numbersText p 1 (kindsOf (asShape τ))
-unfolding offers listText under entryText actionNumber kindNumbers padded leafNumber
+pub offer-text : (p : Path) (τ : Ty) → leaves τ ≤ maxLeaves → listText (under p (offers τ)) ≡ numbersEntry p (actNumber giving) (kindsOf (asShape τ))
+unfolding offers listText under entryText offerAct offerKinds padded
 offer-text p τ h = append-nil _
-    ∙ ap₂ (λ q ks. numbersText q 1 ks) (append-nil p)
+    ∙ ap₂ (λ q ks. numbersEntry q (actNumber giving) ks) (append-nil p)
     (map-padded leafNumber (maxLeaves - length (leafKinds τ)) (leafKinds τ) ∙ ap (λ n. map leafNumber (leafKinds τ) ++ replicate (maxLeaves - n) 0) (sym (length-map (leafKinds τ) leafNumber)) ∙ sym (kinds-of τ h))
 
 -- ---- one after another
@@ -106,36 +49,23 @@ unfolding under
 under-none [] = refl
 under-none (e ∷ es) = ap (λ es. e ∷ es) (under-none es)
 
--- ---- marks
+-- ---- entries that can be written
 
-pub fit-left : (k : ℕ) (es fs : List Entry) → Fit k (es ++ fs) → Fit k es
+pub fit-left : (k : ℕ) (es fs : List Entry) → Fits k (es ++ fs) → Fits k es
 fit-left k [] fs h = fit-none
-fit-left k (e ∷ es) fs (fit-more l h) = fit-more l (fit-left k es fs h)
+fit-left k (e ∷ es) fs (fit-more l a h) = fit-more l a (fit-left k es fs h)
 
-pub fit-right : (k : ℕ) (es fs : List Entry) → Fit k (es ++ fs) → Fit k fs
+pub fit-right : (k : ℕ) (es fs : List Entry) → Fits k (es ++ fs) → Fits k fs
 fit-right k [] fs h = h
-fit-right k (e ∷ es) fs (fit-more l h) = fit-right k es fs h
+fit-right k (e ∷ es) fs (fit-more l a h) = fit-right k es fs h
 
-pub fit-both : {k : ℕ} {es fs : List Entry} → Fit k es → Fit k fs → Fit k (es ++ fs)
-fit-both fit-none g = g
-fit-both (fit-more l h) g = fit-more l (fit-both h g)
-
-pub fit-inner : (k : ℕ) (m : Mark) (es : List Entry) → Fit k (marked m es) → Fit (k + 1) es
+pub fit-inner : (k : ℕ) (m : Mark) (es : List Entry) → Fits k (marked m es) → Fits (k + 1) es
 unfolding marked
 fit-inner k m [] h = fit-none
-fit-inner k m (e ∷ es) (fit-more l h) = fit-more {e = e} (omega arith) (fit-inner k m es h)
-
-pub fit-outer : {k : ℕ} (m : Mark) {es : List Entry} → Fit (suc k) es → Fit k (marked m es)
-unfolding marked
-fit-outer m fit-none = fit-none
-fit-outer m (fit-more {e = e} l h) = fit-more {e = (m ∷ e .0, e .1)} (omega arith) (fit-outer m h)
-
-pub fit-fewer : {k : ℕ} {es : List Entry} → Fit (suc k) es → Fit k es
-fit-fewer fit-none = fit-none
-fit-fewer (fit-more {e = e} l h) = fit-more {e = e} (omega arith) (fit-fewer h)
+fit-inner k m (e ∷ es) (fit-more l a h) = fit-more {e = e} (omega arith) a (fit-inner k m es h)
 
 -- no mark more fits
-pub fit-full : (k : ℕ) (m : Mark) (es : List Entry) → maxMarks ≤ k → Fit k (marked m es) → marked m es ≡ []
+pub fit-full : (k : ℕ) (m : Mark) (es : List Entry) → maxMarks ≤ k → Fits k (marked m es) → marked m es ≡ []
 unfolding marked
 fit-full k m [] l h = refl
-fit-full k m (e ∷ es) l (fit-more g h) = absurd (omega arith)
+fit-full k m (e ∷ es) l (fit-more g a h) = absurd (omega arith)

@@ -1,111 +1,135 @@
--- What `write_entry` leaves: seven writes, one after another, are the 27 bytes of an entry at the front of the list; and none where
--- there is no room. Rests on Fronts and on Texts.
-use mathlib.Core.Path.{_≡_, refl, sym, ap, _∙_, subst}
+-- What `write_entry` leaves: a path, an action and leaf kinds, one after another, are the bytes of an entry at the front of the list; and
+-- none where there is no room. Rests on Fronts, and on crate formats' records.
+use mathlib.Core.Path.{_≡_, refl, sym, ap, ap₂, _∙_, subst}
 use mathlib.Core.Bool.{Bool, true, false, not, cond}
 use mathlib.Core.Option.{Option, none, some}
-use mathlib.Core.List.{List, [], _∷_, _++_, map, append-assoc, append-nil}
-use Prim.Native.Nat.{ℕ, zero, suc, _-_, _<_, _≤_}
+use mathlib.Core.List.{List, [], _∷_, _++_, map, append-assoc}
+use Prim.Native.Nat.{ℕ, zero, suc, _+_, _-_, _<_, _≤_}
 use native.Mathlib.Omega.{arith}
-use lib.ListN.{length, set, getD, replicate, length-append}
+use lib.IntN.{pos}
+use lib.ListN.{length, take, drop, set, getD, replicate, length-append, length-drop}
+use lib.Seq.{take-at, drop-at, drop-drop}
 use mir.Syntax.{w32}
 use mir.Val.{toZ}
-use Rattle.ranges.proofs.Ranges.{nothing, in-range}
-use Rattle.decimal.specs.Field.{written, actionColumns, putAt}
+use mir.Facts.{toZ-pos}
+use Rattle.decimal.specs.Field.{written, actionColumns, newline, putAt}
 use Rattle.decimal.specs.Path.{Path, maxMarks, pathColumns, writtenPath}
 use Rattle.tophat.specs.Syntax.{maxLeaves, Ty}
-use Rattle.tophat.specs.Handling.{padded}
-use Rattle.tophat.specs.Showing.{Leaf, noLeaf, unitLeaf, truthLeaf, numberLeaf, leafKinds}
-use Rattle.shape.specs.Shape.{leafNumber, asType, kindsIn, kindsOf}
+use Rattle.tophat.specs.Leaves.{padded, Leaf, noLeaf, unitLeaf, truthLeaf, numberLeaf, leafKinds, leafNumber}
+use Rattle.formats.specs.Records.{pathField, Item, itemText, itemsText, putItems, itemsOf, total}
+use Rattle.formats.specs.Touches.{entryBytes, touchText}
+use Rattle.formats.specs.Lists.{noKinds, numbersEntry}
+use Rattle.formats.proofs.Items.{Fits, number-fits, item-written, item-length, path-written, path-length}
+use Rattle.formats.proofs.Records.{AllFit, fit-none, fit-more, widths, items-length, put-items}
+use Rattle.formats.proofs.TouchesRead.{fields}
+use Rattle.shape.specs.Shape.{asType, kindsIn, kindsOf}
 use Rattle.value.proofs.Operators.{differ}
-use Rattle.entries.specs.Entries.{entryBytes, textOf, fieldText, fieldsText, noKinds, numbersText}
 use Rattle.entries.specs.Listing.{Wrote, OneDigit}
-use Rattle.entries.proofs.Fronts.{Front, front-none, front-next, front-byte, front-listed, wrote-none}
-use Rattle.entries.proofs.Texts.{digit-text, path-field}
+use Rattle.entries.proofs.Fronts.{Text, Front, front-none, front-next, front-byte, front-listed, wrote-none}
 
-module _ (p : Path) (few : length p ≤ maxMarks) (action : ℕ) (small : action < 10) (a b c d : ℕ) (ok : OneDigit (a ∷ b ∷ c ∷ d ∷ [])) where
-  bytes : List ℕ
-  bytes = numbersText p action (a ∷ b ∷ c ∷ d ∷ [])
+-- ---- numbers of one digit, in fields of 2 columns
 
-  in-order : [] ++ textOf (writtenPath p) ++ fieldText action ++ fieldText a ++ fieldText b ++ fieldText c ++ fieldText d ++ 10 ∷ [] ≡ numbersText p action (a ∷ b ∷ c ∷ d ∷ [])
-  unfolding fieldsText
-  in-order = simp (append-assoc, append-nil)
+digit-fits : (n : ℕ) → n < 10 → Fits (actionColumns, pos n)
+digit-fits n h = number-fits 2 n (omega arith) (omega arith) (omega arith)
 
-  module _ (list l₁ l₂ l₃ l₄ l₅ l₆ : List ℕ) (h : entryBytes ≤ length list) (e₁ : l₁ ≡ putAt list 0 pathColumns (writtenPath p) .1) (e₂ : l₂ ≡ putAt l₁ 16 actionColumns (written actionColumns (toZ w32 action)) .1)
-      (e₃ : l₃ ≡ putAt l₂ 18 actionColumns (written actionColumns (toZ w32 a)) .1) (e₄ : l₄ ≡ putAt l₃ 20 actionColumns (written actionColumns (toZ w32 b)) .1)
-      (e₅ : l₅ ≡ putAt l₄ 22 actionColumns (written actionColumns (toZ w32 c)) .1) (e₆ : l₆ ≡ putAt l₅ 24 actionColumns (written actionColumns (toZ w32 d)) .1) where
-    front : Front list (numbersText p action (a ∷ b ∷ c ∷ d ∷ [])) entryBytes (set l₆ 26 10)
+-- as code has them, by their bits
+bits-are : (ks : List ℕ) → ((i : ℕ) → getD ks i 0 < 10) → itemsOf actionColumns ks ≡ fields actionColumns (map pos ks)
+bits-are [] h = refl
+bits-are (k ∷ ks) h = ap₂ (λ z is. (actionColumns, z) ∷ is) (toZ-pos w32 {n = k} (let l = h 0 in omega arith)) (bits-are ks (λ i. h (suc i)))
+
+digits-fit : (ks : List ℕ) → ((i : ℕ) → getD ks i 0 < 10) → AllFit (fields actionColumns (map pos ks))
+digits-fit [] h = fit-none
+digits-fit (k ∷ ks) h = fit-more (digit-fits k (h 0)) (digits-fit ks (λ i. h (suc i)))
+
+widths-total : (w : ℕ) (ks : List ℕ) → total (widths (fields w (map pos ks))) ≡ total (replicate (length ks) w)
+widths-total w [] = refl
+widths-total w (k ∷ ks) = ap (λ n. w + n) (widths-total w ks)
+
+-- ---- fields after a front
+
+-- l is `list` with the bytes pre in place of its first `at`: then fields from there on
+items-after : {list pre : List ℕ} {at : ℕ} {l l₁ : List ℕ} (is : List Item) → AllFit is → Front list pre at l → at + total (widths is) ≤ length list → l₁ ≡ putItems l at is
+    → Front list (pre ++ itemsText is) (at + total (widths is)) l₁
+items-after {list} {pre} {at} {l} is f p h e =
+    let n = total (widths is) in
+    let long : at + n ≤ length l = let a = ap length (p .is) in let b = length-append pre (drop at list) in let c = length-drop at list in let d = p .long in omega (arith, a, b, c, d, h) in
+    record {
+      long = length-append pre (itemsText is) ∙ ap₂ _+_ (p .long) (items-length f);
+      is =
+          e ∙ put-items f l at long
+          ∙ ap₂ (λ x y. x ++ (itemsText is ++ y))
+          (ap (take at) (p .is) ∙ take-at pre (drop at list) at (p .long))
+          (sym (drop-drop n at l) ∙ ap (λ l. drop n (drop at l)) (p .is) ∙ ap (drop n) (drop-at pre (drop at list) at (p .long)) ∙ drop-drop n at list)
+          ∙ sym (append-assoc pre (itemsText is) (drop (at + n) list));
+    }
+
+-- ---- an entry
+
+module _ (p : Path) (few : length p ≤ maxMarks) (action : ℕ) (small : action < 10) (ks : List ℕ) (all : length ks ≡ maxLeaves) (ok : OneDigit ks) where
+  digits : (i : ℕ) → getD ks i 0 < 10
+  digits i = ok i
+
+  abbrev kinds : List Item
+  kinds = fields actionColumns (map pos ks)
+
+  kinds-wide : total (widths kinds) ≡ total (replicate maxLeaves actionColumns)
+  kinds-wide = widths-total actionColumns ks ∙ ap (λ n. total (replicate n actionColumns)) all
+
+  in-order : [] ++ pathField p ++ itemText (actionColumns, pos action) ++ itemsText kinds ++ newline ∷ [] ≡ numbersEntry p action ks
+  unfolding itemsText
+  in-order = simp append-assoc
+
+  module _ (list l₁ l₂ l₃ : List ℕ) (h : entryBytes ≤ length list) (e₁ : l₁ ≡ putAt list 0 pathColumns (writtenPath p) .1)
+      (e₂ : l₂ ≡ putAt l₁ pathColumns actionColumns (written actionColumns (toZ w32 action)) .1) (e₃ : l₃ ≡ putItems l₂ (pathColumns + actionColumns) (itemsOf actionColumns ks)) where
+    front : Front list (numbersEntry p action ks) entryBytes (set l₃ (entryBytes - 1) newline)
     front =
-        let f₁ = front-next (front-none list) (path-field p few) (omega arith) e₁ in
-        let f₂ = front-next f₁ (digit-text action small) (omega arith) e₂ in
-        let f₃ = front-next f₂ (digit-text a (ok 0 (omega arith))) (omega arith) e₃ in
-        let f₄ = front-next f₃ (digit-text b (ok 1 (omega arith))) (omega arith) e₄ in
-        let f₅ = front-next f₄ (digit-text c (ok 2 (omega arith))) (omega arith) e₅ in
-        let f₆ = front-next f₅ (digit-text d (ok 3 (omega arith))) (omega arith) e₆ in
-        subst (λ bs. Front list bs entryBytes (set l₆ 26 10)) in-order (front-byte f₆ 10 (omega arith))
+        let path : Text pathColumns (writtenPath p) (pathField p) = record { is = path-written p few; long = path-length p few } in
+        let act : Text actionColumns (written actionColumns (toZ w32 action)) (itemText (actionColumns, pos action)) =
+        record { is = ap (written actionColumns) (toZ-pos w32 {n = action} (omega arith)) ∙ item-written (digit-fits action small); long = item-length (digit-fits action small) } in
+        let f₁ = front-next (front-none list) path (omega arith) e₁ in
+        let f₂ = front-next f₁ act (omega arith) e₂ in
+        let f₃ = items-after kinds (digits-fit ks digits) f₂ (let w = kinds-wide in omega (arith, w, h)) (e₃ ∙ ap (putItems l₂ (pathColumns + actionColumns)) (bits-are ks digits)) in
+        let f₄ = subst (λ n. Front list ([] ++ pathField p ++ itemText (actionColumns, pos action) ++ itemsText kinds) (pathColumns + actionColumns + n) l₃) kinds-wide f₃ in
+        subst (λ bs. Front list bs entryBytes (set l₃ (entryBytes - 1) newline)) in-order (front-byte f₄ newline (omega arith))
 
-    entry-whole : Wrote list (set l₆ 26 10) entryBytes (numbersText p action (a ∷ b ∷ c ∷ d ∷ []))
-    entry-whole = record { room = h; lists = λ g. front-listed front refl; short = λ g. absurd (let e = front .long in omega arith) }
+    pub wrote-entry : Wrote list (set l₃ (entryBytes - 1) newline) entryBytes (numbersEntry p action ks)
+    wrote-entry = record { room = h; lists = λ g. front-listed front refl; short = λ g. absurd (let e = front .long in omega arith) }
 
-  long : length (numbersText p action (a ∷ b ∷ c ∷ d ∷ [])) ≡ entryBytes
-  unfolding fieldsText
+  long : length (numbersEntry p action ks) ≡ entryBytes
+  unfolding itemsText
   long =
-      let x = path-field p few .long in let y = digit-text action small .long in
-      let k₀ = digit-text a (ok 0 (omega arith)) .long in let k₁ = digit-text b (ok 1 (omega arith)) .long in
-      let k₂ = digit-text c (ok 2 (omega arith)) .long in let k₃ = digit-text d (ok 3 (omega arith)) .long in
-      ap length (sym in-order) ∙ simp length-append (omega arith)
+      let a = length-append (touchText p action actionColumns (map pos ks)) (newline ∷ []) in
+      let b = length-append (pathField p) (itemsText ((actionColumns, pos action) ∷ kinds)) in
+      let c = path-length p few in
+      let d = items-length (fit-more (digit-fits action small) (digits-fit ks digits)) in
+      let w = kinds-wide in
+      omega (arith, a, b, c, d, w)
 
-  entry-none : (list : List ℕ) → length list < entryBytes → Wrote list list 0 (numbersText p action (a ∷ b ∷ c ∷ d ∷ []))
-  entry-none list h = record { room = omega arith; lists = λ g. absurd (let e = long in omega arith); short = λ g. (refl, refl) }
-
--- ---- four kinds as a list
-
-four-kinds : (P : List ℕ → Type 0) (ks : List ℕ) → length ks ≡ maxLeaves → P (getD ks 0 0 ∷ getD ks 1 0 ∷ getD ks 2 0 ∷ getD ks 3 0 ∷ []) → P ks
-four-kinds P [] e h = absurd (omega arith)
-four-kinds P (a ∷ []) e h = absurd (omega arith)
-four-kinds P (a ∷ b ∷ []) e h = absurd (omega arith)
-four-kinds P (a ∷ b ∷ c ∷ []) e h = absurd (omega arith)
-four-kinds P (a ∷ b ∷ c ∷ d ∷ []) e h = h
-four-kinds P (a ∷ b ∷ c ∷ d ∷ x ∷ ks) e h = absurd (omega arith)
-
-four-digits : (ks : List ℕ) → OneDigit ks → OneDigit (getD ks 0 0 ∷ getD ks 1 0 ∷ getD ks 2 0 ∷ getD ks 3 0 ∷ [])
-four-digits ks ok i h = in-range (λ i. getD (getD ks 0 0 ∷ getD ks 1 0 ∷ getD ks 2 0 ∷ getD ks 3 0 ∷ []) i 0 < 10) 0 4 {x = i}
-    (ok 0 (omega arith), (ok 1 (omega arith), (ok 2 (omega arith), (ok 3 (omega arith), nothing)))) (omega arith) h
-
-module _ (p : Path) (few : length p ≤ maxMarks) (action : ℕ) (small : action < 10) (ks : List ℕ) (four : length ks ≡ maxLeaves) (ok : OneDigit ks) where
-  pub wrote-entry : (list l₁ l₂ l₃ l₄ l₅ l₆ : List ℕ) → entryBytes ≤ length list → l₁ ≡ putAt list 0 pathColumns (writtenPath p) .1 → l₂ ≡ putAt l₁ 16 actionColumns (written actionColumns (toZ w32 action)) .1
-      → l₃ ≡ putAt l₂ 18 actionColumns (written actionColumns (toZ w32 (getD ks 0 0))) .1 → l₄ ≡ putAt l₃ 20 actionColumns (written actionColumns (toZ w32 (getD ks 1 0))) .1
-      → l₅ ≡ putAt l₄ 22 actionColumns (written actionColumns (toZ w32 (getD ks 2 0))) .1 → l₆ ≡ putAt l₅ 24 actionColumns (written actionColumns (toZ w32 (getD ks 3 0))) .1
-      → Wrote list (set l₆ 26 10) entryBytes (numbersText p action ks)
-  wrote-entry list l₁ l₂ l₃ l₄ l₅ l₆ h e₁ e₂ e₃ e₄ e₅ e₆ =
-      four-kinds (λ ks. Wrote list (set l₆ 26 10) entryBytes (numbersText p action ks)) ks four
-      (entry-whole p few action small (getD ks 0 0) (getD ks 1 0) (getD ks 2 0) (getD ks 3 0) (four-digits ks ok) list l₁ l₂ l₃ l₄ l₅ l₆ h e₁ e₂ e₃ e₄ e₅ e₆)
-
-  pub wrote-nothing : (list : List ℕ) → length list < entryBytes → Wrote list list 0 (numbersText p action ks)
-  wrote-nothing list h = four-kinds (λ ks. Wrote list list 0 (numbersText p action ks)) ks four (entry-none p few action small (getD ks 0 0) (getD ks 1 0) (getD ks 2 0) (getD ks 3 0) (four-digits ks ok) list h)
+  pub wrote-nothing : (list : List ℕ) → length list < entryBytes → Wrote list list 0 (numbersEntry p action ks)
+  wrote-nothing list h = record { room = omega arith; lists = λ g. absurd (let e = long in omega arith); short = λ g. (refl, refl) }
 
 -- ---- buttons
-
--- a button's leaf kinds are 0
-pub no-digits : OneDigit noKinds
-no-digits i h = in-range (λ i. getD noKinds i 0 < 10) 0 4 {x = i} (omega arith, (omega arith, (omega arith, (omega arith, nothing)))) (omega arith) h
-
-pub button-dark : (list : List ℕ) (x : Bool) (bytes : List ℕ) → not x ≡ true → Wrote list list 0 (cond x bytes [])
-button-dark list true bytes e = differ (sym e)
-button-dark list false bytes e = wrote-none list
-
-pub button-lit : (list l₁ : List ℕ) (n : ℕ) (x : Bool) (bytes : List ℕ) → not x ≡ false → Wrote list l₁ n bytes → Wrote list l₁ n (cond x bytes [])
-button-lit list l₁ n true bytes e w = w
-button-lit list l₁ n false bytes e w = differ e
-
--- ---- leaf kinds are numbers of one digit
 
 pad-digit : (n i : ℕ) → getD (replicate n 0) i 0 < 10
 pad-digit zero i = omega arith
 pad-digit (suc n) zero = omega arith
 pad-digit (suc n) (suc i) = pad-digit n i
 
+-- a button's leaf kinds are 0
+pub no-digits : OneDigit noKinds
+no-digits i = pad-digit maxLeaves i
+
+pub button-disabled : (list : List ℕ) (x : Bool) (bytes : List ℕ) → not x ≡ true → Wrote list list 0 (cond x bytes [])
+button-disabled list true bytes e = differ (sym e)
+button-disabled list false bytes e = wrote-none list
+
+pub button-enabled : (list l₁ : List ℕ) (n : ℕ) (x : Bool) (bytes : List ℕ) → not x ≡ false → Wrote list l₁ n bytes → Wrote list l₁ n (cond x bytes [])
+button-enabled list l₁ n true bytes e w = w
+button-enabled list l₁ n false bytes e w = differ e
+
+-- ---- leaf kinds are numbers of one digit
+
 leaf-digit : (k : Leaf) → leafNumber k < 10
-unfolding leafNumber
 leaf-digit noLeaf = omega arith
 leaf-digit unitLeaf = omega arith
 leaf-digit truthLeaf = omega arith
@@ -118,7 +142,7 @@ leaves-digit (k ∷ ks) n (suc i) = leaves-digit ks n i
 
 pub kinds-digit : (ks : List ℕ) (c : ℕ) → ks ≡ kindsOf c → OneDigit ks
 unfolding kindsOf kindsIn padded
-kinds-digit ks c e i h = subst (λ ks. getD ks i 0 < 10) (sym e) (by (asType c))
+kinds-digit ks c e i = subst (λ ks. getD ks i 0 < 10) (sym e) (by (asType c))
   where
     by : (o : Option Ty) → getD (kindsIn o) i 0 < 10
     by none = pad-digit maxLeaves i

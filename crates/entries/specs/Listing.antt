@@ -1,22 +1,21 @@
 -- What the functions of this crate ensure: the bytes of a task's entries stand at the front of the list that was lent, and bytes
--- after them are as they were. Rests on Entries, and on crate state's contracts.
+-- after them are as they were. Rests on crate formats' lists, and on crate state's contracts.
 use mathlib.Core.Path.{_≡_}
 use mathlib.Core.Bool.{Bool}
-use mathlib.Core.List.{List, [], _∷_, _++_}
-use Prim.Native.Nat.{ℕ, _+_, _^_, _<_, _≤_}
+use mathlib.Core.List.{List, _∷_, _++_}
+use Prim.Native.Nat.{ℕ, _^_, _<_, _≤_}
 use lib.ListN.{length, drop, getD}
 use Rattle.decimal.specs.Path.{Path, maxMarks, pathOf}
 use Rattle.tophat.specs.Syntax.{maxLeaves, Ty, leaves, Code, next, TaskOf, before, Env, Store}
 use Rattle.tophat.specs.Typing.{CodeType, TaskType}
 use Rattle.tophat.specs.Normalising.{value}
 use Rattle.tophat.specs.Handling.{continue}
-use Rattle.tophat.specs.Showing.{Entry, offers, lit}
-use Rattle.tophat.proofs.ComputeEvaluation.{evaluate}
-use Rattle.tophat.proofs.ComputeNormalising.{failing}
-use Rattle.tophat.proofs.ComputeEntries.{litContinue, entries}
+use Rattle.tophat.specs.Showing.{offers, buttonIf}
+use Rattle.tophat.proofs.ComputeNormalising.{rightFails}
+use Rattle.tophat.proofs.ComputeEntries.{continueIf, entries}
 use Rattle.shape.specs.Shape.{asShape}
 use Rattle.state.specs.Holds.{Sits, Holds, World}
-use Rattle.entries.specs.Entries.{listText, under}
+use Rattle.formats.specs.Lists.{listText, under, Fits}
 
 -- ---- bytes at the front of a list
 
@@ -42,14 +41,9 @@ pub record AtPath (path unit : ℕ) : Type 0 where
   pub unit-is : unit ≡ 2 ^ length (pathOf path)
   pub few : length (pathOf path) ≤ maxMarks
 
--- under a path of k marks no path is too long
-pub data Fit (k : ℕ) : List Entry → Type 0 where
-  fit-none : Fit k []
-  fit-more : {e : Entry} {es : List Entry} → k + length (e .0) ≤ maxMarks → Fit k es → Fit k (e ∷ es)
-
 -- numbers of one digit
 abbrev pub OneDigit : List ℕ → Type 0
-OneDigit ks = (i : ℕ) → i < maxLeaves → getD ks i 0 < 10
+OneDigit ks = (i : ℕ) → getD ks i 0 < 10
 
 -- ---- tasks
 
@@ -63,11 +57,11 @@ module _ (rs ws : List ℕ) (i : ℕ) where
     -- r tells whether the step at the row shows Continue
     abbrev pub GoesOnOk : Bool → Type 0
     GoesOnOk r = (a b : Code) → Sits rs d i (next a b) → (Σ Γ : List Ty) (τ υ : Ty) (s : Store) (ρ : Env) (t : TaskOf a) → TaskType Σ Γ a t τ → CodeType Σ (τ ∷ Γ) b υ → World rs ws env d Σ Γ s ρ
-        → Holds rs ws i (next a b) (before t) → lit r continue ≡ litContinue (value a t s) (λ v. failing b (v ∷ ρ) (evaluate b (v ∷ ρ) s .1) (evaluate b (v ∷ ρ) s .0))
+        → Holds rs ws i (next a b) (before t) → buttonIf r continue ≡ continueIf (value a t s) (λ v. rightFails b (v ∷ ρ) s)
 
     module _ (p : Path) (list list₁ : List ℕ) (n : ℕ) where
       abbrev pub EntriesAt : Code → Type 0
-      EntriesAt c = (Σ Γ : List Ty) (τ : Ty) (s : Store) (ρ : Env) (t : TaskOf c) → TaskType Σ Γ c t τ → World rs ws env d Σ Γ s ρ → Holds rs ws i c t → Fit (length p) (entries c ρ s t)
+      EntriesAt c = (Σ Γ : List Ty) (τ : Ty) (s : Store) (ρ : Env) (t : TaskOf c) → TaskType Σ Γ c t τ → World rs ws env d Σ Γ s ρ → Holds rs ws i c t → Fits (length p) (entries c ρ s t)
           → Lists list list₁ n (listText (under p (entries c ρ s t)))
 
       -- the entries of the task at the row, with p in front

@@ -1,59 +1,50 @@
 // The entries that a task shows, written as bytes one after another into the list that is lent (01, "Touches and what is shown").
-// Rests on crate decimal for fields, on crate cycle for what a button would do, and on crate tasks for rows that hand on.
-use cycle::attempt;
-use cycle::tried;
+// Rests on crate decimal for fields, on crate normalising for what a button would do, and on crate running for rows that hand on.
 use decimal::field;
 use decimal::field::ACTION_COLUMNS;
 use decimal::field::NEWLINE;
 use decimal::path;
 use decimal::path::PATH_COLUMNS;
+use formats::ACTION_AT;
+use formats::ENTRY_BYTES;
+use formats::LEAVES_AT;
+use formats::write_numbers;
+use normalising::attempt;
+use normalising::tried;
 use rows::MAX_ROWS;
 use rows::ROWS_WORDS;
+use rows::get;
+use rows::operand;
+use running::enclose;
+use running::handed_on;
+use running::value;
 use shape::leaf_kinds;
 use state::ENV_WORDS;
 use state::STATE_SIZE;
-use state::get;
-use state::operand;
 use state::read;
-use tasks::enclose;
-use tasks::handed_on;
-use tasks::value;
 use tophat::CONTINUE;
 use tophat::GIVE;
 use tophat::LEFT;
 use tophat::MAX_LEAVES;
 use tophat::RIGHT;
 use typing::row_type;
-ghost use mathlib.Core.Path.{_≡_};
 ghost use mathlib.Core.Bool.{cond};
 ghost use mathlib.Core.List.{List, []};
 ghost use Prim.Native.Nat.{ℕ, _<_, _≤_};
 ghost use lib.ListN.{length};
 ghost use Rattle.decimal.specs.Path.{maxMarks, pathOf};
-ghost use Rattle.rows.specs.Rows.{word};
+ghost use Rattle.rows.specs.Kinds.{eitherK, ifK, taskK, editK, updateK, xorK};
+ghost use Rattle.rows.specs.Rows.{OfKind, FromKind, UpToKind};
 ghost use Rattle.state.specs.Contracts.{Fine};
-ghost use Rattle.tasks.proofs.Forms.{Unhanded};
-ghost use Rattle.entries.specs.Entries.{noKinds, numbersText};
+ghost use Rattle.running.specs.Hands.{Unhanded};
+ghost use Rattle.formats.specs.Lists.{noKinds, numbersEntry};
 ghost use Rattle.entries.specs.Listing.{Wrote, AtPath, OneDigit, ContentOk, GoesOnOk, EntriesOk};
-
-// 01: "A list entry is 27 bytes"
-pub const ENTRY_BYTES: usize = END_AT + 1;
 
 // How many bytes of entries a task shows at most.
 pub const LIST_BYTES: usize = MAX_ROWS * ENTRY_BYTES;
 
-// Where an entry's fields stand: its action, its four leaf kinds, and byte 10.
-const ACTION_AT: usize = PATH_COLUMNS;
-
-const KIND_1: usize = ACTION_AT + ACTION_COLUMNS;
-
-const KIND_2: usize = KIND_1 + ACTION_COLUMNS;
-
-const KIND_3: usize = KIND_2 + ACTION_COLUMNS;
-
-const KIND_4: usize = KIND_3 + ACTION_COLUMNS;
-
-const END_AT: usize = KIND_4 + ACTION_COLUMNS;
+// Where byte 10 of an entry stands.
+const LAST: usize = ENTRY_BYTES - 1;
 
 // What one mark more would add to a path of 16 marks.
 const MOST_UNIT: u32 = 65536;
@@ -61,27 +52,24 @@ const MOST_UNIT: u32 = 65536;
 // An entry at the front of the list, where there is room for it; how many bytes were written.
 fn write_entry(list: &mut [u8], marks: u32, action: u32, kinds: [u32; MAX_LEAVES]) -> usize
     requires { ⌜ (length (pathOf marks) ≤ maxMarks) × (action < 10) × OneDigit kinds ⌝ }
-    ensures { λ r. ⌜ Wrote (now (list .entry)) (now (list .exit)) r (numbersText (pathOf marks) action kinds) ⌝ }
+    ensures { λ r. ⌜ Wrote (now (list .entry)) (now (list .exit)) r (numbersEntry (pathOf marks) action kinds) ⌝ }
 {
     if list.len() < ENTRY_BYTES {
         return 0;
     }
     path::write(list, 0, marks);
     field::write(list, ACTION_AT, ACTION_COLUMNS, action);
-    field::write(list, KIND_1, ACTION_COLUMNS, kinds[0]);
-    field::write(list, KIND_2, ACTION_COLUMNS, kinds[1]);
-    field::write(list, KIND_3, ACTION_COLUMNS, kinds[2]);
-    field::write(list, KIND_4, ACTION_COLUMNS, kinds[3]);
-    list[END_AT] = NEWLINE;
+    write_numbers(list, LEAVES_AT, ACTION_COLUMNS, kinds);
+    list[LAST] = NEWLINE;
     ENTRY_BYTES
 }
 
-// The entry of a button, where it is lit.
-fn button(list: &mut [u8], marks: u32, action: u32, lit: bool) -> usize
+// The entry of a button, where it can be pressed.
+fn button(list: &mut [u8], marks: u32, action: u32, enabled: bool) -> usize
     requires { ⌜ (length (pathOf marks) ≤ maxMarks) × (action < 10) ⌝ }
-    ensures { λ r. ⌜ Wrote (now (list .entry)) (now (list .exit)) r (cond lit (numbersText (pathOf marks) action noKinds) []) ⌝ }
+    ensures { λ r. ⌜ Wrote (now (list .entry)) (now (list .exit)) r (cond enabled (numbersEntry (pathOf marks) action noKinds) []) ⌝ }
 {
-    if !lit {
+    if !enabled {
         return 0;
     }
     let none = [0u32; MAX_LEAVES];
@@ -90,7 +78,7 @@ fn button(list: &mut [u8], marks: u32, action: u32, lit: bool) -> usize
 
 // The shape of what the editor at the row offers: of its content, of its type row, or of its cell's content.
 fn content(rows: &[u32; ROWS_WORDS], state: &[u32; STATE_SIZE], row: usize) -> u32
-    requires { ⌜ Fine (now rows) row 0 × (40 ≤ word (now rows) row 0) × (word (now rows) row 0 ≤ 42) ⌝ }
+    requires { ⌜ Fine (now rows) row 0 × FromKind (now rows) row (taskK editK) × UpToKind (now rows) row (taskK updateK) ⌝ }
     ensures { λ r. ⌜ ContentOk (now (rows .entry)) (now (state .entry)) row r ⌝ }
 {
     let kind = get(rows, row, 0);
@@ -113,7 +101,7 @@ fn offer(
     marks: u32,
     list: &mut [u8],
 ) -> usize
-    requires { ⌜ Fine (now rows) row 0 × (40 ≤ word (now rows) row 0) × (word (now rows) row 0 ≤ 42) × (length (pathOf marks) ≤ maxMarks) ⌝ }
+    requires { ⌜ Fine (now rows) row 0 × FromKind (now rows) row (taskK editK) × UpToKind (now rows) row (taskK updateK) × (length (pathOf marks) ≤ maxMarks) ⌝ }
     ensures { λ r. ⌜ (r ≤ length (now (list .entry))) × ((env : List ℕ) (d : ℕ) → EntriesOk (now (rows .entry)) (now (state .entry)) row env d (pathOf marks) (now (list .entry)) (now (list .exit)) r) ⌝ }
 {
     let shape = content(rows, state, row);
@@ -128,7 +116,7 @@ fn goes_on(
     env: &[u32; ENV_WORDS],
     depth: usize,
 ) -> bool
-    requires { ⌜ Fine (now rows) row depth × (25 ≤ word (now rows) row 0) ⌝ }
+    requires { ⌜ Fine (now rows) row depth × FromKind (now rows) row (eitherK ifK) ⌝ }
     ensures { λ r. ⌜ GoesOnOk (now (rows .entry)) (now (state .entry)) row (now (env .entry)) depth r ⌝ }
 {
     let found = value(rows, state, operand(rows, row, 1));
@@ -149,7 +137,7 @@ fn choice(
     marks: u32,
     list: &mut [u8],
 ) -> usize
-    requires { ⌜ Fine (now rows) row depth × (word (now rows) row 0 ≡ 48) × Unhanded (now rows) (now state) row × (length (pathOf marks) ≤ maxMarks) ⌝ }
+    requires { ⌜ Fine (now rows) row depth × OfKind (now rows) row (taskK xorK) × Unhanded (now rows) (now state) row × (length (pathOf marks) ≤ maxMarks) ⌝ }
     ensures { λ r. ⌜ (r ≤ length (now (list .entry))) × EntriesOk (now (rows .entry)) (now (state .entry)) row (now (env .entry)) depth (pathOf marks) (now (list .entry)) (now (list .exit)) r ⌝ }
 {
     let left = tried(rows, state, operand(rows, row, 1), env, depth);
@@ -188,8 +176,8 @@ pub fn entries(
         43 => entries(rows, state, a, env, depth, marks, unit, list),
         44 => {
             let n = entries(rows, state, a, env, depth, marks, unit, list);
-            let lit = goes_on(rows, state, row, env, depth);
-            n + button(&mut list[n..], marks, CONTINUE, lit)
+            let enabled = goes_on(rows, state, row, env, depth);
+            n + button(&mut list[n..], marks, CONTINUE, enabled)
         }
         46..=47 => {
             if unit == MOST_UNIT {

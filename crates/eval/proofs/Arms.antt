@@ -13,17 +13,17 @@ use mir.Syntax.{w32}
 use mir.Val.{toZ}
 use Rattle.tophat.specs.Syntax.{maxLeaves, Ty, pair, leaves, Op, Exp, ebinder, eop, eif, epair, efst, esnd, ederef, eassign, elet}
 use Rattle.tophat.specs.Syntax.{Val, vunit, vtruth, vnumber, vpair, Env, Store}
-use Rattle.tophat.specs.Typing.{At, here, there, HasType, t-var, t-op, t-if, t-pair, t-fst, t-snd, t-deref, t-assign, t-let, ValueType, v-pair, ValueTypes, v-cons}
+use Rattle.tophat.specs.Typing.{At, here, there, HasType, t-var, t-op, t-if, t-pair, t-fst, t-snd, t-deref, t-assign, t-let, ValueType, v-pair, ValueTypes, v-cons, typeOf}
 use Rattle.tophat.proofs.ComputeEvaluation.{isTrue, apply, firstPart, secondPart, branch, eval}
-use Rattle.tophat.proofs.ComputeHandling.{typeOf}
 use Rattle.tophat.proofs.EvaluationAgrees.{look-up, eval-good}
 use Rattle.tophat.proofs.Leaves.{type-of}
 use Rattle.tophat.proofs.TypeLeaves.{at-leaves, type-leaves}
-use Rattle.rows.specs.Rows.{word, opA, opB, opC}
+use Rattle.rows.specs.Kinds.{plainK, eunitK, etruthK, enumberK, ebinderK, eopK, epairK, efstK, esndK, ederefK, eassignK, eitherK, ifK, letK, numberOf}
+use Rattle.rows.specs.Rows.{word, opA, opB, opC, OfKind, FromKind, UpToKind}
 use Rattle.rows.specs.Enclosing.{maxBinders}
 use Rattle.rows.specs.Trees.{operatorOf}
 use Rattle.value.specs.declared.Value.{Value}
-use Rattle.value.specs.Values.{asValue, leafNumber, pairOf, firstOf, secondOf}
+use Rattle.value.specs.Values.{asValue, firstNumber, pairValue, firstValue, secondValue}
 use Rattle.value.proofs.Operators.{differ}
 use Rattle.value.proofs.Meaning.{leaf-word, true-value, apply-value, pair-value, first-value, second-value}
 use Rattle.state.specs.Layout.{own}
@@ -32,26 +32,27 @@ use Rattle.state.specs.Words.{wordsOf, Laid, valueAt, binderAt, Pushed}
 use Rattle.state.specs.Contracts.{Fine, Evaluated, EvalAt, EvalOk}
 use Rattle.state.proofs.Calls.{low-a, low-b, low-c, fine-at}
 use Rattle.state.proofs.Frames.{same-refl, same-trans, laid-same, stores-set, world-after, world-push}
-use Rattle.state.proofs.Words.{value-at, laid-as, binder-at}
-use Rattle.state.proofs.Sites.{on-eunit, on-etruth, on-enumber, on-ebinder, on-eop, on-eif, on-epair, on-efst, on-esnd, on-ederef, on-eassign, on-elet, on-no-exp}
+use Rattle.state.proofs.Words.{value-at, laid-as}
+use Rattle.state.proofs.Binders.{binder-at}
+use Rattle.state.proofs.Sites.{on-exp, on-no-exp}
 
 -- ---- what a call at an operand asks: a lower row, so that the measure falls, and `Fine` of it
 
 module _ {rs : List ℕ} {i d t : ℕ} (f : (i ≡ t) × Fine rs i d) (k a : ℕ) (e : k ≡ word rs i 0) where
-  abbrev pub Asks : Type 0
-  Asks = (a < t) × Fine rs a d
+  abbrev pub Call : Type 0
+  Call = (a < t) × Fine rs a d
 
-  asks : a < i → Asks
-  asks h = (omega (arith, f .0), fine-at (f .1) a d (omega arith) (f .1 .room))
+  call : a < i → Call
+  call h = (omega (arith, f .0), fine-at (f .1) a d (omega arith) (f .1 .room))
 
-  pub call-a : a ≡ word rs i 1 → 25 ≤ k → Asks
-  call-a z h = asks (low-a (f .1) k a e z h)
+  pub call-a : a ≡ word rs i 1 → numberOf (eitherK ifK) ≤ k → Call
+  call-a z h = call (low-a (f .1) k a e z h)
 
-  pub call-b : a ≡ word rs i 2 → 24 ≤ k → Asks
-  call-b z h = asks (low-b (f .1) k a e z h)
+  pub call-b : a ≡ word rs i 2 → numberOf (plainK eopK) ≤ k → Call
+  call-b z h = call (low-b (f .1) k a e z h)
 
-  pub call-c : a ≡ word rs i 3 → 24 ≤ k → Asks
-  call-c z h = asks (low-c (f .1) k a e z h)
+  pub call-c : a ≡ word rs i 3 → numberOf (plainK eopK) ≤ k → Call
+  call-c z h = call (low-c (f .1) k a e z h)
 
 -- ---- what a typed expression leaves to the next: a value of its type, and a world
 
@@ -88,21 +89,21 @@ module _ (rs : List ℕ) (i : ℕ) (env : List ℕ) (d : ℕ) where
 
   -- ---- constants and binders
 
-  pub eval-unit : (r : Value) → word rs i 0 ≡ 20 → r ≡ asValue vunit → (ws : List ℕ) → EvalOk rs ws ws i env d r
+  pub eval-unit : (r : Value) → OfKind rs i (plainK eunitK) → r ≡ asValue vunit → (ws : List ℕ) → EvalOk rs ws ws i env d r
   unfolding eval
-  eval-unit r q e ws = on-eunit rs d i (EvalAt rs ws ws i env d r) q (λ p Σ Γ τ s ρ t w. record { answer = e; stores = w .stores; same = same-refl })
+  eval-unit r q e ws = on-exp rs d i (plainK eunitK) (EvalAt rs ws ws i env d r) q (λ p Σ Γ τ s ρ t w. record { answer = e; stores = w .stores; same = same-refl })
 
-  pub eval-truth : (r : Value) (a : ℕ) → word rs i 0 ≡ 21 → a ≡ opA rs i → r ≡ asValue (vtruth (eqb a 1)) → (ws : List ℕ) → EvalOk rs ws ws i env d r
+  pub eval-truth : (r : Value) (a : ℕ) → OfKind rs i (plainK etruthK) → a ≡ opA rs i → r ≡ asValue (vtruth (eqb a 1)) → (ws : List ℕ) → EvalOk rs ws ws i env d r
   unfolding eval
-  eval-truth r a q z e ws = on-etruth rs d i (EvalAt rs ws ws i env d r) q (λ b p Σ Γ τ s ρ t w. record {
+  eval-truth r a q z e ws = on-exp rs d i (plainK etruthK) (EvalAt rs ws ws i env d r) q (λ b p Σ Γ τ s ρ t w. record {
     answer = e ∙ ap (λ b. asValue (vtruth b)) (ap (λ a. eqb a 1) z ∙ p .1);
     stores = w .stores;
     same = same-refl;
   })
 
-  pub eval-number : (r : Value) (a : ℕ) → word rs i 0 ≡ 22 → a ≡ opA rs i → r ≡ asValue (vnumber (toZ w32 a)) → (ws : List ℕ) → EvalOk rs ws ws i env d r
+  pub eval-number : (r : Value) (a : ℕ) → OfKind rs i (plainK enumberK) → a ≡ opA rs i → r ≡ asValue (vnumber (toZ w32 a)) → (ws : List ℕ) → EvalOk rs ws ws i env d r
   unfolding eval
-  eval-number r a q z e ws = on-enumber rs d i (EvalAt rs ws ws i env d r) q (λ n p Σ Γ τ s ρ t w. record {
+  eval-number r a q z e ws = on-exp rs d i (plainK enumberK) (EvalAt rs ws ws i env d r) q (λ n p Σ Γ τ s ρ t w. record {
     answer = e ∙ ap (λ n. asValue (vnumber n)) (ap (toZ w32) z ∙ p .1);
     stores = w .stores;
     same = same-refl;
@@ -116,13 +117,13 @@ module _ (rs : List ℕ) (i : ℕ) (env : List ℕ) (d : ℕ) where
     same = same-refl;
   }
 
-  pub eval-binder : (r : Value) (a : ℕ) → word rs i 0 ≡ 23 → a ≡ opA rs i → r ≡ binderAt env d a → (ws : List ℕ) → EvalOk rs ws ws i env d r
-  eval-binder r a q z e ws = on-ebinder rs d i (EvalAt rs ws ws i env d r) q (λ k p. binder-value r ws k (e ∙ ap (binderAt env d) (z ∙ p .1)))
+  pub eval-binder : (r : Value) (a : ℕ) → OfKind rs i (plainK ebinderK) → a ≡ opA rs i → r ≡ binderAt env d a → (ws : List ℕ) → EvalOk rs ws ws i env d r
+  eval-binder r a q z e ws = on-exp rs d i (plainK ebinderK) (EvalAt rs ws ws i env d r) q (λ k p. binder-value r ws k (e ∙ ap (binderAt env d) (z ∙ p .1)))
 
   -- ---- one operand or two, left to right
 
   module _ (ws ws₁ ws₂ : List ℕ) (x y r : Value) where
-    op-value : (o : Op) (a b : Exp) → EvalAt rs ws ws₁ i env d x a → EvalAt rs ws₁ ws₂ i env d y b → r ≡ asValue (apply o (leafNumber x) (leafNumber y)) → EvalAt rs ws ws₂ i env d r (eop o a b)
+    op-value : (o : Op) (a b : Exp) → EvalAt rs ws ws₁ i env d x a → EvalAt rs ws₁ ws₂ i env d y b → r ≡ asValue (apply o (firstNumber x) (firstNumber y)) → EvalAt rs ws ws₂ i env d r (eop o a b)
     unfolding eval
     op-value o a b ha hb e Σ Γ τ s ρ (t-op h ta tb) w =
         let p = ha Σ Γ _ s ρ ta w in
@@ -130,17 +131,17 @@ module _ (rs : List ℕ) (i : ℕ) (env : List ℕ) (d : ℕ) where
         let p₁ = hb Σ Γ _ _ ρ tb (q .world) in
         let q₁ = after b tb (q .world) p₁ in
         record {
-          answer = e ∙ ap₂ (λ x y. asValue (apply o (leafNumber x) (leafNumber y))) (p .answer) (p₁ .answer) ∙ ap asValue (apply-value o _ _ (leaf-word (q .typed)) (leaf-word (q₁ .typed)));
+          answer = e ∙ ap₂ (λ x y. asValue (apply o (firstNumber x) (firstNumber y))) (p .answer) (p₁ .answer) ∙ ap asValue (apply-value o _ _ (leaf-word (q .typed)) (leaf-word (q₁ .typed)));
           stores = p₁ .stores;
           same = same-trans (p .same) (p₁ .same);
         }
 
-    pub eval-op : (b c o : ℕ) → word rs i 0 ≡ 24 → b ≡ opB rs i → c ≡ opC rs i → o ≡ opA rs i → EvalOk rs ws ws₁ b env d x → EvalOk rs ws₁ ws₂ c env d y
-        → r ≡ asValue (apply (operatorOf o) (leafNumber x) (leafNumber y)) → EvalOk rs ws ws₂ i env d r
-    eval-op b c o q eb ec eo hb hc e = on-eop rs d i (EvalAt rs ws ws₂ i env d r) q (λ o₁ a₁ b₁ p.
-        op-value o₁ a₁ b₁ (at-row eb hb a₁ (p .2)) (at-row ec hc b₁ (p .3)) (e ∙ ap (λ o. asValue (apply o (leafNumber x) (leafNumber y))) (ap operatorOf eo ∙ p .1)))
+    pub eval-op : (b c o : ℕ) → OfKind rs i (plainK eopK) → b ≡ opB rs i → c ≡ opC rs i → o ≡ opA rs i → EvalOk rs ws ws₁ b env d x → EvalOk rs ws₁ ws₂ c env d y
+        → r ≡ asValue (apply (operatorOf o) (firstNumber x) (firstNumber y)) → EvalOk rs ws ws₂ i env d r
+    eval-op b c o q eb ec eo hb hc e = on-exp rs d i (plainK eopK) (EvalAt rs ws ws₂ i env d r) q (λ o₁ a₁ b₁ p.
+        op-value o₁ a₁ b₁ (at-row eb hb a₁ (p .2)) (at-row ec hc b₁ (p .3)) (e ∙ ap (λ o. asValue (apply o (firstNumber x) (firstNumber y))) (ap operatorOf eo ∙ p .1)))
 
-    pair-at : (a b : Exp) → EvalAt rs ws ws₁ i env d x a → EvalAt rs ws₁ ws₂ i env d y b → r ≡ pairOf x y → EvalAt rs ws ws₂ i env d r (epair a b)
+    pair-at : (a b : Exp) → EvalAt rs ws ws₁ i env d x a → EvalAt rs ws₁ ws₂ i env d y b → r ≡ pairValue x y → EvalAt rs ws ws₂ i env d r (epair a b)
     unfolding eval leaves
     pair-at a b ha hb e Σ Γ τ s ρ (t-pair {τ = τ₁} {υ = υ₁} ta tb l) w =
         let p = ha Σ Γ _ s ρ ta w in
@@ -148,72 +149,72 @@ module _ (rs : List ℕ) (i : ℕ) (env : List ℕ) (d : ℕ) where
         let p₁ = hb Σ Γ _ _ ρ tb (q .world) in
         let q₁ = after b tb (q .world) p₁ in
         record {
-          answer = e ∙ ap₂ pairOf (p .answer) (p₁ .answer) ∙ pair-value _ _ (small-parts (q .typed) (q₁ .typed) l);
+          answer = e ∙ ap₂ pairValue (p .answer) (p₁ .answer) ∙ pair-value _ _ (small-parts (q .typed) (q₁ .typed) l);
           stores = p₁ .stores;
           same = same-trans (p .same) (p₁ .same);
         }
 
-    pub eval-pair : (a b : ℕ) → word rs i 0 ≡ 26 → a ≡ opA rs i → b ≡ opB rs i → EvalOk rs ws ws₁ a env d x → EvalOk rs ws₁ ws₂ b env d y → r ≡ pairOf x y → EvalOk rs ws ws₂ i env d r
-    eval-pair a b q ea eb ha hb e = on-epair rs d i (EvalAt rs ws ws₂ i env d r) q (λ a₁ b₁ p. pair-at a₁ b₁ (at-row ea ha a₁ (p .1)) (at-row eb hb b₁ (p .2)) e)
+    pub eval-pair : (a b : ℕ) → OfKind rs i (plainK epairK) → a ≡ opA rs i → b ≡ opB rs i → EvalOk rs ws ws₁ a env d x → EvalOk rs ws₁ ws₂ b env d y → r ≡ pairValue x y → EvalOk rs ws ws₂ i env d r
+    eval-pair a b q ea eb ha hb e = on-exp rs d i (plainK epairK) (EvalAt rs ws ws₂ i env d r) q (λ a₁ b₁ p. pair-at a₁ b₁ (at-row ea ha a₁ (p .1)) (at-row eb hb b₁ (p .2)) e)
 
   module _ (ws ws₁ : List ℕ) (x r : Value) where
-    first-of-pair : (v : Val) {τ υ : Ty} → ValueType v (pair τ υ) → leaves (pair τ υ) ≤ maxLeaves → x ≡ asValue v → r ≡ firstOf x → r ≡ asValue (firstPart v)
+    first-of-pair : (v : Val) {τ υ : Ty} → ValueType v (pair τ υ) → leaves (pair τ υ) ≤ maxLeaves → x ≡ asValue v → r ≡ firstValue x → r ≡ asValue (firstPart v)
     unfolding firstPart leaves
     first-of-pair (vpair v w) (v-pair g h) l e f =
-        f ∙ ap firstOf e ∙ first-value v w (small-parts g h l)
+        f ∙ ap firstValue e ∙ first-value v w (small-parts g h l)
 
-    second-of-pair : (v : Val) {τ υ : Ty} → ValueType v (pair τ υ) → leaves (pair τ υ) ≤ maxLeaves → x ≡ asValue v → r ≡ secondOf x → r ≡ asValue (secondPart v)
+    second-of-pair : (v : Val) {τ υ : Ty} → ValueType v (pair τ υ) → leaves (pair τ υ) ≤ maxLeaves → x ≡ asValue v → r ≡ secondValue x → r ≡ asValue (secondPart v)
     unfolding secondPart leaves
     second-of-pair (vpair v w) (v-pair g h) l e f =
-        f ∙ ap secondOf e ∙ second-value v w (small-parts g h l)
+        f ∙ ap secondValue e ∙ second-value v w (small-parts g h l)
 
-    first-at : (a : Exp) → EvalAt rs ws ws₁ i env d x a → r ≡ firstOf x → EvalAt rs ws ws₁ i env d r (efst a)
+    first-at : (a : Exp) → EvalAt rs ws ws₁ i env d x a → r ≡ firstValue x → EvalAt rs ws ws₁ i env d r (efst a)
     unfolding eval
     first-at a ha e Σ Γ τ s ρ (t-fst ta) w =
         let p = ha Σ Γ _ s ρ ta w in
         let q = after a ta w p in
         record { answer = first-of-pair _ (q .typed) (q .small) (p .answer) e; stores = p .stores; same = p .same }
 
-    second-at : (a : Exp) → EvalAt rs ws ws₁ i env d x a → r ≡ secondOf x → EvalAt rs ws ws₁ i env d r (esnd a)
+    second-at : (a : Exp) → EvalAt rs ws ws₁ i env d x a → r ≡ secondValue x → EvalAt rs ws ws₁ i env d r (esnd a)
     unfolding eval
     second-at a ha e Σ Γ τ s ρ (t-snd ta) w =
         let p = ha Σ Γ _ s ρ ta w in
         let q = after a ta w p in
         record { answer = second-of-pair _ (q .typed) (q .small) (p .answer) e; stores = p .stores; same = p .same }
 
-    pub eval-first : (a : ℕ) → word rs i 0 ≡ 27 → a ≡ opA rs i → EvalOk rs ws ws₁ a env d x → r ≡ firstOf x → EvalOk rs ws ws₁ i env d r
-    eval-first a q ea ha e = on-efst rs d i (EvalAt rs ws ws₁ i env d r) q (λ a₁ p. first-at a₁ (at-row ea ha a₁ (p .1)) e)
+    pub eval-first : (a : ℕ) → OfKind rs i (plainK efstK) → a ≡ opA rs i → EvalOk rs ws ws₁ a env d x → r ≡ firstValue x → EvalOk rs ws ws₁ i env d r
+    eval-first a q ea ha e = on-exp rs d i (plainK efstK) (EvalAt rs ws ws₁ i env d r) q (λ a₁ p. first-at a₁ (at-row ea ha a₁ (p .1)) e)
 
-    pub eval-second : (a : ℕ) → word rs i 0 ≡ 28 → a ≡ opA rs i → EvalOk rs ws ws₁ a env d x → r ≡ secondOf x → EvalOk rs ws ws₁ i env d r
-    eval-second a q ea ha e = on-esnd rs d i (EvalAt rs ws ws₁ i env d r) q (λ a₁ p. second-at a₁ (at-row ea ha a₁ (p .1)) e)
+    pub eval-second : (a : ℕ) → OfKind rs i (plainK esndK) → a ≡ opA rs i → EvalOk rs ws ws₁ a env d x → r ≡ secondValue x → EvalOk rs ws ws₁ i env d r
+    eval-second a q ea ha e = on-exp rs d i (plainK esndK) (EvalAt rs ws ws₁ i env d r) q (λ a₁ p. second-at a₁ (at-row ea ha a₁ (p .1)) e)
 
     -- kinds 27 and 28
-    pub eval-part : (a k : ℕ) → k ≡ word rs i 0 → 27 ≤ k → k < 29 → a ≡ opA rs i → EvalOk rs ws ws₁ a env d x → (k ≡ 27 → r ≡ firstOf x) × (k ≡ 28 → r ≡ secondOf x) → EvalOk rs ws ws₁ i env d r
+    pub eval-part : (a k : ℕ) → k ≡ word rs i 0 → numberOf (plainK efstK) ≤ k → k < numberOf (plainK ederefK) → a ≡ opA rs i → EvalOk rs ws ws₁ a env d x → (k ≡ numberOf (plainK efstK) → r ≡ firstValue x) × (k ≡ numberOf (plainK esndK) → r ≡ secondValue x) → EvalOk rs ws ws₁ i env d r
     eval-part a k q l h ea ha e = ⊎-elim
         (λ z. eval-first a (sym q ∙ sym z) ea ha (e .0 (sym z)))
-        (λ z. let y : k ≡ 28 = omega arith in eval-second a (sym q ∙ y) ea ha (e .1 y))
+        (λ z. let y : k ≡ numberOf (plainK esndK) = omega arith in eval-second a (sym q ∙ y) ea ha (e .1 y))
         (eq-or-lt-of-le l)
 
   -- ---- a test, and the branch that it names
 
-  module _ (ws ws₁ ws₂ : List ℕ) (x r : Value) (b : Bool) (e : b ≡ isTrue (leafNumber x)) where
+  module _ (ws ws₁ ws₂ : List ℕ) (x r : Value) (b : Bool) (e : b ≡ isTrue (firstNumber x)) where
     if-at : (u v w : Exp) → EvalAt rs ws ws₁ i env d x u → (b ≡ true → EvalAt rs ws₁ ws₂ i env d r v) → (b ≡ false → EvalAt rs ws₁ ws₂ i env d r w) → EvalAt rs ws ws₂ i env d r (eif u v w)
     unfolding eval
     if-at u v w hu hv hw Σ Γ τ s ρ (t-if tu tv tw) o =
         let p = hu Σ Γ _ s ρ tu o in
         let q = after u tu o p in
-        let z : b ≡ isTrue (eval u ρ s .0) = e ∙ ap (λ x. isTrue (leafNumber x)) (p .answer) ∙ true-value _ (leaf-word (q .typed)) in
+        let z : b ≡ isTrue (eval u ρ s .0) = e ∙ ap (λ x. isTrue (firstNumber x)) (p .answer) ∙ true-value _ (leaf-word (q .typed)) in
         branch-value (isTrue (eval u ρ s .0)) (λ s. eval v ρ s) (λ s. eval w ρ s) (eval u ρ s .1) (λ y. Evaluated rs ws ws₂ r (y .0) (y .1))
         (λ c. let p₁ = hv (z ∙ c) Σ Γ _ _ ρ tv (q .world) in record { answer = p₁ .answer; stores = p₁ .stores; same = same-trans (p .same) (p₁ .same) })
         (λ c. let p₁ = hw (z ∙ c) Σ Γ _ _ ρ tw (q .world) in record { answer = p₁ .answer; stores = p₁ .stores; same = same-trans (p .same) (p₁ .same) })
 
-    module _ (a k : ℕ) (q : word rs i 0 ≡ 25) (ea : a ≡ opA rs i) (ha : EvalOk rs ws ws₁ a env d x) (hk : EvalOk rs ws₁ ws₂ k env d r) where
+    module _ (a k : ℕ) (q : OfKind rs i (eitherK ifK)) (ea : a ≡ opA rs i) (ha : EvalOk rs ws ws₁ a env d x) (hk : EvalOk rs ws₁ ws₂ k env d r) where
       pub eval-if-true : b ≡ true → k ≡ opB rs i → EvalOk rs ws ws₂ i env d r
-      eval-if-true c ek = on-eif rs d i (EvalAt rs ws ws₂ i env d r) q (λ u v w p.
+      eval-if-true c ek = on-exp rs d i (eitherK ifK) (EvalAt rs ws ws₂ i env d r) q (λ u v w p.
           if-at u v w (at-row ea ha u (p .1)) (λ _. at-row ek hk v (p .2)) (λ f. differ (sym c ∙ f)))
 
       pub eval-if-false : b ≡ false → k ≡ opC rs i → EvalOk rs ws ws₂ i env d r
-      eval-if-false c ek = on-eif rs d i (EvalAt rs ws ws₂ i env d r) q (λ u v w p.
+      eval-if-false c ek = on-exp rs d i (eitherK ifK) (EvalAt rs ws ws₂ i env d r) q (λ u v w p.
           if-at u v w (at-row ea ha u (p .1)) (λ t. differ (sym t ∙ c)) (λ _. at-row ek hk w (p .3)))
 
   -- ---- cells
@@ -226,8 +227,8 @@ module _ (rs : List ℕ) (i : ℕ) (env : List ℕ) (d : ℕ) where
     same = same-refl;
   }
 
-  pub eval-content : (ws : List ℕ) (r : Value) (a : ℕ) → word rs i 0 ≡ 29 → a ≡ opA rs i → r ≡ valueAt ws a → EvalOk rs ws ws i env d r
-  eval-content ws r a q ea e = on-ederef rs d i (EvalAt rs ws ws i env d r) q (λ k p. content-at ws r k (p .2) (e ∙ ap (valueAt ws) (ea ∙ p .1)))
+  pub eval-content : (ws : List ℕ) (r : Value) (a : ℕ) → OfKind rs i (plainK ederefK) → a ≡ opA rs i → r ≡ valueAt ws a → EvalOk rs ws ws i env d r
+  eval-content ws r a q ea e = on-exp rs d i (plainK ederefK) (EvalAt rs ws ws i env d r) q (λ k p. content-at ws r k (p .2) (e ∙ ap (valueAt ws) (ea ∙ p .1)))
 
   module _ (ws ws₁ ws₂ : List ℕ) (x r : Value) where
     assign-at : (k : ℕ) (a : Exp) → Cell rs k → EvalAt rs ws ws₁ i env d x a → Laid ws₁ ws₂ k (own ∷ wordsOf x) → r ≡ asValue vunit → EvalAt rs ws ws₂ i env d r (eassign k a)
@@ -242,8 +243,8 @@ module _ (rs : List ℕ) (i : ℕ) (env : List ℕ) (d : ℕ) where
           same = same-trans (p .same) (laid-same l₁ c);
         }
 
-    pub eval-assign : (a b : ℕ) → word rs i 0 ≡ 30 → a ≡ opA rs i → b ≡ opB rs i → EvalOk rs ws ws₁ b env d x → Laid ws₁ ws₂ a (own ∷ wordsOf x) → r ≡ asValue vunit → EvalOk rs ws ws₂ i env d r
-    eval-assign a b q ea eb hb l e = on-eassign rs d i (EvalAt rs ws ws₂ i env d r) q (λ k a₁ p.
+    pub eval-assign : (a b : ℕ) → OfKind rs i (plainK eassignK) → a ≡ opA rs i → b ≡ opB rs i → EvalOk rs ws ws₁ b env d x → Laid ws₁ ws₂ a (own ∷ wordsOf x) → r ≡ asValue vunit → EvalOk rs ws ws₂ i env d r
+    eval-assign a b q ea eb hb l e = on-exp rs d i (plainK eassignK) (EvalAt rs ws ws₂ i env d r) q (λ k a₁ p.
         assign-at k a₁ (p .2) (at-row eb hb a₁ (p .3)) (subst (λ k. Laid ws₁ ws₂ k (own ∷ wordsOf x)) (ea ∙ p .1) l) e)
 
   -- ---- a binder
@@ -257,13 +258,13 @@ module _ (rs : List ℕ) (i : ℕ) (env : List ℕ) (d : ℕ) where
         let p₁ = hb Σ _ _ _ _ tb (world-push (eval a ρ s .0) (q .world) u (p .answer) (q .typed) (q .small)) in
         record { answer = p₁ .answer; stores = p₁ .stores; same = same-trans (p .same) (p₁ .same) }
 
-    pub eval-let : (a b : ℕ) → word rs i 0 ≡ 31 → a ≡ opA rs i → b ≡ opB rs i → EvalOk rs ws ws₁ a env d x → Pushed env env₁ d x → EvalOk rs ws₁ ws₂ b env₁ (d + 1) r → EvalOk rs ws ws₂ i env d r
-    eval-let a b q ea eb ha u hb = on-elet rs d i (EvalAt rs ws ws₂ i env d r) q (λ a₁ b₁ p.
+    pub eval-let : (a b : ℕ) → OfKind rs i (eitherK letK) → a ≡ opA rs i → b ≡ opB rs i → EvalOk rs ws ws₁ a env d x → Pushed env env₁ d x → EvalOk rs ws₁ ws₂ b env₁ (d + 1) r → EvalOk rs ws ws₂ i env d r
+    eval-let a b q ea eb ha u hb = on-exp rs d i (eitherK letK) (EvalAt rs ws ws₂ i env d r) q (λ a₁ b₁ p.
         let-at a₁ b₁ (at-row ea ha a₁ (p .1)) u (subst (λ k. EvalOk rs ws₁ ws₂ k env₁ (d + 1) r) eb hb b₁ (p .2)))
 
   -- no expression sits under more binders than there may be, nor at a row of another kind
-  pub eval-deep : (ws ws₁ : List ℕ) (r : Value) → word rs i 0 ≡ 31 → maxBinders ≤ d → EvalOk rs ws ws₁ i env d r
-  eval-deep ws ws₁ r q h = on-elet rs d i (EvalAt rs ws ws₁ i env d r) q (λ a b p. absurd (let l = p .3 in omega arith))
+  pub eval-deep : (ws ws₁ : List ℕ) (r : Value) → OfKind rs i (eitherK letK) → maxBinders ≤ d → EvalOk rs ws ws₁ i env d r
+  eval-deep ws ws₁ r q h = on-exp rs d i (eitherK letK) (EvalAt rs ws ws₁ i env d r) q (λ a b p. absurd (let l = p .3 in omega arith))
 
-  pub eval-none : (ws : List ℕ) (r : Value) → (20 ≤ word rs i 0 → word rs i 0 ≤ 31 → ⊥) → EvalOk rs ws ws i env d r
+  pub eval-none : (ws : List ℕ) (r : Value) → (FromKind rs i (plainK eunitK) → UpToKind rs i (eitherK letK) → ⊥) → EvalOk rs ws ws i env d r
   eval-none ws r n = on-no-exp rs d i (EvalAt rs ws ws i env d r) n

@@ -2,13 +2,14 @@
 // values and operators, on crate state for the words, and on specs/Contracts of that crate for what evaluation ensures.
 use rows::MAX_BINDERS;
 use rows::ROWS_WORDS;
+use rows::get;
+use rows::kinds::FIRST;
+use rows::operand;
 use state::ENV_WORDS;
 use state::OWN;
 use state::STATE_SIZE;
 use state::env_get;
-use state::env_put;
-use state::get;
-use state::operand;
+use state::pushed;
 use state::put_value;
 use state::read_value;
 use value::Value;
@@ -23,10 +24,10 @@ use value::unit;
 ghost use mathlib.Core.Path.{_≡_};
 ghost use mathlib.Core.List.{List};
 ghost use Prim.Native.Nat.{ℕ, _<_, _≤_};
+ghost use Rattle.rows.specs.Kinds.{plainK, eunitK, ebinderK, efstK, esndK, numberOf};
 ghost use Rattle.rows.specs.Rows.{maxRows, word};
 ghost use Rattle.rows.specs.Enclosing.{maxBinders};
-ghost use Rattle.value.specs.Values.{firstOf, secondOf};
-ghost use Rattle.state.specs.Words.{Pushed};
+ghost use Rattle.value.specs.Values.{firstValue, secondValue};
 ghost use Rattle.state.specs.Contracts.{Fine, EvalOk};
 
 // A constant, or a binder's value: what needs no other row and no state.
@@ -37,7 +38,7 @@ fn constant(
     depth: usize,
     kind: u32,
 ) -> Value
-    requires { ⌜ (row < maxRows) × (depth ≤ maxBinders) × (kind ≡ word (now rows) row 0) × (20 ≤ kind) × (kind ≤ 23) ⌝ }
+    requires { ⌜ (row < maxRows) × (depth ≤ maxBinders) × (kind ≡ word (now rows) row 0) × (numberOf (plainK eunitK) ≤ kind) × (kind ≤ numberOf (plainK ebinderK)) ⌝ }
     ensures { λ r. ⌜ ((ws : List ℕ) → EvalOk (now (rows .entry)) ws ws row (now (env .entry)) depth r) ⌝ }
 {
     match kind {
@@ -50,22 +51,12 @@ fn constant(
 
 // A part of a pair: the first for kind 27, the second for 28.
 fn part(a: Value, kind: u32) -> Value
-    ensures { λ r. ⌜ (kind ≡ 27 → r ≡ firstOf a) × (kind ≡ 28 → r ≡ secondOf a) ⌝ }
+    ensures { λ r. ⌜ (kind ≡ numberOf (plainK efstK) → r ≡ firstValue a) × (kind ≡ numberOf (plainK esndK) → r ≡ secondValue a) ⌝ }
 {
-    if kind == 27 {
+    if kind == FIRST {
         return first(a);
     }
     second(a)
-}
-
-// The values of the binders around, and one more.
-fn pushed(env: &[u32; ENV_WORDS], depth: usize, a: Value) -> [u32; ENV_WORDS]
-    requires { ⌜ depth < maxBinders ⌝ }
-    ensures { λ r. ⌜ Pushed (now (env .entry)) r depth a ⌝ }
-{
-    let mut more = *env;
-    env_put(&mut more, depth, a);
-    more
 }
 
 pub fn eval(

@@ -1,8 +1,8 @@
--- `read_event` and the functions below it, each way out. Rests on word's comparison of bits and numbers.
+-- `read_event` and the functions below it, each way out. Rests on word's comparison of bits and numbers, and on formats' laws of fields.
 use mathlib.Core.Path.{_≡_, refl, sym, ap, subst, _∙_}
 use mathlib.Core.Bool.{Bool, true, false, not, cond, _&&_, false≢true}
 use mathlib.Core.Logic.{_⊎_, ⊎-elim}
-use mathlib.Core.Option.{Option, none, some}
+use mathlib.Core.Option.{Option, none, some, bind}
 use mathlib.Core.List.{List, [], _∷_, map}
 use Prim.Native.Nat.{ℕ, zero, suc, _+_, _-_, _^_, _≤_, _<_}
 use native.Mathlib.Nat.{eq-or-lt-of-le}
@@ -10,55 +10,28 @@ use native.Mathlib.Omega.{arith}
 use borrow.Author.Tests.{eq-eqb, ne-eqb, eqb-false, not-true, not-false}
 use lib.Dec.{lit<, eqb, ltb}
 use lib.IntN.{ℤ, pos, negsuc}
-use lib.ListN.{length, getD}
+use lib.ListN.{length, getD, replicate}
 use mir.Syntax.{w32}
-use mir.Val.{toZ, sel}
-use Rattle.word.specs.Word.{words, eqZ}
+use mir.Val.{toZ, ofZ, sel}
+use Rattle.word.specs.Word.{words, AllWords, eqZ}
 use Rattle.word.proofs.Order.{equal-number}
-use Rattle.decimal.specs.Field.{Field, readsAt, actionColumns, wordColumns}
-use Rattle.decimal.specs.Path.{Path, pathOf, readsPathAt}
+use Rattle.word.proofs.Lists.{numbers-bits}
+use Rattle.decimal.specs.Field.{Field, number, unreadable, readsAt, reading, actionColumns, wordColumns, newline}
+use Rattle.decimal.specs.declared.field.Reading.the-variants.{Number, Unreadable}
+use Rattle.decimal.specs.Path.{Path, pathColumns, pathOf, readsPathAt, pathReading}
+use Rattle.decimal.specs.declared.path.PathReading.the-variants.{Marks}
+use Rattle.decimal.specs.declared.path.PathReading.the-variants as path
+use Rattle.decimal.proofs.Answers.{number-read, nothing-said, path-said, no-path-said}
 use Rattle.tophat.specs.Syntax.{maxLeaves}
-use Rattle.tophat.specs.Handling.{Action, give, press, continue, left, right}
-use Rattle.tophat.proofs.ComputeTyping.{bind}
+use Rattle.tophat.specs.Handling.{Act, giving, pressing, actNumber, actTable, Action, give, press, continue, left, right}
+use Rattle.formats.specs.declared.Numbers.{Numbers}
+use Rattle.formats.specs.Records.{total, isRecord, numberSaid, numbersAt, numbersRead}
+use Rattle.formats.specs.Touches.{eventColumns, eventBytes, numbered, touchAt, allZero, allowed, eventSays, actionOf, eventOf}
+use Rattle.formats.proofs.Records.{numbers-words}
 use Rattle.handle.specs.Events as engine
-use Rattle.handle.specs.Events.{giving, continuing, leftward, rightward, Readable}
-use Rattle.flow.specs.declared.event.Leaf.{Leaf}
-use Rattle.flow.specs.declared.event.Leaves.{Leaves}
+use Rattle.handle.specs.Events.{giveNumber, continueNumber, leftNumber, rightNumber}
 use Rattle.flow.specs.declared.event.EventReading.{EventReading}
-use Rattle.calls.specs.Events.{actionPlace, leafPlace, eventBytes, said, leavesAt, allZero, actionOf, eventOf}
-use Rattle.flow.specs.Reads.{LeafOk, PathOk, LeavesOk, KnownOk}
-use Rattle.flow.specs.Takes.{Says}
-
--- ---- leaves
-
--- what one field adds in front of the leaves after it
-abbrev before : Field → Option (List ℤ) → Option (List ℤ)
-before f o = bind (said f) λ z. bind o λ zs. some (z ∷ zs)
-
-in-front : (f : Field) (o : Option (List ℤ)) (r : Leaf) (b : Bool) (ws : List ℕ) → LeafOk f r → (b ≡ true → o ≡ some (map (toZ w32) ws)) → (b ≡ false → o ≡ none)
-    → (r .ok && b ≡ true → before f o ≡ some (map (toZ w32) (r .bits ∷ ws))) × (r .ok && b ≡ false → before f o ≡ none)
-unfolding said bind
-in-front f o r b ws k y₀ n₀ = by (r .ok) b refl refl
-  where
-    by : (x y : Bool) → r .ok ≡ x → b ≡ y → (x && y ≡ true → before f o ≡ some (map (toZ w32) (r .bits ∷ ws))) × (x && y ≡ false → before f o ≡ none)
-    by true true p q = let e = k .yes p in let g = y₀ q in ((λ z. rw (e, g)), (λ z. absurd (false≢true (sym z))))
-    by true false p q = let e = k .yes p in let g = n₀ q in ((λ z. absurd (false≢true z)), (λ z. rw (e, g)))
-    by false y p q = let e = k .no p in ((λ z. absurd (false≢true z)), (λ z. rw e))
-
-last-leaf : (f : Field) (r : Leaf) → LeafOk f r → (r .ok ≡ true → before f (some []) ≡ some (map (toZ w32) (r .bits ∷ []))) × (r .ok ≡ false → before f (some []) ≡ none)
-unfolding said bind
-last-leaf f r k = ((λ z. let e = k .yes z in rw e), (λ z. let e = k .no z in rw e))
-
-pub leaves-are : (s : List ℕ) (a b c d : Leaf) → LeafOk (readsAt s (leafPlace 0) wordColumns) a → LeafOk (readsAt s (leafPlace 1) wordColumns) b
-    → LeafOk (readsAt s (leafPlace 2) wordColumns) c → LeafOk (readsAt s (leafPlace 3) wordColumns) d
-    → LeavesOk (leavesAt s 0 maxLeaves) (record { ok = a .ok && (b .ok && (c .ok && d .ok)); words = a .bits ∷ b .bits ∷ c .bits ∷ d .bits ∷ [] })
-unfolding leavesAt
-leaves-are s a b c d p q r u =
-    let e = last-leaf _ d u in
-    let f = in-front _ _ c _ (d .bits ∷ []) r (e .0) (e .1) in
-    let g = in-front _ _ b _ (c .bits ∷ d .bits ∷ []) q (f .0) (f .1) in
-    let h = in-front _ _ a _ (b .bits ∷ c .bits ∷ d .bits ∷ []) p (g .0) (g .1) in
-    record { yes = h .0; no = h .1 }
+use Rattle.flow.specs.Reads.{KnownOk, Says, actionAt, touchOf, fieldsSay}
 
 -- ---- leaves that are 0
 
@@ -101,129 +74,163 @@ same-action : (a : ℕ) (n : ℕ) → a < words → n < words → toZ w32 n ≡ 
 same-action a n h g e = equal-number a n h g ∙ ap (eqZ (toZ w32 a)) e
 
 module _ (a : ℕ) (ls : List ℕ) (h : a < words) where
-  at-1 : eqb a giving ≡ eqZ (toZ w32 a) (pos giving)
-  at-1 = same-action a giving h (lit< tt) refl
-
-  at-2 : eqb a continuing ≡ eqZ (toZ w32 a) (pos continuing)
-  at-2 = same-action a continuing h (lit< tt) refl
-
-  at-3 : eqb a leftward ≡ eqZ (toZ w32 a) (pos leftward)
-  at-3 = same-action a leftward h (lit< tt) refl
-
-  at-4 : eqb a rightward ≡ eqZ (toZ w32 a) (pos rightward)
-  at-4 = same-action a rightward h (lit< tt) refl
+  abbrev zs : List ℤ
+  zs = map (toZ w32) ls
 
   -- the action of bits, by the tests that the engine's own definition makes
-  abbrev tested : Option Action
-  tested =
-      cond (eqb a giving) (some (give (map (toZ w32) ls)))
-      (cond (allZero (map (toZ w32) ls))
-      (cond (eqb a continuing) (some (press continue)) (cond (eqb a leftward) (some (press left)) (cond (eqb a rightward) (some (press right)) none)))
-      none)
+  abbrev tested : Bool → Bool → Bool → Bool → Option Action
+  tested x y z u = cond x (some (give zs)) (cond y (cond (allZero zs) (some (press continue)) none) (cond z (cond (allZero zs) (some (press left)) none) (cond u (cond (allZero zs) (some (press right)) none) none)))
 
-  tests : actionOf (toZ w32 a) (map (toZ w32) ls) ≡ tested
-  unfolding actionOf
-  tests = let p = at-1 in let q = at-2 in let r = at-3 in let u = at-4 in rw (sym p, sym q, sym r, sym u)
+  tests : actionAt (toZ w32 a) zs ≡ tested (eqb a giveNumber) (eqb a continueNumber) (eqb a leftNumber) (eqb a rightNumber)
+  unfolding actionAt numbered bind allowed actionOf
+  tests =
+      let p = same-action a giveNumber h (lit< tt) refl in
+      let q = same-action a continueNumber h (lit< tt) refl in
+      let r = same-action a leftNumber h (lit< tt) refl in
+      let u = same-action a rightNumber h (lit< tt) refl in
+      rw (sym p, sym q, sym r, sym u) (by (eqb a giveNumber) (eqb a continueNumber) (eqb a leftNumber) (eqb a rightNumber))
+    where
+      by : (x y z u : Bool) → bind (cond x (some giving) (cond y (some (pressing continue)) (cond z (some (pressing left)) (cond u (some (pressing right)) none)))) (λ k. cond (allowed k zs) (some (actionOf k zs)) none) ≡ tested x y z u
+      by true y z u = refl
+      by false true z u = refl
+      by false false true u = refl
+      by false false false true = refl
+      by false false false false = refl
 
-  pub known-value : a ≡ giving → KnownOk a ls true
-  unfolding engine.actionOf
+  pub known-value : a ≡ giveNumber → KnownOk a ls true
+  unfolding engine.actionBy
   known-value e =
-      let p = eq-eqb a giving e in
+      let p = eq-eqb a giveNumber e in
       let t = tests in
       record { yes = λ z. (t ∙ rw p, omega (arith, e), omega (arith, e)); no = λ z. absurd (false≢true (sym z)) }
 
   -- no action's number
-  pub unknown : (a ≡ giving → ⊥) → (a ≡ continuing → ⊥) → (a ≡ leftward → ⊥) → (a ≡ rightward → ⊥) → KnownOk a ls false
+  pub unknown : (a ≡ giveNumber → ⊥) → (a ≡ continueNumber → ⊥) → (a ≡ leftNumber → ⊥) → (a ≡ rightNumber → ⊥) → KnownOk a ls false
   unknown p q r u =
-      let p₁ = ne-eqb a giving p in let q₁ = ne-eqb a continuing q in let r₁ = ne-eqb a leftward r in let u₁ = ne-eqb a rightward u in
-      record { yes = λ z. absurd (false≢true z); no = λ z. tests ∙ (rw (p₁, q₁, r₁, u₁) (by (allZero (map (toZ w32) ls)))) }
+      let p₁ = ne-eqb a giveNumber p in let q₁ = ne-eqb a continueNumber q in let r₁ = ne-eqb a leftNumber r in let u₁ = ne-eqb a rightNumber u in
+      record { yes = λ z. absurd (false≢true z); no = λ z. tests ∙ rw (p₁, q₁, r₁, u₁) }
+
+  -- one of the other three
+  others : continueNumber ≤ a → a ≤ rightNumber → (x y : Bool) → eqb a continueNumber ≡ x → eqb a leftNumber ≡ y
+      → tested false x y (eqb a rightNumber) ≡ cond (allZero zs) (some (cond x (press continue) (cond y (press left) (press right)))) none
+  others l m true y f g = refl
+  others l m false true f g = refl
+  others l m false false f g =
+      let q = eqb-false a continueNumber f in let r = eqb-false a leftNumber g in
+      let u = eq-eqb a rightNumber (last q r) in rw u
     where
-      by : (b : Bool) → cond {A = Option Action} b none none ≡ none
-      by true = refl
-      by false = refl
+      last : (a ≡ continueNumber → ⊥) → (a ≡ leftNumber → ⊥) → a ≡ rightNumber
+      last q r = omega (arith, l, m, q, r)
 
   -- an action without leaves
-  pub known-other : (a ≡ giving → ⊥) → continuing ≤ a → a ≤ rightward → (b : Bool) → b ≡ allZero (map (toZ w32) ls) → KnownOk a ls b
-  unfolding engine.actionOf
-  known-other p l m true e =
-      let p₁ = ne-eqb a giving p in
-      let z = sym e in
-      record { yes = λ y. (tests ∙ rw (p₁, z) (which (eqb a continuing) (eqb a leftward) refl refl), omega arith, m); no = λ y. absurd (false≢true (sym y)) }
-    where
-      which : (x y : Bool) → eqb a continuing ≡ x → eqb a leftward ≡ y
-          → cond x (some (press continue)) (cond y (some (press left)) (cond (eqb a rightward) (some (press right)) none)) ≡ some (cond x (press continue) (cond y (press left) (press right)))
-      which true y e f = refl
-      which false true e f = refl
-      which false false e f =
-          let q = eqb-false a continuing e in let r = eqb-false a leftward f in
-          let u = eq-eqb a rightward (last q r) in rw u
-        where
-          last : (a ≡ continuing → ⊥) → (a ≡ leftward → ⊥) → a ≡ rightward
-          last q r = omega (arith, l, m, q, r)
-  known-other p l m false e =
-      let p₁ = ne-eqb a giving p in
-      let z = sym e in
-      record { yes = λ y. absurd (false≢true y); no = λ y. tests ∙ rw (p₁, z) }
+  pub known-other : (a ≡ giveNumber → ⊥) → continueNumber ≤ a → a ≤ rightNumber → (b : Bool) → b ≡ allZero zs → KnownOk a ls b
+  unfolding engine.actionBy
+  known-other p l m b e =
+      let p₁ = ne-eqb a giveNumber p in
+      let t : actionAt (toZ w32 a) zs ≡ cond b (some (engine.actionBy a ls)) none =
+      tests ∙ ap (λ x. tested x (eqb a continueNumber) (eqb a leftNumber) (eqb a rightNumber)) p₁ ∙ others l m (eqb a continueNumber) (eqb a leftNumber) refl refl
+      ∙ ap (λ b. cond b (some (cond (eqb a continueNumber) (press continue) (cond (eqb a leftNumber) (press left) (press right)))) none) (sym e)
+      ∙ ap (λ x. cond b (some (cond x (give zs) (cond (eqb a continueNumber) (press continue) (cond (eqb a leftNumber) (press left) (press right))))) none) (sym p₁) in
+      record {
+        yes = λ y. (t ∙ ap (λ b. cond b (some (engine.actionBy a ls)) none) y, omega arith, m);
+        no = λ y. t ∙ ap (λ b. cond b (some (engine.actionBy a ls)) none) y;
+      }
+
+-- ---- a path, an action and leaves that were read
+
+pub says-unread : (r : EventReading) (o : Option (Path × Action)) → r .readable ≡ false → o ≡ none → Says r o
+says-unread r o e q = subst (Says r) (sym q) e
+
+module _ (p a : ℕ) (ls : Numbers) where
+  pub leaves-unread : (r : EventReading) → r .readable ≡ false → not (ls .readable) ≡ true → Says r (touchOf p a ls)
+  unfolding touchOf
+  leaves-unread r e h = says-unread r (touchOf p a ls) e (let k = not-true (ls .readable) h in rw k)
+
+  module _ (f : not (ls .readable) ≡ false) (b : Bool) (k : KnownOk a (ls .words) b) where
+    pub action-unknown : (r : EventReading) → r .readable ≡ false → not b ≡ true → Says r (touchOf p a ls)
+    unfolding touchOf bind
+    action-unknown r e h = says-unread r (touchOf p a ls) e (let g = not-false (ls .readable) f in let q = k .no (not-true b h) in rw (g, q))
+
+    pub says-event : not b ≡ false → Says (record { readable = true; event = record { path = p; action = a; leaves = ls .words } }) (touchOf p a ls)
+    unfolding touchOf bind
+    says-event h =
+        let g = not-false (ls .readable) f in
+        let (q, l, m) = k .yes (not-false b h) in
+        let o : touchOf p a ls ≡ some (pathOf p, engine.actionBy a (ls .words)) = rw (g, q) in
+        subst (Says (record { readable = true; event = record { path = p; action = a; leaves = ls .words } })) (sym o) (refl, refl, refl, (l, m))
+
+-- ---- the fields
+
+module _ (s : List ℕ) where
+  pub no-path : path.Unreadable ≡ pathReading (readsPathAt s 0) → fieldsSay s ≡ none
+  unfolding fieldsSay bind
+  no-path e = let f = no-path-said (readsPathAt s 0) e in rw f
+
+  module _ (p : ℕ) (e : Marks p ≡ pathReading (readsPathAt s 0)) where
+    pub no-action : Unreadable ≡ reading (readsAt s pathColumns actionColumns) → fieldsSay s ≡ none
+    unfolding fieldsSay bind numberSaid
+    no-action g = let f = path-said (readsPathAt s 0) p e in let h = nothing-said (readsAt s pathColumns actionColumns) g in rw (f, h)
+
+    -- the leaves as they were read
+    pub fields-are : (a : ℕ) → Number a ≡ reading (readsAt s pathColumns actionColumns) → (ls : Numbers) → ls ≡ numbersRead (numbersAt s (pathColumns + actionColumns) (replicate maxLeaves wordColumns))
+        → fieldsSay s ≡ touchOf p a ls
+    unfolding fieldsSay numberSaid bind touchOf numbersRead
+    fields-are a g ls h =
+        let f = path-said (readsPathAt s 0) p e in
+        let k = number-read s pathColumns actionColumns a g .is in
+        rw (f, k) (by (numbersAt s (pathColumns + actionColumns) (replicate maxLeaves wordColumns)) (λ zs q. numbers-words s (pathColumns + actionColumns) (replicate maxLeaves wordColumns) q) ∙ ap (touchOf p a) (sym h))
+      where
+        by : (o : Option (List ℤ)) → ((zs : List ℤ) → o ≡ some zs → AllWords zs) → bind o (λ ls. bind (actionAt (toZ w32 a) ls) λ x. some (pathOf p, x)) ≡ touchOf p a (numbersRead o)
+        by none w = refl
+        by (some zs) w = ap (λ ls. bind (actionAt (toZ w32 a) ls) λ x. some (pathOf p, x)) (sym (numbers-bits zs (w zs refl)))
 
 -- ---- the whole event
 
--- an event that cannot be read
-pub says-unread : (s : List ℕ) (r : EventReading) → r .readable ≡ false → eventOf s ≡ none → Says r (eventOf s) × (r .readable ≡ true → Readable (r .event))
-says-unread s r e q = (subst (Says r) (sym q) e, (λ y. absurd (false≢true (sym e ∙ y))))
+-- a touch's fields, and its leaves allowed, in either order
+abbrev Touch : Type 0
+Touch = Path × Act × List ℤ
+
+abbrev allow : Touch → Option Touch
+allow t = cond (allowed (t .1) (t .2)) (some t) none
+
+abbrev asAction : Touch → Option (Path × Action)
+asAction t = some (t .0, actionOf (t .1) (t .2))
+
+abbrev actionIn : Path → Option Act → List ℤ → Option (Path × Action)
+actionIn q o ls = bind (bind o λ k. cond (allowed k ls) (some (actionOf k ls)) none) λ x. some (q, x)
+
+same-act : (q : Path) (o : Option Act) (ol : Option (List ℤ)) → bind (bind (bind {B = Touch} o λ k. bind ol λ ls. some (q, k, ls)) allow) asAction ≡ bind ol (actionIn q o)
+unfolding bind
+same-act q none none = refl
+same-act q none (some ls) = refl
+same-act q (some k) none = refl
+same-act q (some k) (some ls) = by (allowed k ls)
+  where
+    by : (b : Bool) → bind {A = Touch} (cond b (some (q, k, ls)) none) asAction ≡ bind {B = Path × Action} (cond b (some (actionOf k ls)) none) λ x. some (q, x)
+    by true = refl
+    by false = refl
+
+same-touch : (op : Option Path) (on : Option ℤ) (ol : Option (List ℤ))
+    → bind (bind (bind {B = Touch} op λ q. bind on λ n. bind (numbered actNumber actTable n) λ k. bind ol λ ls. some (q, k, ls)) allow) asAction
+    ≡ bind op λ q. bind on λ n. bind ol (actionIn q (numbered actNumber actTable n))
+unfolding bind
+same-touch none on ol = refl
+same-touch (some q) none ol = refl
+same-touch (some q) (some n) ol = same-act q (numbered actNumber actTable n) ol
 
 module _ (s : List ℕ) where
   pub not-long : (length s ≡ eventBytes → ⊥) → eventOf s ≡ none
-  unfolding eventOf
+  unfolding eventOf eventSays isRecord bind
   not-long h = let e = ne-eqb (length s) eventBytes h in rw e
 
   module _ (l : length s ≡ eventBytes) where
-    pub not-ended : (getD s (leafPlace maxLeaves) 0 ≡ 10 → ⊥) → eventOf s ≡ none
-    unfolding eventOf
-    not-ended h = let p = eq-eqb (length s) eventBytes l in let e = ne-eqb (getD s (leafPlace maxLeaves) 0) 10 h in rw (p, e)
+    pub not-ended : (getD s (total eventColumns) 0 ≡ newline → ⊥) → eventOf s ≡ none
+    unfolding eventOf eventSays isRecord bind
+    not-ended h = let p = eq-eqb (length s) eventBytes l in let e = ne-eqb (getD s (total eventColumns) 0) newline h in rw (p, e)
 
-    module _ (n : getD s (leafPlace maxLeaves) 0 ≡ 10) where
-      -- what the fields say
-      abbrev fields : Option (Path × Action)
-      fields =
-          bind (readsPathAt s 0) λ p. bind (said (readsAt s actionPlace actionColumns)) λ a. bind (leavesAt s 0 maxLeaves) λ ls. bind (actionOf a ls) λ x. some (p, x)
-
-      by-fields : eventOf s ≡ fields
-      unfolding eventOf
-      by-fields = let p = eq-eqb (length s) eventBytes l in let e = eq-eqb (getD s (leafPlace maxLeaves) 0) 10 n in rw (p, e)
-
-      module _ (p : Leaf) (k : PathOk (readsPathAt s 0) p) where
-        pub no-path : not (p .ok) ≡ true → eventOf s ≡ none
-        unfolding bind
-        no-path f = let e = k .no (not-true (p .ok) f) in by-fields ∙ rw e
-
-        module _ (f : not (p .ok) ≡ false) (a : Leaf) (j : LeafOk (readsAt s actionPlace actionColumns) a) where
-          pub no-action : not (a .ok) ≡ true → eventOf s ≡ none
-          unfolding bind said
-          no-action g = let e = k .yes (not-false (p .ok) f) in let d = j .no (not-true (a .ok) g) in by-fields ∙ rw (e, d)
-
-          module _ (g : not (a .ok) ≡ false) (ls : Leaves) (i : LeavesOk (leavesAt s 0 maxLeaves) ls) where
-            pub no-leaves : not (ls .ok) ≡ true → eventOf s ≡ none
-            unfolding bind said
-            no-leaves h =
-                let e = k .yes (not-false (p .ok) f) in let d = j .yes (not-false (a .ok) g) in let c = i .no (not-true (ls .ok) h) in
-                by-fields ∙ rw (e, d, c)
-
-            module _ (h : not (ls .ok) ≡ false) (b : Bool) (q : KnownOk (a .bits) (ls .words) b) where
-              pub not-known : not b ≡ true → eventOf s ≡ none
-              unfolding bind said
-              not-known z =
-                  let e = k .yes (not-false (p .ok) f) in let d = j .yes (not-false (a .ok) g) in let c = i .yes (not-false (ls .ok) h) in
-                  let o = q .no (not-true b z) in
-                  by-fields ∙ rw (e, d, c, o)
-
-              abbrev event : EventReading
-              event = record { readable = true; event = record { path = p .bits; action = a .bits; leaves = ls .words } }
-
-              pub says-event : not b ≡ false → Says event (eventOf s) × (event .readable ≡ true → Readable (event .event))
-              unfolding bind said
-              says-event z =
-                  let e = k .yes (not-false (p .ok) f) in let d = j .yes (not-false (a .ok) g) in let c = i .yes (not-false (ls .ok) h) in
-                  let o = q .yes (not-false b z) in
-                  let x = o .0 in
-                  let w : eventOf s ≡ some (pathOf (p .bits), engine.actionOf (a .bits) (ls .words)) = by-fields ∙ rw (e, d, c, x) in
-                  (subst (Says event) (sym w) (refl, refl, refl), (λ y. (o .1, o .2)))
+    -- it says what its fields say
+    pub by-fields : getD s (total eventColumns) 0 ≡ newline → eventOf s ≡ fieldsSay s
+    unfolding eventOf eventSays isRecord touchAt fieldsSay actionAt bind
+    by-fields n =
+        let p = eq-eqb (length s) eventBytes l in let e = eq-eqb (getD s (total eventColumns) 0) newline n in
+        rw (p, e) (same-touch (readsPathAt s 0) (numberSaid (readsAt s pathColumns actionColumns)) (numbersAt s (pathColumns + actionColumns) (replicate maxLeaves wordColumns)))

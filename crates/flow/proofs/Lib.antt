@@ -1,8 +1,7 @@
-pub mod SameRows
+pub mod TaskRows
+pub mod SiteLaws
 pub mod OpenLaws
 pub mod StartLaws
-pub mod TakeLaws
-pub mod ReadLaws
 pub mod EventLaws
-pub mod TaskRows
+pub mod TakeLaws
 pub mod LookLaws

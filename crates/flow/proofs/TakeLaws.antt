@@ -7,125 +7,116 @@ use Prim.Native.Nat.{ℕ, _*_, _-_}
 use native.Mathlib.Omega.{arith}
 use borrow.Author.Tests.{not-true, not-false}
 use lib.IntN.{ℤ}
-use lib.ListN.{length, getD}
-use mir.Syntax.{w32}
-use mir.Val.{toZ}
-use Rattle.word.specs.Laid.{laid}
+use lib.ListN.{length, take}
 use Rattle.decimal.specs.Path.{Path}
 use Rattle.tophat.specs.Syntax.{Code, TaskOf, Store}
 use Rattle.tophat.specs.Typing.{v-nil}
 use Rattle.tophat.specs.Handling.{Action}
 use Rattle.tophat.proofs.Basics.{All, all-some}
-use Rattle.tophat.proofs.TypeLeaves.{small-nil}
 use Rattle.tophat.proofs.ComputeHandling as compute
 use Rattle.tophat.proofs.NormalisingSound.{normalise-sound}
 use Rattle.tophat.proofs.HandlingSound.{GoodHandling, handles-sound}
-use Rattle.rows.specs.Rows.{maxRows, rowWords}
-use Rattle.rows.proofs.SameWords.{zeros-after}
-use Rattle.state.specs.Holds.{World}
+use Rattle.rows.specs.GroundNumbers.{eventNotRead, notHandled}
+use Rattle.state.specs.Layout.{stateWords}
+use Rattle.state.specs.Lent.{lentOf, stateSize}
 use Rattle.state.specs.Contracts.{Handled, HandleOk, NormaliseOk}
 use Rattle.state.proofs.Encode.{writing-ran}
-use Rattle.handle.specs.Events.{eventPath, eventAction}
+use Rattle.handle.specs.Events.{KnownAction, eventPath, eventAction}
 use Rattle.flow.specs.declared.open.Opening.{Opening}
 use Rattle.flow.specs.declared.event.EventReading.{EventReading}
-use Rattle.flow.specs.declared.start.Answer.{Answer}
-use Rattle.calls.specs.Events.{eventOf}
-use Rattle.calls.specs.Calls.{bits, Opened, shut, ready, handled, heard, handleIn, handleCall, opened}
-use Rattle.flow.specs.Opens.{allWords, Ready, Opens}
-use Rattle.flow.specs.Starts.{Answered, Bounded}
-use Rattle.flow.specs.Takes.{Says, heardIn, TakeOk}
-use Rattle.flow.proofs.StartLaws.{copied-out, zero-bounded, bounded-by}
+use Rattle.flow.specs.declared.answer.Answer.{Answer}
+use Rattle.formats.specs.Touches.{eventOf}
+use Rattle.call_definitions.specs.Calls.{Opened, refusedBy, restOf, handled, handleRead, handleIn, handleCall, opened}
+use Rattle.call_definitions.specs.Touches.{Bounded}
+use Rattle.flow.specs.Opens.{Ready, Opens}
+use Rattle.flow.specs.Starts.{Answered}
+use Rattle.flow.specs.Reads.{Says}
+use Rattle.flow.specs.Takes.{TakeOk}
+use Rattle.flow.proofs.SiteLaws.{sits, around, moves-are, copied-out, writes-room, ready-writing}
+use Rattle.flow.proofs.StartLaws.{refused-as, bounded-by}
+
+-- an answer by a ground
+abbrev Refused : Answer → ℕ → Type 0
+Refused r g = (r .number ≡ g) × (r .strides ≡ 0)
 
 module _ (rows ws : List ℤ) (own words : List ℕ) (r : Opening) (e : EventReading) where
   -- grounds 20 to 23
-  take-shut : (x : Opened) → Opens rows ws own words r x → (r .number ≡ 0 → ⊥) → (o : Option (Path × Action)) → Answered (heardIn rows ws o x) (record { number = r .number; strides = 0 }) ws
-  take-shut (shut g) p n o = (p .0, refl, refl)
-  take-shut (ready c t s) p n o = absurd (n (p .0))
+  take-shut : (x : Opened) → Opens rows ws own words r x → (r .number ≡ 0 → ⊥) → (o : Option (Path × Action)) (z : Answer) → Refused z (r .number) → Answered (handleIn rows ws o x) z ws × Bounded rows (z .strides)
+  unfolding handleIn
+  take-shut (refusedBy g) p n o z h = refused-as rows ws g refl (h .0 ∙ p .0, h .1)
+  take-shut (restOf c t s) p n o z h = absurd (n (p .0))
 
-  pub take-refused : Opens rows ws own words r (opened rows ws true) → (r .number ≡ 0 → ⊥) → TakeOk rows ws e (record { number = r .number; strides = 0 }) ws
-  take-refused p n o h = (take-shut (opened rows ws true) p n o, zero-bounded rows)
+  pub take-refused : Opens rows ws own words r (opened rows ws true) → (r .number ≡ 0 → ⊥) → (z : Answer) → Refused z (r .number) → TakeOk rows ws e z ws
+  take-refused p n z h o y = take-shut (opened rows ws true) p n o z h
 
   -- ground 8
-  take-unread : (x : Opened) → Opens rows ws own words r x → r .number ≡ 0 → e .readable ≡ false → (o : Option (Path × Action)) → Says e o → Answered (heardIn rows ws o x) (record { number = 8; strides = 0 }) ws
-  unfolding heard
-  take-unread (shut g) p z f o h = let a = p .0 in let b = p .1 in absurd (omega (arith, a, b, z))
-  take-unread (ready c t s) p z f none h = (refl, refl, refl)
-  take-unread (ready c t s) p z f (some q) h = absurd (false≢true (sym f ∙ h .0))
+  take-unread : (x : Opened) → Opens rows ws own words r x → r .number ≡ 0 → e .readable ≡ false → (o : Option (Path × Action)) → Says e o → (z : Answer) → Refused z eventNotRead
+      → Answered (handleIn rows ws o x) z ws × Bounded rows (z .strides)
+  unfolding handleIn handleRead
+  take-unread (refusedBy g) p n f o y z h = let a = p .0 in let b = p .1 in absurd (omega (arith, a, b, n))
+  take-unread (restOf c t s) p n f none y z h = refused-as rows ws eventNotRead refl h
+  take-unread (restOf c t s) p n f (some q) y z h = absurd (false≢true (sym f ∙ y .0))
 
-  pub take-8 : Opens rows ws own words r (opened rows ws true) → r .number ≡ 0 → not (e .readable) ≡ true → TakeOk rows ws e (record { number = 8; strides = 0 }) ws
-  take-8 p z f o h = (take-unread (opened rows ws true) p z (not-true (e .readable) f) o h, zero-bounded rows)
+  pub take-8 : Opens rows ws own words r (opened rows ws true) → r .number ≡ 0 → not (e .readable) ≡ true → (z : Answer) → Refused z eventNotRead → TakeOk rows ws e z ws
+  take-8 p n f z h o y = take-unread (opened rows ws true) p n (not-true (e .readable) f) o y z h
 
-  module _ (z : r .number ≡ 0) (f : not (e .readable) ≡ false) (w₁ env : List ℕ) (b : Bool) (k : HandleOk own words w₁ (r .n - 1) env 0 (eventPath (e .event)) (eventAction (e .event)) b) where
+  module _ (n : r .number ≡ 0) (f : not (e .readable) ≡ false) (w₁ env : List ℕ) (b : Bool) (k : HandleOk own words w₁ (r .n - 1) env 0 (eventPath (e .event)) (eventAction (e .event)) b) where
     module _ {c : Code} {t : TaskOf c} {s : Store} (y : Ready rows ws own words (r .n) c t s) where
-      here : World own words env 0 (y .cells) [] s []
-      here = record {
-        stores = y .writing .stores;
-        binders = record { count = refl; values = λ k m l. absurd (omega arith) };
-        storeTyped = y .stored;
-        bindersTyped = v-nil;
-        storeSmall = y .site .small;
-        bindersSmall = small-nil;
-      }
-
       handled-as : (q : Path × Action) → Says e (some q) → Handled own words w₁ (r .n - 1) env 0 c b (compute.handle c [] s t (q .0) (q .1))
       handled-as q h =
+          let v = ready-writing y in
           subst (λ x. Handled own words w₁ (r .n - 1) env 0 c b (compute.handle c [] s t (q .0) x)) (h .2)
           (subst (λ p. Handled own words w₁ (r .n - 1) env 0 c b (compute.handle c [] s t p (eventAction (e .event)))) (h .1)
-          (k c (y .site .sits) (y .cells) [] (y .type) s [] t (y .typed) here (y .writing .holds)))
+          (k c (sits (y .site)) (y .cells) [] (y .type) s [] t (y .writes .typed) (around (y .site) (v .stores) (y .writes .stored)) (v .holds)))
 
-      by-9 : (d : Option (TaskOf c × Store)) → Handled own words w₁ (r .n - 1) env 0 c b d → b ≡ false → Answered (handled rows ws c d) (record { number = 9; strides = 0 }) ws
+      by-9 : (d : Option (TaskOf c × Store)) → Handled own words w₁ (r .n - 1) env 0 c b d → b ≡ false → (z : Answer) → Refused z notHandled → Answered (handled rows ws c d) z ws × Bounded rows (z .strides)
       unfolding handled
-      by-9 none h g = (refl, refl, refl)
-      by-9 (some q) h g = absurd (false≢true (sym g ∙ h .0))
+      by-9 none h g z u = refused-as rows ws notHandled refl u
+      by-9 (some q) h g z u = absurd (false≢true (sym g ∙ h .0))
 
-      by-0 : (w₂ env₂ : List ℕ) (j : ℕ) (out : List ℤ) → NormaliseOk own w₁ w₂ (r .n - 1) env₂ 0 j → length w₂ ≡ allWords → out ≡ laid (toZ w32) w₂ ws
+      by-0 : (w₂ env₂ : List ℕ) (j : ℕ) (out : List ℤ) → NormaliseOk own w₁ w₂ (r .n - 1) env₂ 0 j → length w₂ ≡ stateSize → out ≡ lentOf (r .n) (take (r .n * stateWords) w₂)
           → (d : Option (TaskOf c × Store)) (p : Path) (x : Action) → All (GoodHandling (y .cells) [] (y .type) c [] s t p x) d → Handled own words w₁ (r .n - 1) env 0 c b d → b ≡ true
           → Answered (handled rows ws c d) (record { number = 0; strides = j }) out × Bounded rows j
       unfolding handled
       by-0 w₂ env₂ j out nm l o none p x g h a = absurd (false≢true (sym (h .0) ∙ a))
       by-0 w₂ env₂ j out nm l o (some q) p x (all-some g) h a =
-          let v = writing-ran (y .writing) (h .1) in
-          let there : World own w₁ env₂ 0 (y .cells) [] (q .1) [] = record {
-            stores = h .1 .stores;
-            binders = record { count = refl; values = λ k m l. absurd (omega arith) };
-            storeTyped = g .store;
-            bindersTyped = v-nil;
-            storeSmall = y .site .small;
-            bindersSmall = small-nil;
-          } in
-          let u = nm c (y .site .sits) (y .cells) [] (y .type) (q .1) [] (q .0) (g .task) there (h .1 .holds) in
-          let n = normalise-sound c [] (q .1) (q .0) (g .task) v-nil (g .store) in
-          let same : (i : ℕ) → getD own i 0 ≡ getD (bits rows) i 0 = λ i. ap (λ l. getD l i 0) (y .site .copied) ∙ zeros-after (bits rows) (maxRows * rowWords - length rows) i in
-          ((refl, u .1, o ∙ copied-out {rows = rows} ws (y .site) same (n .task) (n .store) (writing-ran v (u .0)) l (y .long)), bounded-by rows (n .derived) (y .site .moving) (u .1))
+          let v = writing-ran (ready-writing y) (h .1) in
+          let u = nm c (sits (y .site)) (y .cells) [] (y .type) (q .1) [] (q .0) (g .task) (around (y .site) (v .stores) (g .store)) (v .holds) in
+          let m = normalise-sound c [] (q .1) (q .0) (g .task) v-nil (g .store) in
+          ((refl, u .1, o ∙ copied-out (y .site) (m .task) (m .store) (writing-ran v (u .0)) l), bounded-by rows (m .derived) (moves-are (y .site)) (u .1))
 
-    in-9 : (x : Opened) → Opens rows ws own words r x → b ≡ false → (o : Option (Path × Action)) → Says e o → Answered (heardIn rows ws o x) (record { number = 9; strides = 0 }) ws
-    unfolding heard
-    in-9 (shut g) p a o h = let u = p .0 in let v = p .1 in absurd (omega (arith, u, v, z))
-    in-9 (ready c t s) p a none h = absurd (false≢true (sym h ∙ not-false (e .readable) f))
-    in-9 (ready c t s) p a (some q) h = by-9 (p .1) _ (handled-as (p .1) q h) a
+    in-9 : (x : Opened) → Opens rows ws own words r x → b ≡ false → (o : Option (Path × Action)) → Says e o → (z : Answer) → Refused z notHandled → Answered (handleIn rows ws o x) z ws × Bounded rows (z .strides)
+    unfolding handleIn handleRead
+    in-9 (refusedBy g) p a o h z u = let x = p .0 in let v = p .1 in absurd (omega (arith, x, v, n))
+    in-9 (restOf c t s) p a none h z u = absurd (false≢true (sym h ∙ not-false (e .readable) f))
+    in-9 (restOf c t s) p a (some q) h z u = by-9 (p .1) _ (handled-as (p .1) q h) a z u
 
-    pub take-9 : Opens rows ws own words r (opened rows ws true) → not b ≡ true → TakeOk rows ws e (record { number = 9; strides = 0 }) ws
-    take-9 p a o h = (in-9 (opened rows ws true) p (not-true b a) o h, zero-bounded rows)
+    pub take-9 : Opens rows ws own words r (opened rows ws true) → not b ≡ true → (z : Answer) → Refused z notHandled → TakeOk rows ws e z ws
+    take-9 p a z u o h = in-9 (opened rows ws true) p (not-true b a) o h z u
 
-    module _ (w₂ env₂ : List ℕ) (j : ℕ) (out : List ℤ) (nm : NormaliseOk own w₁ w₂ (r .n - 1) env₂ 0 j) (l : length w₂ ≡ allWords) (ou : out ≡ laid (toZ w32) w₂ ws) where
-      in-0 : (x : Opened) → Opens rows ws own words r x → b ≡ true → (o : Option (Path × Action)) → Says e o → Answered (heardIn rows ws o x) (record { number = 0; strides = j }) out × Bounded rows j
-      unfolding heard
-      in-0 (shut g) p a o h = let u = p .0 in let v = p .1 in absurd (omega (arith, u, v, z))
-      in-0 (ready c t s) p a none h = absurd (false≢true (sym h ∙ not-false (e .readable) f))
-      in-0 (ready c t s) p a (some q) h =
+    module _ (w₂ env₂ : List ℕ) (j : ℕ) (out : List ℤ) (nm : NormaliseOk own w₁ w₂ (r .n - 1) env₂ 0 j) (l : length w₂ ≡ stateSize) (ou : out ≡ lentOf (r .n) (take (r .n * stateWords) w₂)) where
+      in-0 : (x : Opened) → Opens rows ws own words r x → b ≡ true → (o : Option (Path × Action)) → Says e o → Answered (handleIn rows ws o x) (record { number = 0; strides = j }) out × Bounded rows j
+      unfolding handleIn handleRead
+      in-0 (refusedBy g) p a o h = let u = p .0 in let v = p .1 in absurd (omega (arith, u, v, n))
+      in-0 (restOf c t s) p a none h = absurd (false≢true (sym h ∙ not-false (e .readable) f))
+      in-0 (restOf c t s) p a (some q) h =
           let y = p .1 in
-          by-0 y w₂ env₂ j out nm l ou _ (q .0) (q .1) (handles-sound c [] s t (q .0) (q .1) (y .typed) v-nil (y .stored)) (handled-as y q h) a
+          by-0 y w₂ env₂ j out nm l ou _ (q .0) (q .1) (handles-sound c [] s t (q .0) (q .1) (y .writes .typed) v-nil (y .writes .stored)) (handled-as y q h) a
 
       pub take-0 : Opens rows ws own words r (opened rows ws true) → not b ≡ false → TakeOk rows ws e (record { number = 0; strides = j }) out
       take-0 p a o h = in-0 (opened rows ws true) p (not-false b a) o h
 
--- ---- handle: its event's bytes read, then taken
+-- the memory of a state that is opened is of its size
+pub opened-room : (rows ws : List ℤ) (own words : List ℕ) (r : Opening) (o : Opened) → Opens rows ws own words r o → r .number ≡ 0 → length ws ≡ r .n * stateWords
+opened-room rows ws own words r (refusedBy g) x z = let p = x .0 in let q = x .1 in absurd (omega (arith, p, q, z))
+opened-room rows ws own words r (restOf c t s) x z = let y = x .1 in writes-room (y .site) (y .writes)
 
-handle-as : (rows ws : List ℤ) (event : List ℕ) (x : Opened) → heardIn rows ws (eventOf event) x ≡ handleIn rows ws event x
-unfolding handleIn
-handle-as rows ws event (shut g) = refl
-handle-as rows ws event (ready c t s) = refl
-
+-- handle: its event's bytes read, then taken
 pub take-handles : (rows ws : List ℤ) (event : List ℕ) (e : EventReading) (r : Answer) (out : List ℤ) → Says e (eventOf event) → TakeOk rows ws e r out → Answered (handleCall rows ws event) r out × Bounded rows (r .strides)
 unfolding handleCall
-take-handles rows ws event e r out h k = subst (λ a. Answered a r out × Bounded rows (r .strides)) (handle-as rows ws event (opened rows ws true)) (k (eventOf event) h)
+take-handles rows ws event e r out h k = k (eventOf event) h
+
+-- and its action is one of 01's
+pub says-known : (e : EventReading) (o : Option (Path × Action)) → Says e o → e .readable ≡ true → KnownAction (e .event)
+says-known e none h y = absurd (false≢true (sym h ∙ y))
+says-known e (some q) h y = h .3

@@ -5,12 +5,12 @@ use mathlib.Core.Option.{Option, none, some}
 use mathlib.Core.List.{List}
 use Prim.Native.Nat.{ℕ, zero, suc, _≤_}
 use native.Mathlib.Omega.{arith}
-use Rattle.tophat.specs.Syntax.{Code, edit, enter, update, then, next, fail, and, or, xor, if, let'}
-use Rattle.tophat.proofs.EntriesBound.{taskRows}
+use Rattle.tophat.specs.Syntax.{Code, edit, enter, update, then, next, fail, and, or, xor, if, let', taskRows}
 use Rattle.rows.specs.ComputeTrees.{codeAt}
 use Rattle.rows.proofs.TreeSum.{sumTo}
 use Rattle.rows.proofs.Totals.{parts, Adds, of, shareAt, total-is}
-use Rattle.rows.proofs.Accepted.{Accepted}
+use Rattle.rows.specs.Accepted.{AcceptedRows}
+use Rattle.rows.proofs.Accepted.{facts}
 
 -- each task row counts 1
 abbrev one : Code → ℕ
@@ -45,8 +45,8 @@ sum-most zero f h = omega arith
 sum-most (suc n) f h = let a = sum-most n f h in let b = h n in omega (arith, a, b)
 
 -- in accepted rows
-pub task-rows-few : (rs : List ℕ) (n : ℕ) (a : Accepted rs n) → 1 ≤ n → taskRows (a .code) ≤ n
+pub task-rows-few : (rs : List ℕ) (n : ℕ) (a : AcceptedRows rs n) → 1 ≤ n → taskRows (a .code) ≤ n
 task-rows-few rs n a l =
-    let e = total-is taskRows one adds rs n l (a .sorted) (a .named) (a .flow .code) in
+    let e = total-is taskRows one adds rs n l (facts a .sorted) (facts a .named) (a .flow .code) in
     let m = sum-most n (shareAt taskRows one adds rs n) (share-most rs n) in
     omega (arith, e, m)

@@ -1,5 +1,5 @@
+pub mod Reads
 pub mod Opens
 pub mod Starts
 pub mod Takes
-pub mod Reads
 pub mod Looks

@@ -1,19 +1,21 @@
 -- What the functions below `look` leave: number, flags, the part's length, value memory and list memory, as the definition has
 -- them. Rests on Calls and Opens.
 use mathlib.Core.Path.{_≡_}
+use mathlib.Core.Bool.{Bool, false}
 use mathlib.Core.List.{List}
-use Prim.Native.Nat.{ℕ, _≤_}
+use Prim.Native.Nat.{ℕ, _*_}
 use lib.IntN.{ℤ}
-use lib.ListN.{length}
+use lib.ListN.{length, replicate}
 use Rattle.tophat.specs.Syntax.{maxLeaves, Code, TaskOf, Store}
-use Rattle.tophat.proofs.EntriesBound.{taskRows}
-use Rattle.rows.specs.Rows.{maxRows}
-use Rattle.rows.proofs.Binders.{MarksFit}
+use Rattle.rows.specs.Enclosing.{maxBinders}
+use Rattle.state.specs.Holds.{valueLength}
+use Rattle.state.specs.Contracts.{FailingOk}
 use Rattle.flow.specs.declared.look.Looked.{Looked}
-use Rattle.calls.specs.Calls as calls
+use Rattle.call_definitions.specs.Memory.{LookAnswer}
+use Rattle.call_definitions.specs.Calls.{restOf, lookIn}
 use Rattle.flow.specs.Opens.{Ready}
 
-pub record Shown (a : calls.Looked) (r : Looked) (vs : List ℤ) (bs : List ℕ) : Type 0 where
+pub record Filled (a : LookAnswer) (r : Looked) (vs : List ℤ) (bs : List ℕ) : Type 0 where
   pub number : r .number ≡ a .number
   pub hasValue : r .valued ≡ a .hasValue
   pub fails : r .fails ≡ a .fails
@@ -21,13 +23,17 @@ pub record Shown (a : calls.Looked) (r : Looked) (vs : List ℤ) (bs : List ℕ)
   pub value : vs ≡ a .value
   pub list : bs ≡ a .list
 
+-- whether a rest that shows so many bytes fails: asked where it shows none, else no
+abbrev pub FailsOk : List ℕ → List ℕ → ℕ → ℕ → Bool → Type 0
+FailsOk own words i bytes r = (bytes ≡ 0 → FailingOk own words i (replicate (maxBinders * valueLength) 0) 0 r) × ((bytes ≡ 0 → ⊥) → r ≡ false)
+
 -- what is shown of a rest that is opened
 abbrev pub ShowOk : List ℕ → List ℕ → ℕ → List ℤ → List ℕ → Looked → List ℤ → List ℕ → Type 0
-ShowOk own words n vs list r vs₁ list₁ = (rows ws : List ℤ) (c : Code) (t : TaskOf c) (s : Store) → Ready rows ws own words n c t s → MarksFit 0 c → taskRows c ≤ maxRows → length vs ≡ maxLeaves
-    → Shown (calls.lookIn vs list (calls.ready c t s)) r vs₁ list₁
+ShowOk own words n vs list r vs₁ list₁ = (rows ws : List ℤ) (c : Code) (t : TaskOf c) (s : Store) → Ready rows ws own words n c t s → length vs ≡ maxLeaves
+    → Filled (lookIn vs list (restOf c t s)) r vs₁ list₁
 
 -- what `look` answers: the part that it hands back, number and flags, and the value memory at exit
-pub record LookOk (a : calls.Looked) (part : List ℕ) (number valued fails : ℕ) (vs : List ℤ) : Type 0 where
+pub record LookOk (a : LookAnswer) (part : List ℕ) (number valued fails : ℕ) (vs : List ℤ) : Type 0 where
   pub part-is : part ≡ a .part
   pub number-is : number ≡ a .number
   pub valued-is : valued ≡ a .hasValue

@@ -1,36 +1,46 @@
--- Fields of an event as the engine reads them. Rests on decimal.
+-- An event as the engine reads it, field by field. Rests on formats' events and on crate handle's.
 use mathlib.Core.Path.{_≡_}
-use mathlib.Core.Bool.{Bool, true, false}
-use mathlib.Core.Option.{Option, none, some}
+use mathlib.Core.Bool.{Bool, true, false, cond}
+use mathlib.Core.Option.{Option, none, some, bind}
 use mathlib.Core.List.{List, map}
-use Prim.Native.Nat.{ℕ, _≤_}
+use Prim.Native.Nat.{ℕ, _+_, _≤_}
 use lib.IntN.{ℤ}
+use lib.ListN.{replicate}
 use mir.Syntax.{w32}
 use mir.Val.{toZ}
-use Rattle.decimal.specs.Field.{Field, number, unreadable}
-use Rattle.decimal.specs.Path.{Path, pathOf}
-use Rattle.handle.specs.Events as engine
-use Rattle.handle.specs.Events.{giving, rightward}
-use Rattle.flow.specs.declared.event.Leaf.{Leaf}
-use Rattle.flow.specs.declared.event.Leaves.{Leaves}
-use Rattle.calls.specs.Events.{actionOf}
+use Rattle.decimal.specs.Field.{readsAt, actionColumns, wordColumns}
+use Rattle.decimal.specs.Path.{Path, pathColumns, pathOf, readsPathAt}
+use Rattle.tophat.specs.Syntax.{maxLeaves}
+use Rattle.tophat.specs.Handling.{actNumber, actTable, Action}
+use Rattle.formats.specs.declared.Numbers.{Numbers}
+use Rattle.formats.specs.Records.{numberSaid, numbersAt}
+use Rattle.formats.specs.Touches.{numbered, allowed, actionOf}
+use Rattle.handle.specs.Events.{giveNumber, rightNumber, KnownAction, actionBy, eventPath, eventAction}
+use Rattle.flow.specs.declared.event.EventReading.{EventReading}
 
--- the bits of the number that a field says, if it says one
-pub record LeafOk (f : Field) (r : Leaf) : Type 0 where
-  pub yes : r .ok ≡ true → f ≡ number (toZ w32 (r .bits))
-  pub no : r .ok ≡ false → f ≡ unreadable
+-- what a reading says of an event; its action is one of 01's
+abbrev pub Says : EventReading → Option (Path × Action) → Type 0
+Says r none = r .readable ≡ false
+Says r (some q) = (r .readable ≡ true) × (eventPath (r .event) ≡ q .0) × (eventAction (r .event) ≡ q .1) × KnownAction (r .event)
 
--- the number of the path that a field says, if it says one
-pub record PathOk (o : Option Path) (r : Leaf) : Type 0 where
-  pub yes : r .ok ≡ true → o ≡ some (pathOf (r .bits))
-  pub no : r .ok ≡ false → o ≡ none
-
--- the bits of all four leaves, if each says a number
-pub record LeavesOk (o : Option (List ℤ)) (r : Leaves) : Type 0 where
-  pub yes : r .ok ≡ true → o ≡ some (map (toZ w32) (r .words))
-  pub no : r .ok ≡ false → o ≡ none
+-- the action of a number, with leaves that it can have
+unfoldable pub actionAt : ℤ → List ℤ → Option Action
+actionAt n ls = bind (numbered actNumber actTable n) λ a. cond (allowed a ls) (some (actionOf a ls)) none
 
 -- whether these bits are an action's number, with leaves that it can have
 pub record KnownOk (a : ℕ) (ls : List ℕ) (r : Bool) : Type 0 where
-  pub yes : r ≡ true → (actionOf (toZ w32 a) (map (toZ w32) ls) ≡ some (engine.actionOf a ls)) × (giving ≤ a) × (a ≤ rightward)
-  pub no : r ≡ false → actionOf (toZ w32 a) (map (toZ w32) ls) ≡ none
+  pub yes : r ≡ true → (actionAt (toZ w32 a) (map (toZ w32) ls) ≡ some (actionBy a ls)) × (giveNumber ≤ a) × (a ≤ rightNumber)
+  pub no : r ≡ false → actionAt (toZ w32 a) (map (toZ w32) ls) ≡ none
+
+-- what a path's number, an action's bits and leaves that were read come to
+unfoldable pub touchOf : ℕ → ℕ → Numbers → Option (Path × Action)
+touchOf p a ls = cond (ls .readable) (bind (actionAt (toZ w32 a) (map (toZ w32) (ls .words))) λ x. some (pathOf p, x)) none
+
+-- what the fields of an event's bytes say
+unfoldable pub fieldsSay : List ℕ → Option (Path × Action)
+fieldsSay s =
+    bind (readsPathAt s 0) λ p.
+    bind (numberSaid (readsAt s pathColumns actionColumns)) λ n.
+    bind (numbersAt s (pathColumns + actionColumns) (replicate maxLeaves wordColumns)) λ ls.
+    bind (actionAt n ls) λ x.
+    some (p, x)

@@ -1,7 +1,8 @@
-// The four calls over lent memory (01, "Four calls"). Their contracts are equations with the definitions of crate calls (load: of
+// The four calls over lent memory (01, "Four calls"). Their contracts are equations with the definitions of crate call_definitions (load: of
 // crate sheet), and none has a requires.
 pub use sheet::load; // the call load
 
+pub mod answer; // what start and handle answer
 pub mod start; // the call start
 pub mod look; // the call look, and the function below it that states the whole list
 pub mod touch; // the call handle

@@ -1,8 +1,10 @@
-// The call look (01, "Four calls"): what a rest shows, in lent memory. Rests on `open`, and on crates tasks, cycle and entries.
+// The call look (01, "Four calls"): what a rest shows, in lent memory. Rests on `open`, and on crates running, normalising and entries.
 use super::open::open;
 use entries::LIST_BYTES;
 use entries::entries;
+use normalising::failing;
 use rows::ROWS_WORDS;
+use rows::grounds::LIST_TOO_SHORT;
 use state::ENV_WORDS;
 use state::STATE_SIZE;
 use tophat::MAX_LEAVES;
@@ -17,8 +19,9 @@ ghost use mir.Val.{toZ};
 ghost use Rattle.word.specs.Laid.{laid};
 ghost use Rattle.tophat.specs.Syntax.{maxLeaves};
 ghost use Rattle.state.specs.Contracts.{Fine};
-ghost use Rattle.calls.specs.Calls.{flag, lookCall};
-ghost use Rattle.flow.specs.Looks.{Shown, ShowOk, LookOk};
+ghost use Rattle.call_definitions.specs.Memory.{flag};
+ghost use Rattle.call_definitions.specs.Calls.{lookCall};
+ghost use Rattle.flow.specs.Looks.{Filled, FailsOk, ShowOk, LookOk};
 
 // 0 or the ground, the flags, and how many bytes the part has.
 pub struct Looked {
@@ -56,7 +59,19 @@ fn value_out(v: Value, lent: &mut [i32])
     copy_out(&leaves, lent);
 }
 
-// What the rest shows, where the list has room for it. It fails exactly where it shows no entry.
+// Whether the rest at the row, which shows so many bytes, fails. A task that fails shows none.
+fn fails(own: &[u32; ROWS_WORDS], words: &[u32; STATE_SIZE], row: usize, bytes: usize) -> bool
+    requires { ⌜ Fine (now own) row 0 ⌝ }
+    ensures { λ r. ⌜ FailsOk (now (own .entry)) (now (words .entry)) row bytes r ⌝ }
+{
+    if bytes != 0 {
+        return false;
+    }
+    let none = [0u32; ENV_WORDS];
+    failing(own, words, row, &none, 0)
+}
+
+// What the rest shows, where the list has room for it.
 fn show(
     own: &[u32; ROWS_WORDS],
     words: &[u32; STATE_SIZE],
@@ -72,28 +87,28 @@ fn show(
     let bytes = entries(own, words, n - 1, &none, 0, 0, 1, work);
     if list.len() < bytes {
         return Looked {
-            number: 24,
+            number: LIST_TOO_SHORT,
             valued: 0,
             fails: 0,
             bytes: 0,
         };
     }
-    let found = tasks::value(own, words, n - 1);
-    let fails = flag(bytes == 0);
+    let found = running::value(own, words, n - 1);
+    let failed = flag(fails(own, words, n - 1, bytes));
     let has_value = flag(found.has);
     put_bytes(work, bytes, list);
     value_out(found.value, value);
     Looked {
         number: 0,
         valued: has_value,
-        fails: fails,
+        fails: failed,
         bytes: bytes,
     }
 }
 
 // Looks, and states all of the list at exit.
 pub fn fill(rows: &[i32], state: &[i32], value: &mut [i32], list: &mut [u8]) -> Looked
-    ensures { λ r. ⌜ Shown (lookCall (now (rows .entry)) (now (state .entry)) (now (value .entry)) (now (list .entry))) r (now (value .exit)) (now (list .exit)) ⌝ }
+    ensures { λ r. ⌜ Filled (lookCall (now (rows .entry)) (now (state .entry)) (now (value .entry)) (now (list .entry))) r (now (value .exit)) (now (list .exit)) ⌝ }
 {
     let mut own = [0u32; ROWS_WORDS];
     let mut words = [0u32; STATE_SIZE];

@@ -1,17 +1,21 @@
 // Rows and a state copied in from lent memory, with the grounds 20 to 23 asked in this order (01, "Grounds in the state").
-use cycle::stride;
-use held::held;
+use normalising::stride;
 use rows::ROWS_WORDS;
+use rows::grounds::NOT_ACCEPTED;
+use rows::grounds::NOT_AT_REST;
+use rows::grounds::NOT_STATE;
+use rows::grounds::WRONG_MEMORY;
 use sheet::accepted_rows;
 use state::ENV_WORDS;
 use state::STATE_SIZE;
 use state::STATE_WORDS;
-use word::copy_in;
+use state::lent::state_in;
+use state_check::held;
 ghost use mathlib.Core.Path.{_≡_};
-ghost use Prim.Native.Nat.{_*_};
 ghost use lib.ListN.{replicate};
-ghost use Rattle.rows.specs.Rows.{maxRows, rowWords};
-ghost use Rattle.flow.specs.Opens.{allWords, OpenOk};
+ghost use Rattle.rows.specs.Lent.{rowsSize};
+ghost use Rattle.state.specs.Lent.{stateSize};
+ghost use Rattle.flow.specs.Opens.{OpenOk};
 
 // 0 or the ground, and the number of rows.
 pub struct Opening {
@@ -28,27 +32,42 @@ pub fn open(
     own: &mut [u32; ROWS_WORDS],
     words: &mut [u32; STATE_SIZE],
 ) -> Opening
-    requires { ⌜ (now own ≡ replicate (maxRows * rowWords) 0) × (now words ≡ replicate allWords 0) ⌝ }
+    requires { ⌜ (now own ≡ replicate rowsSize 0) × (now words ≡ replicate stateSize 0) ⌝ }
     ensures { λ r. ⌜ OpenOk (now (rows .entry)) (now (state .entry)) fits (now (own .exit)) (now (words .exit)) r ⌝ }
 {
     let n = accepted_rows(rows, own);
     if n == 0 {
-        return Opening { number: 20, n: n };
+        return Opening {
+            number: NOT_ACCEPTED,
+            n: n,
+        };
     }
     if state.len() != n * STATE_WORDS {
-        return Opening { number: 21, n: n };
+        return Opening {
+            number: WRONG_MEMORY,
+            n: n,
+        };
     }
     if !fits {
-        return Opening { number: 21, n: n };
+        return Opening {
+            number: WRONG_MEMORY,
+            n: n,
+        };
     }
-    copy_in(state, words);
+    state_in(state, n, words);
     let mut work = [0u32; STATE_SIZE];
     if !held(own, n, words, &mut work) {
-        return Opening { number: 22, n: n };
+        return Opening {
+            number: NOT_STATE,
+            n: n,
+        };
     }
     let none = [0u32; ENV_WORDS];
     if stride(own, &mut work, n - 1, &none, 0) {
-        return Opening { number: 23, n: n };
+        return Opening {
+            number: NOT_AT_REST,
+            n: n,
+        };
     }
     Opening { number: 0, n: n }
 }

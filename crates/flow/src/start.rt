@@ -1,41 +1,37 @@
 // The call `start`: accepted rows, their cells' first contents, the last row evaluated and normalised (01, "Normalise").
-use cycle::normalise;
-use held::cell_shape;
-use rows::CELL;
+use super::answer::Answer;
+use super::answer::refused;
+use normalising::normalise;
 use rows::MAX_ROWS;
 use rows::ROW_WORDS;
 use rows::ROWS_WORDS;
+use rows::get;
+use rows::grounds::NOT_ACCEPTED;
+use rows::grounds::WRONG_MEMORY;
+use rows::kinds::CELL;
+use running::evaluate;
 use shape::TRUTH;
 use sheet::accepted_rows;
 use state::ENV_WORDS;
 use state::OWN;
 use state::STATE_SIZE;
 use state::STATE_WORDS;
-use state::get;
+use state::lent::state_out;
 use state::put_value;
-use tasks::evaluate;
+use typing::cell_shape;
 use value::Value;
 use value::number;
 use value::truth;
-use word::copy_out;
 ghost use mathlib.Core.Path.{_≡_};
 ghost use Prim.Native.Nat.{_-_, _<_, _≤_};
-ghost use lib.ListN.{length, replicate};
-ghost use mir.Syntax.{w32};
-ghost use mir.Val.{toZ};
-ghost use Rattle.word.specs.Laid.{laid};
+ghost use lib.ListN.{replicate};
 ghost use Rattle.rows.specs.Rows.{maxRows};
 ghost use Rattle.value.specs.Values.{asValue};
 ghost use Rattle.state.specs.Contracts.{Fine};
-ghost use Rattle.calls.specs.Calls.{startCall};
-ghost use Rattle.flow.specs.Opens.{allWords};
-ghost use Rattle.flow.specs.Starts.{Answered, Bounded, contentAt, CellFirst, CellsFirst, BeginOk};
-
-// 0 or the ground, and the strides.
-pub struct Answer {
-    pub number: u32,
-    pub strides: u32,
-}
+ghost use Rattle.state.specs.Lent.{stateSize};
+ghost use Rattle.call_definitions.specs.Calls.{startCall};
+ghost use Rattle.call_definitions.specs.Touches.{Bounded};
+ghost use Rattle.flow.specs.Starts.{Answered, contentAt, CellFirst, CellsFirst, BeginOk};
 
 // The first content of a cell.
 fn content(rows: &[u32; ROWS_WORDS], row: usize) -> Value
@@ -74,21 +70,13 @@ fn first_cells(rows: &[u32; ROWS_WORDS], n: usize, work: &mut [u32; STATE_SIZE])
 // The last row of n, evaluated and normalised from the first contents, in words of zeros.
 fn begin(rows: &[u32; ROWS_WORDS], n: usize, words: &mut [u32; STATE_SIZE]) -> u32
     requires { ⌜ (1 ≤ n) × Fine (now rows) (n - 1) 0 ⌝ }
-    requires { ⌜ now words ≡ replicate allWords 0 ⌝ }
+    requires { ⌜ now words ≡ replicate stateSize 0 ⌝ }
     ensures { λ r. ⌜ BeginOk (now (rows .entry)) n (now (words .exit)) r ⌝ }
 {
     first_cells(rows, n, words);
     let none = [0u32; ENV_WORDS];
     evaluate(rows, words, n - 1, &none, 0);
     normalise(rows, words, n - 1, &none, 0)
-}
-
-// Words copied out over a lent state.
-pub fn put_out(words: &[u32; STATE_SIZE], state: &mut [i32])
-    ensures { λ _. ⌜ now (state .exit) ≡ laid (toZ w32) (now (words .entry)) (now (state .entry)) ⌝ }
-    ensures { λ _. ⌜ length (now (words .entry)) ≡ allWords ⌝ }
-{
-    copy_out(words, state);
 }
 
 // Starts a flow: the answer, and the state at exit.
@@ -99,20 +87,14 @@ pub fn start(rows: &[i32], state: &mut [i32]) -> Answer
     let mut own = [0u32; ROWS_WORDS];
     let n = accepted_rows(rows, &mut own);
     if n == 0 {
-        return Answer {
-            number: 20,
-            strides: 0,
-        };
+        return refused(NOT_ACCEPTED);
     }
     if state.len() != n * STATE_WORDS {
-        return Answer {
-            number: 21,
-            strides: 0,
-        };
+        return refused(WRONG_MEMORY);
     }
     let mut words = [0u32; STATE_SIZE];
     let strides = begin(&own, n, &mut words);
-    put_out(&words, state);
+    state_out(&words, n, state);
     Answer {
         number: 0,
         strides: strides,

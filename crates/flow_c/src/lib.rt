@@ -7,9 +7,9 @@ use flow::touch;
 use sheet;
 ghost use mathlib.Core.Path.{_≡_};
 ghost use lib.ListN.{length};
-ghost use Rattle.sheet.specs.Load.{loaded};
-ghost use Rattle.calls.specs.Calls.{startCall, lookCall, handleCall};
-ghost use Rattle.flow.specs.Starts.{Bounded};
+ghost use Rattle.sheet.specs.Sheet.{loaded};
+ghost use Rattle.call_definitions.specs.Calls.{startCall, lookCall, handleCall};
+ghost use Rattle.call_definitions.specs.Touches.{Bounded};
 
 // Loads a sheet into lent rows: 0, or the first ground of 1, 21 and 2 to 7.
 #[no_mangle]

@@ -3,22 +3,22 @@ use mathlib.Core.Path.{_≡_, refl, sym, ap, subst, _∙_}
 use mathlib.Core.Bool.{Bool, true, false, not, _&&_}
 use mathlib.Core.Logic.{⊎-elim}
 use mathlib.Core.List.{List}
-use Prim.Native.Nat.{ℕ, suc, _+_, _-_, _<_, _≤_}
+use Prim.Native.Nat.{ℕ, suc, _+_, _<_, _≤_}
 use native.Mathlib.Numerals.{add-one}
 use native.Mathlib.Omega.{arith}
-use lib.Dec.{leb, eqb}
+use lib.Dec.{eqb}
 use lib.ListN.{getD, set, replicate, getD-replicate, length-replicate, length-set}
 use lib.Seq.{getD-set-same, getD-set-other}
 use borrow.Author.Tests.{lt-ltb, le-ltb, le-leb, lt-leb, eq-eqb, ne-eqb, eqb-true, eqb-false, not-true, not-false}
-use Rattle.rows.specs.Kinds.{shapeOf}
-use Rattle.rows.specs.Rows.{maxRows, word, kindAt, opA, opB, opC, names, count, namesBy, namesIn, namings, namedOnce, lastFits}
+use Rattle.rows.specs.Kinds.{numberOf}
+use Rattle.rows.specs.Rows.{maxRows, word, asksAt, opA, opB, opC, names, count, namesBy, namesIn, namings, namedOnce, fitsLast, lastFits, firstExpression}
 use Rattle.rows.proofs.Basics.{true-or-false}
-use Rattle.grounds.specs.declared.table.Asked.{Asked}
-use Rattle.grounds.specs.declared.table.Owned.{Owned}
-use Rattle.grounds.specs.declared.table.Puts.{Puts}
-use Rattle.grounds.specs.declared.table.Shaped.{Shaped}
-use Rattle.grounds.specs.declared.table.Shaped.the-variants.{Known, Unknown}
-use Rattle.grounds.specs.Table.{askBy, shapeBy}
+use Rattle.grounds.specs.declared.table.Ask.{Ask as CodeAsk}
+use Rattle.grounds.specs.declared.table.Own.{Own as CodeOwn}
+use Rattle.grounds.specs.declared.table.Around.{Around as CodeAround}
+use Rattle.grounds.specs.declared.table.Asks.{Asks as CodeAsks}
+use Rattle.grounds.specs.declared.table.Asks.the-variants.{Known, Unknown}
+use Rattle.grounds.specs.Table.{askBy, asksBy}
 use Rattle.grounds.specs.Tables.{stop, maxNamings, More}
 use Rattle.grounds.proofs.Stop.{stop-low, stop-high, stop-under, stop-reached, stop-eqb}
 
@@ -81,28 +81,28 @@ module _ (t : List ℕ) (b : Bool) (w : ℕ) where
 
 -- ---- a row's operands, a row, the rows
 
-module _ (t : List ℕ) (a b c : ℕ) (s : Shaped) where
-  pub name-unknown : s ≡ Unknown → More t t (λ i. namesBy (shapeBy s) a b c i)
+module _ (t : List ℕ) (a b c : ℕ) (s : CodeAsks) where
+  pub name-unknown : s ≡ Unknown → More t t (λ i. namesBy (asksBy s) a b c i)
   unfolding namesBy
-  name-unknown e = more-none t (λ i. namesBy (shapeBy s) a b c i) (λ i l. ap (λ s. namesBy (shapeBy s) a b c i) e)
+  name-unknown e = more-none t (λ i. namesBy (asksBy s) a b c i) (λ i l. ap (λ s. namesBy (asksBy s) a b c i) e)
 
-  pub name-known : (u v w : List ℕ) {p q r : Asked} {o : Owned} {x : Puts} → s ≡ Known p q r o x
+  pub name-known : (u v w : List ℕ) {p q r : CodeAsk} {o : CodeOwn} {x : CodeAround} → s ≡ Known p q r o x
       → More t u (λ i. count (names (askBy p) && eqb a i)) → More u v (λ i. count (names (askBy q) && eqb b i)) → More v w (λ i. count (names (askBy r) && eqb c i))
-      → More t w (λ i. namesBy (shapeBy s) a b c i)
+      → More t w (λ i. namesBy (asksBy s) a b c i)
   unfolding namesBy
-  name-known u v w {p} {q} {r} e f g h = subst (λ s. More t w (λ i. namesBy (shapeBy s) a b c i)) (sym e)
+  name-known u v w {p} {q} {r} e f g h = subst (λ s. More t w (λ i. namesBy (asksBy s) a b c i)) (sym e)
       (more-then t v w (λ i. count (names (askBy p) && eqb a i) + count (names (askBy q) && eqb b i)) (λ i. count (names (askBy r) && eqb c i))
       (more-then t u v (λ i. count (names (askBy p) && eqb a i)) (λ i. count (names (askBy q) && eqb b i)) f g) h)
 
 module _ (rs t : List ℕ) (j : ℕ) {k : ℕ} (e : k ≡ word rs j 0) where
-  pub name-low : k < 20 → More t t (λ i. namesIn rs i j)
+  pub name-low : k < numberOf firstExpression → More t t (λ i. namesIn rs i j)
   unfolding namesIn
-  name-low h = more-none t (λ i. namesIn rs i j) (λ i l. rw (lt-leb 20 (word rs j 0) (omega arith)))
+  name-low h = more-none t (λ i. namesIn rs i j) (λ i l. rw (lt-leb (numberOf firstExpression) (word rs j 0) (omega arith)))
 
-  pub name-high : 20 ≤ k → (u : List ℕ) (s : Shaped) {a b c : ℕ} → shapeBy s ≡ shapeOf (kindAt rs j) → a ≡ opA rs j → b ≡ opB rs j → c ≡ opC rs j
-      → More t u (λ i. namesBy (shapeBy s) a b c i) → More t u (λ i. namesIn rs i j)
+  pub name-high : numberOf firstExpression ≤ k → (u : List ℕ) (s : CodeAsks) {a b c : ℕ} → asksBy s ≡ asksAt rs j → a ≡ opA rs j → b ≡ opB rs j → c ≡ opC rs j
+      → More t u (λ i. namesBy (asksBy s) a b c i) → More t u (λ i. namesIn rs i j)
   unfolding namesIn
-  name-high h u s f g d c m o = (m o .0, λ i l x z. m o .1 i l x z ∙ ap (λ n. stop maxNamings (x + n)) ((λ y. namesBy (f y) (g y) (d y) (c y) i) ∙ sym (rw (le-leb 20 (word rs j 0) (omega arith)))))
+  name-high h u s f g d c m o = (m o .0, λ i l x z. m o .1 i l x z ∙ ap (λ n. stop maxNamings (x + n)) ((λ y. namesBy (f y) (g y) (d y) (c y) i) ∙ sym (rw (le-leb (numberOf firstExpression) (word rs j 0) (omega arith)))))
 
 pub name-rows-none : (rs t : List ℕ) → More t t (λ i. namings rs i 0)
 unfolding namings
@@ -115,19 +115,19 @@ name-rows-more rs t u v j a b = rw add-one (more-then t u v (λ i. namings rs i 
 -- ---- the tests
 
 module _ (rs : List ℕ) (n i : ℕ) {k : ℕ} (e : k ≡ word rs i 0) where
-  pub once-low : k < 20 → true ≡ namedOnce rs n i
+  pub once-low : k < numberOf firstExpression → true ≡ namedOnce rs n i
   unfolding namedOnce
-  once-low h = sym (rw (lt-ltb (word rs i 0) 20 (omega arith)))
+  once-low h = sym (rw (lt-ltb (word rs i 0) (numberOf firstExpression) (omega arith)))
 
-  pub once-last : 20 ≤ k → i + 1 ≡ n → true ≡ namedOnce rs n i
+  pub once-last : numberOf firstExpression ≤ k → i + 1 ≡ n → true ≡ namedOnce rs n i
   unfolding namedOnce
-  once-last h g = sym (rw (le-ltb (word rs i 0) 20 (omega arith), eq-eqb (suc i) n (omega arith)))
+  once-last h g = sym (rw (le-ltb (word rs i 0) (numberOf firstExpression) (omega arith), eq-eqb (suc i) n (omega arith)))
 
-  pub once-counted : 20 ≤ k → (i + 1 ≡ n → ⊥) → (x : ℕ) → x ≡ stop maxNamings (namings rs i n) → eqb x 1 ≡ namedOnce rs n i
+  pub once-counted : numberOf firstExpression ≤ k → (i + 1 ≡ n → ⊥) → (x : ℕ) → x ≡ stop maxNamings (namings rs i n) → eqb x 1 ≡ namedOnce rs n i
   unfolding namedOnce
   once-counted h g x f = ap (λ x. eqb x 1) f ∙ stop-eqb maxNamings (namings rs i n) 1 (omega arith)
-      ∙ sym (rw (le-ltb (word rs i 0) 20 (omega arith), ne-eqb (suc i) n (λ z. g (omega arith))))
+      ∙ sym (rw (le-ltb (word rs i 0) (numberOf firstExpression) (omega arith), ne-eqb (suc i) n (λ z. g (omega arith))))
 
-pub last-is : (rs : List ℕ) (i k : ℕ) → k ≡ word rs i 0 → (r : Bool) → r ≡ (leb 25 k && not (leb 26 k && leb k 30)) → r ≡ lastFits rs i
+pub last-is : (rs : List ℕ) (i k : ℕ) → k ≡ word rs i 0 → (r : Bool) → r ≡ fitsLast k → r ≡ lastFits rs i
 unfolding lastFits
-last-is rs i k e r h = h ∙ ap (λ k. leb 25 k && not (leb 26 k && leb k 30)) e
+last-is rs i k e r h = h ∙ ap fitsLast e

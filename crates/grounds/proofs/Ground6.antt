@@ -8,18 +8,18 @@ use native.Mathlib.Omega.{arith}
 use lib.Dec.{leb}
 use lib.ListN.{length, getD, set, take}
 use borrow.Author.Tests.{le-leb, lt-leb}
-use Rattle.rows.specs.Kinds.{is, asB, Shape, shape, noShape, shapeOf, typeS, basicS}
-use Rattle.rows.specs.Rows.{kindAt, opA, opB, opC, every, names, sameSort}
+use Rattle.rows.specs.Kinds.{is, asB, Asks, asks, noAsks, typeS, basicS}
+use Rattle.rows.specs.Rows.{asksAt, opA, opB, opC, every, names, sameSort}
 use Rattle.rows.specs.Enclosing.{maxBinders, bindersBy, marksBy, mostBinders, mostMarks, leavesBy, counts, rowSmall}
 use Rattle.rows.proofs.Most.{count-is}
-use Rattle.grounds.specs.declared.table.Asked.{Asked}
-use Rattle.grounds.specs.declared.table.Owned.{Owned}
-use Rattle.grounds.specs.declared.table.Puts.{Puts}
-use Rattle.grounds.specs.declared.table.Shaped.{Shaped}
-use Rattle.grounds.specs.declared.table.Shaped.the-variants.{Known, Unknown}
+use Rattle.grounds.specs.declared.table.Ask.{Ask as CodeAsk}
+use Rattle.grounds.specs.declared.table.Own.{Own as CodeOwn}
+use Rattle.grounds.specs.declared.table.Around.{Around as CodeAround}
+use Rattle.grounds.specs.declared.table.Asks.{Asks as CodeAsks}
+use Rattle.grounds.specs.declared.table.Asks.the-variants.{Known, Unknown}
 use Rattle.grounds.specs.declared.small.Counted.{Counted}
 use Rattle.grounds.specs.declared.small.Counted.the-variants.{Leaves, Binders, Marks}
-use Rattle.grounds.specs.Table.{askBy, aroundBy, shapeBy}
+use Rattle.grounds.specs.Table.{askBy, aroundBy, asksBy}
 use Rattle.grounds.specs.Tables.{stop}
 use Rattle.grounds.specs.Counts.{countBy, mostOf, countOf, fewAt, CountsTo}
 use Rattle.grounds.proofs.Filled.{entry-is, one-more}
@@ -28,50 +28,50 @@ use Rattle.grounds.proofs.Stop.{stop-low, stop-bound, stop-leb, Alike, 
 -- ---- by the code's enums
 
 -- a count of a line of the table, where what is counted has another name
-pub of-known : (f : Shape → ℕ) {s : Shaped} {p q r : Asked} {o w : Owned} {x : Puts} → s ≡ Known p q r o x → o ≡ w → f (shapeBy (Known p q r w x)) ≡ f (shapeBy s)
-of-known f {p = p} {q = q} {r = r} {x = x} e h = ap (λ s. f (shapeBy s)) (sym (e ∙ ap (λ o. Known p q r o x) h))
+pub of-known : (f : Asks → ℕ) {s : CodeAsks} {p q r : CodeAsk} {o w : CodeOwn} {x : CodeAround} → s ≡ Known p q r o x → o ≡ w → f (asksBy (Known p q r w x)) ≡ f (asksBy s)
+of-known f {p = p} {q = q} {r = r} {x = x} e h = ap (λ s. f (asksBy s)) (sym (e ∙ ap (λ o. Known p q r o x) h))
 
-pub of-unknown : (f : Shape → ℕ) {s : Shaped} → s ≡ Unknown → f noShape ≡ f (shapeBy s)
-of-unknown f e = ap (λ s. f (shapeBy s)) (sym e)
+pub of-unknown : (f : Asks → ℕ) {s : CodeAsks} → s ≡ Unknown → f noAsks ≡ f (asksBy s)
+of-unknown f e = ap (λ s. f (asksBy s)) (sym e)
 
-module _ {s : Shaped} {p q r : Asked} {o : Owned} {x : Puts} (e : s ≡ Known p q r o x) (a b c : ℕ) {u v w d k l : ℕ} (h : d ≡ max v w) (g : l ≡ max u d) where
+module _ {s : CodeAsks} {p q r : CodeAsk} {o : CodeOwn} {x : CodeAround} (e : s ≡ Known p q r o x) (a b c : ℕ) {u v w d k l : ℕ} (h : d ≡ max v w) (g : l ≡ max u d) where
   pub binders-are : k ≡ bindersBy (aroundBy x) → u ≡ cond (names (askBy p)) a 0 → v ≡ cond (names (askBy q)) (k + b) 0 → w ≡ cond (names (askBy r)) c 0
-      → l ≡ mostBinders (shapeBy s) a b c
+      → l ≡ mostBinders (asksBy s) a b c
   unfolding mostBinders
-  binders-are i y z j = g ∙ (λ t. max (y t) ((h ∙ ap₂ max (z ∙ ap (λ k. cond (names (askBy q)) (k + b) 0) i) j) t)) ∙ ap (λ s. mostBinders (shapeBy s) a b c) (sym e)
+  binders-are i y z j = g ∙ (λ t. max (y t) ((h ∙ ap₂ max (z ∙ ap (λ k. cond (names (askBy q)) (k + b) 0) i) j) t)) ∙ ap (λ s. mostBinders (asksBy s) a b c) (sym e)
 
   pub marks-are : k ≡ marksBy (aroundBy x) → u ≡ cond (names (askBy p)) (k + a) 0 → v ≡ cond (names (askBy q)) (k + b) 0 → w ≡ cond (names (askBy r)) c 0
-      → l ≡ mostMarks (shapeBy s) a b c
+      → l ≡ mostMarks (asksBy s) a b c
   unfolding mostMarks
   marks-are i y z j = g ∙ (λ t. max ((y ∙ ap (λ k. cond (names (askBy p)) (k + a) 0) i) t) ((h ∙ ap₂ max (z ∙ ap (λ k. cond (names (askBy q)) (k + b) 0) i) j) t))
-      ∙ ap (λ s. mostMarks (shapeBy s) a b c) (sym e)
+      ∙ ap (λ s. mostMarks (asksBy s) a b c) (sym e)
 
 -- ---- counts of counts that have stopped stop alike
 
 module _ (m : ℕ) (a b c x y z : ℕ) (e : Alike m a x) (f : Alike m b y) (g : Alike m c z) where
-  leaves-alike : (s : Shape) → Alike m (leavesBy s a b c) (leavesBy s x y z)
+  leaves-alike : (s : Asks) → Alike m (leavesBy s a b c) (leavesBy s x y z)
   unfolding leavesBy
-  leaves-alike (shape p q r (is s) o) = alike-cond m (sameSort s typeS || sameSort s basicS) (cond (names p) (a + b) 1) (cond (names p) (x + y) 1) 0 0
+  leaves-alike (asks p q r (is s) o) = alike-cond m (sameSort s typeS || sameSort s basicS) (cond (names p) (a + b) 1) (cond (names p) (x + y) 1) 0 0
       (alike-cond m (names p) (a + b) (x + y) 1 1 (alike-add m a x b y e f) refl) refl
-  leaves-alike (shape p q r asB o) = refl
-  leaves-alike noShape = refl
+  leaves-alike (asks p q r asB o) = refl
+  leaves-alike noAsks = refl
 
   three-alike : (p q r : Bool) (u v k : ℕ) → Alike m u v → Alike m (max (cond p u 0) (max (cond q (k + b) 0) (cond r c 0))) (max (cond p v 0) (max (cond q (k + y) 0) (cond r z 0)))
   three-alike p q r u v k h = alike-max m (cond p u 0) (cond p v 0) (max (cond q (k + b) 0) (cond r c 0)) (max (cond q (k + y) 0) (cond r z 0)) (alike-cond m p u v 0 0 h refl)
       (alike-max m (cond q (k + b) 0) (cond q (k + y) 0) (cond r c 0) (cond r z 0)
       (alike-cond m q (k + b) (k + y) 0 0 (alike-add m k k b y refl f) refl) (alike-cond m r c z 0 0 g refl))
 
-  binders-alike : (s : Shape) → Alike m (mostBinders s a b c) (mostBinders s x y z)
+  binders-alike : (s : Asks) → Alike m (mostBinders s a b c) (mostBinders s x y z)
   unfolding mostBinders
-  binders-alike (shape p q r o w) = three-alike (names p) (names q) (names r) a x (bindersBy w) e
-  binders-alike noShape = refl
+  binders-alike (asks p q r o w) = three-alike (names p) (names q) (names r) a x (bindersBy w) e
+  binders-alike noAsks = refl
 
-  marks-alike : (s : Shape) → Alike m (mostMarks s a b c) (mostMarks s x y z)
+  marks-alike : (s : Asks) → Alike m (mostMarks s a b c) (mostMarks s x y z)
   unfolding mostMarks
-  marks-alike (shape p q r o w) = three-alike (names p) (names q) (names r) (marksBy w + a) (marksBy w + x) (marksBy w) (alike-add m (marksBy w) (marksBy w) a x refl e)
-  marks-alike noShape = refl
+  marks-alike (asks p q r o w) = three-alike (names p) (names q) (names r) (marksBy w + a) (marksBy w + x) (marksBy w) (alike-add m (marksBy w) (marksBy w) a x refl e)
+  marks-alike noAsks = refl
 
-  counts-alike : (w : Counted) (s : Shape) → Alike m (countBy w s a b c) (countBy w s x y z)
+  counts-alike : (w : Counted) (s : Asks) → Alike m (countBy w s a b c) (countBy w s x y z)
   counts-alike Leaves s = leaves-alike s
   counts-alike Binders s = binders-alike s
   counts-alike Marks s = marks-alike s
@@ -93,17 +93,17 @@ module _ (w : Counted) (rs t : List ℕ) (i : ℕ) (e : CountsTo w rs t i) where
   pub count-bound : {v y a : ℕ} → v ≡ y → a ≡ getD (take i t) v 0 → a ≤ suc (mostOf w)
   count-bound {v} {y} f h = omega (arith, count-read f h, stop-bound (suc (mostOf w)) (getD (counts (countBy w) rs i) y 0))
 
-  pub count-row : (s : Shaped) {a b c x : ℕ} → shapeBy s ≡ shapeOf (kindAt rs i) → a ≡ stop (suc (mostOf w)) (getD (counts (countBy w) rs i) (opA rs i) 0)
+  pub count-row : (s : CodeAsks) {a b c x : ℕ} → asksBy s ≡ asksAt rs i → a ≡ stop (suc (mostOf w)) (getD (counts (countBy w) rs i) (opA rs i) 0)
       → b ≡ stop (suc (mostOf w)) (getD (counts (countBy w) rs i) (opB rs i) 0) → c ≡ stop (suc (mostOf w)) (getD (counts (countBy w) rs i) (opC rs i) 0)
-      → x ≡ countBy w (shapeBy s) a b c → stop (suc (mostOf w)) x ≡ stop (suc (mostOf w)) (countOf w rs i)
+      → x ≡ countBy w (asksBy s) a b c → stop (suc (mostOf w)) x ≡ stop (suc (mostOf w)) (countOf w rs i)
   count-row s {a} {b} {c} f g h k z = let m = suc (mostOf w) in let l = counts (countBy w) rs i in
-      ap (stop m) z ∙ counts-alike m a b c (getD l (opA rs i) 0) (getD l (opB rs i) 0) (getD l (opC rs i) 0) (alike-stop m a _ g) (alike-stop m b _ h) (alike-stop m c _ k) w (shapeBy s)
+      ap (stop m) z ∙ counts-alike m a b c (getD l (opA rs i) 0) (getD l (opB rs i) 0) (getD l (opC rs i) 0) (alike-stop m a _ g) (alike-stop m b _ h) (alike-stop m c _ k) w (asksBy s)
       ∙ ap (λ s. stop m (countBy w s (getD l (opA rs i) 0) (getD l (opB rs i) 0) (getD l (opC rs i) 0))) f ∙ ap (stop m) (sym (count-is (countBy w) rs i))
 
   pub count-written : (v : ℕ) → i < length t → v ≡ stop (suc (mostOf w)) (countOf w rs i) → CountsTo w rs (set t i v) (i + 1)
   unfolding counts
   count-written v h f = let l = counts (countBy w) rs i in
-      one-more (stop (suc (mostOf w))) t l i v (countBy w (shapeOf (kindAt rs i)) (getD l (opA rs i) 0) (getD l (opB rs i) 0) (getD l (opC rs i) 0)) e h
+      one-more (stop (suc (mostOf w))) t l i v (countBy w (asksAt rs i) (getD l (opA rs i) 0) (getD l (opB rs i) 0) (getD l (opC rs i) 0)) e h
       (f ∙ ap (stop (suc (mostOf w))) (count-is (countBy w) rs i)) ∙ ap (λ k. map (stop (suc (mostOf w))) (counts (countBy w) rs k)) (sym (add-one i))
 
 pub counts-none : (w : Counted) (rs t : List ℕ) → CountsTo w rs t 0

@@ -10,27 +10,28 @@ use borrow.Author.Tests.{le-leb, lt-leb, eq-eqb, ne-eqb, not-true, not-false}
 use Rattle.tophat.specs.Syntax.{Ty}
 use Rattle.shape.specs.Shape.{maybeShape}
 use Rattle.shape.proofs.Puts.{shape-pos}
+use Rattle.rows.specs.GroundNumbers.{notListed, notSorted, notNamed, notSmall, notTyped}
 use Rattle.rows.specs.Rows.{maxRows, rowWords}
-use Rattle.rows.specs.Ground.{flowType, isSome, passes3, passes4, passes5, passes6, passes7, groundOfRows}
+use Rattle.rows.specs.Ground.{flowType, isSome, passes3, passes4, passes5, passes6, passes7, firstGround, groundOfRows}
 use Rattle.grounds.specs.Accepted.{groundOfForm, acceptedRows}
 
 module _ (rs : List ℕ) (n : ℕ) where
   module _ {x : Bool} (e : x ≡ passes3 rs n) where
-    pub form-3 : not x ≡ true → 3 ≡ groundOfForm rs n
+    pub form-3 : not x ≡ true → notListed ≡ groundOfForm rs n
     unfolding groundOfForm
     form-3 t = sym (rw (sym e, not-true x t))
 
     module _ (t : not x ≡ false) {y : Bool} (f : y ≡ passes4 rs n) where
-      pub form-4 : not y ≡ true → 4 ≡ groundOfForm rs n
+      pub form-4 : not y ≡ true → notSorted ≡ groundOfForm rs n
       unfolding groundOfForm
       form-4 u = sym (rw (sym e, not-false x t, sym f, not-true y u))
 
       module _ (u : not y ≡ false) {z : Bool} (g : z ≡ passes5 rs n) where
-        pub form-5 : not z ≡ true → 5 ≡ groundOfForm rs n
+        pub form-5 : not z ≡ true → notNamed ≡ groundOfForm rs n
         unfolding groundOfForm
         form-5 v = sym (rw (sym e, not-false x t, sym f, not-false y u, sym g, not-true z v))
 
-        pub form-6 : not z ≡ false → {w : Bool} → w ≡ passes6 rs n → not w ≡ true → 6 ≡ groundOfForm rs n
+        pub form-6 : not z ≡ false → {w : Bool} → w ≡ passes6 rs n → not w ≡ true → notSmall ≡ groundOfForm rs n
         unfolding groundOfForm
         form-6 v {w} h k = sym (rw (sym e, not-false x t, sym f, not-false y u, sym g, not-false z v, sym h, not-true w k))
 
@@ -40,22 +41,16 @@ module _ (rs : List ℕ) (n : ℕ) where
 
 -- grounds 3 to 6, then ground 7
 abbrev formBy : Bool → Bool → Bool → Bool → ℕ
-formBy a b c d = cond a (cond b (cond c (cond d 0 6) 5) 4) 3
+formBy a b c d = firstGround a b c d true
 
-abbrev groundBy : Bool → Bool → Bool → Bool → Bool → ℕ
-groundBy a b c d e = elim a [
-  | false ↦ 3
-  | true ↦ elim b [ false ↦ 4 | true ↦ elim c [ false ↦ 5 | true ↦ elim d [ false ↦ 6 | true ↦ elim e [ false ↦ 7 | true ↦ 0 ] ] ] ]
-]
-
-by-form : (a b c d e : Bool) → (formBy a b c d ≡ 0 → ⊥) → formBy a b c d ≡ groundBy a b c d e
+by-form : (a b c d e : Bool) → (formBy a b c d ≡ 0 → ⊥) → formBy a b c d ≡ firstGround a b c d e
 by-form false b c d e h = refl
 by-form true false c d e h = refl
 by-form true true false d e h = refl
 by-form true true true false e h = refl
 by-form true true true true e h = absurd (h refl)
 
-by-last : (a b c d e : Bool) → formBy a b c d ≡ 0 → cond e 0 7 ≡ groundBy a b c d e
+by-last : (a b c d e : Bool) → formBy a b c d ≡ 0 → cond e 0 notTyped ≡ firstGround a b c d e
 by-last false b c d e h = absurd (omega arith)
 by-last true false c d e h = absurd (omega arith)
 by-last true true false d e h = absurd (omega arith)
@@ -96,11 +91,11 @@ module _ (rs : List ℕ) (n : ℕ) {form : ℕ} (e : form ≡ groundOfForm rs n)
     unfolding groundOfForm
     type-is = f (by-sorted (passes3 rs n) (passes4 rs n) (passes5 rs n) (passes6 rs n) (sym e ∙ h)) (by-small (passes3 rs n) (passes4 rs n) (passes5 rs n) (passes6 rs n) (sym e ∙ h))
 
-    last : (b : Bool) → passes7 rs n ≡ b → cond b 0 7 ≡ groundOfRows rs n
+    last : (b : Bool) → passes7 rs n ≡ b → cond b 0 notTyped ≡ groundOfRows rs n
     unfolding groundOfForm groundOfRows
-    last b g = ap (λ b. cond b 0 7) (sym g) ∙ by-last (passes3 rs n) (passes4 rs n) (passes5 rs n) (passes6 rs n) (passes7 rs n) (sym e ∙ h)
+    last b g = ap (λ b. cond b 0 notTyped) (sym g) ∙ by-last (passes3 rs n) (passes4 rs n) (passes5 rs n) (passes6 rs n) (passes7 rs n) (sym e ∙ h)
 
-    pub ground-7 : t ≡ 0 → 7 ≡ groundOfRows rs n
+    pub ground-7 : t ≡ 0 → notTyped ≡ groundOfRows rs n
     unfolding passes7
     ground-7 g = last false (untyped (flowType rs n) (sym type-is ∙ g))
 

@@ -6,4 +6,3 @@ pub mod Stop
 pub mod Ground5
 pub mod Ground6
 pub mod Grounds
-pub mod SameWords

@@ -6,13 +6,13 @@ use Prim.Native.Nat.{ℕ, suc}
 use lib.Dec.{leb}
 use lib.ListN.{getD, take}
 use Rattle.tophat.specs.Syntax.{maxLeaves}
-use Rattle.rows.specs.Kinds.{Shape}
+use Rattle.rows.specs.Kinds.{Asks}
 use Rattle.rows.specs.Enclosing.{maxBinders, maxMarks, mostBinders, mostMarks, leavesBy, counts}
 use Rattle.grounds.specs.declared.small.Counted.{Counted}
 use Rattle.grounds.specs.declared.small.Counted.the-variants.{Leaves, Binders, Marks}
 use Rattle.grounds.specs.Tables.{stop}
 
-abbrev pub countBy : Counted → Shape → ℕ → ℕ → ℕ → ℕ
+abbrev pub countBy : Counted → Asks → ℕ → ℕ → ℕ → ℕ
 countBy Leaves = leavesBy
 countBy Binders = mostBinders
 countBy Marks = mostMarks

@@ -1,7 +1,13 @@
 // Grounds 3 to 7 over rows of words, each over all rows before the next (01, "Grounds in the input").
 
-use ranges;
+use match_laws;
+use rows::ROW_WORDS;
 use rows::ROWS_WORDS;
+use rows::grounds::NOT_LISTED;
+use rows::grounds::NOT_NAMED;
+use rows::grounds::NOT_SMALL;
+use rows::grounds::NOT_SORTED;
+use rows::grounds::NOT_TYPED;
 use shape;
 use tophat;
 use typing;
@@ -18,10 +24,6 @@ ghost use Prim.Native.Nat.{_≤_};
 ghost use Rattle.rows.specs.Rows.{maxRows};
 ghost use Rattle.rows.specs.Ground.{groundOfRows};
 ghost use Rattle.grounds.specs.Accepted.{groundOfForm, acceptedRows};
-use rows::MAX_ROWS;
-use rows::ROW_WORDS;
-
-// 01: "1 to 256 lines", "4 words a row"
 
 // grounds 3 to 6: 0 where none holds
 pub fn ground_of_form(rows: &[u32; ROWS_WORDS], n: usize) -> u32
@@ -29,16 +31,16 @@ pub fn ground_of_form(rows: &[u32; ROWS_WORDS], n: usize) -> u32
     ensures { λ r. ⌜ r ≡ groundOfForm (now (rows .entry)) n ⌝ }
 {
     if !listed::listed(rows, n) {
-        return 3;
+        return NOT_LISTED;
     }
     if !sorted::sorted(rows, n) {
-        return 4;
+        return NOT_SORTED;
     }
     if !named::named(rows, n) {
-        return 5;
+        return NOT_NAMED;
     }
     if !small::small(rows, n) {
-        return 6;
+        return NOT_SMALL;
     }
     0
 }
@@ -53,7 +55,7 @@ pub fn ground_of_rows(rows: &[u32; ROWS_WORDS], n: usize) -> u32
         return form;
     }
     if typing::flow_type(rows, n) == 0 {
-        return 7;
+        return NOT_TYPED;
     }
     0
 }

@@ -5,14 +5,17 @@ ghost use mathlib.Core.Bool.{_&&_};
 ghost use Prim.Native.Nat.{_<_, _≤_};
 ghost use lib.Dec.{leb};
 ghost use Rattle.rows.specs.Rows.{maxRows, listedAs, listed, truthCell, rowListed, every};
-ghost use Rattle.grounds.specs.Table.{askBy, shapeBy};
-use crate::table::Asked;
-use crate::table::Shaped;
-use crate::table::shape_at;
-use crate::table::word_at;
+ghost use Rattle.grounds.specs.Table.{askBy, asksBy};
+use crate::table::Ask;
+use crate::table::Asks;
+use crate::table::asks_at;
 use rows::MAX_ROWS;
 use rows::ROW_WORDS;
 use rows::ROWS_WORDS;
+use rows::get;
+use rows::kinds::CELL;
+use rows::kinds::TRUTH;
+use rows::operand;
 
 fn is_operator(w: u32) -> bool
     ensures { λ r. ⌜ r ≡ (leb 1 w && leb w 8) ⌝ }
@@ -23,28 +26,28 @@ fn is_operator(w: u32) -> bool
     }
 }
 
-fn listed_as(q: Asked, w: u32) -> bool
+fn listed_as(q: Ask, w: u32) -> bool
     ensures { λ r. ⌜ r ≡ listedAs (askBy q) w ⌝ }
 {
     match q {
-        Asked::Unused => w == 0,
-        Asked::Operator => is_operator(w),
-        Asked::Truth => w <= 1,
-        Asked::AnyWord => true,
-        Asked::AType => true,
-        Asked::ABasic => true,
-        Asked::ACell => true,
-        Asked::APlain => true,
-        Asked::ATask => true,
-        Asked::ABranch => true,
-        Asked::LikeB => true,
+        Ask::Unused => w == 0,
+        Ask::Operator => is_operator(w),
+        Ask::Truth => w <= 1,
+        Ask::AnyWord => true,
+        Ask::AType => true,
+        Ask::ABasic => true,
+        Ask::ACell => true,
+        Ask::APlain => true,
+        Ask::ATask => true,
+        Ask::ABranch => true,
+        Ask::LikeB => true,
     }
 }
 
-fn shape_listed(s: Shaped, a: u32, b: u32, c: u32) -> bool
-    ensures { λ r. ⌜ r ≡ listed (shapeBy s) a b c ⌝ }
+fn operands_listed(s: Asks, a: u32, b: u32, c: u32) -> bool
+    ensures { λ r. ⌜ r ≡ listed (asksBy s) a b c ⌝ }
 {
-    let Shaped::Known(p, q, t, _, _) = s else {
+    let Asks::Known(p, q, t, _, _) = s else {
         return false;
     };
     if !listed_as(p, a) {
@@ -60,28 +63,28 @@ fn truth_cell(rows: &[u32; ROWS_WORDS], i: usize) -> bool
     requires { ⌜ i < maxRows ⌝ }
     ensures { λ r. ⌜ r ≡ truthCell (now (rows .entry)) i ⌝ }
 {
-    if word_at(rows, i, 0) != 10 {
+    if get(rows, i, 0) != CELL {
         return true;
     }
-    let a = word_at(rows, i, 1) as usize;
+    let a = operand(rows, i, 1);
     if i <= a {
         return true;
     }
-    if word_at(rows, a, 0) != 2 {
+    if get(rows, a, 0) != TRUTH {
         return true;
     }
-    word_at(rows, i, 2) <= 1
+    get(rows, i, 2) <= 1
 }
 
 fn row_listed(rows: &[u32; ROWS_WORDS], i: usize) -> bool
     requires { ⌜ i < maxRows ⌝ }
     ensures { λ r. ⌜ r ≡ rowListed (now (rows .entry)) i ⌝ }
 {
-    let s = shape_at(rows, i);
-    let a = word_at(rows, i, 1);
-    let b = word_at(rows, i, 2);
-    let c = word_at(rows, i, 3);
-    if !shape_listed(s, a, b, c) {
+    let s = asks_at(rows, i);
+    let a = get(rows, i, 1);
+    let b = get(rows, i, 2);
+    let c = get(rows, i, 3);
+    if !operands_listed(s, a, b, c) {
         return false;
     }
     truth_cell(rows, i)

@@ -1,26 +1,27 @@
 // Ground 5: the naming rule broken, or the last row of a kind below 25 or 26 to 30. Namings are counted in one pass.
 
 ghost use mathlib.Core.Path.{_≡_};
-ghost use mathlib.Core.Bool.{_&&_, not};
+ghost use mathlib.Core.Bool.{_&&_};
 ghost use Prim.Native.Nat.{ℕ, _+_, _-_, _<_, _≤_};
-ghost use lib.Dec.{eqb, leb};
+ghost use lib.Dec.{eqb};
 ghost use lib.ListN.{getD};
-ghost use Rattle.rows.specs.Rows.{maxRows, names, count, namesBy, namesIn, namings, namedOnce, lastFits, every};
-ghost use Rattle.grounds.specs.Table.{askBy, shapeBy};
+ghost use Rattle.rows.specs.Rows.{maxRows, names, count, namesBy, namesIn, namings, namedOnce, fitsLast, lastFits, every};
+ghost use Rattle.grounds.specs.Table.{askBy, asksBy};
 ghost use Rattle.grounds.specs.Tables.{stop, More, maxNamings};
-use crate::table::Asked;
-use crate::table::Shaped;
+use crate::table::Ask;
+use crate::table::Asks;
+use crate::table::asks_at;
 use crate::table::names_row;
-use crate::table::shape_at;
-use crate::table::word_at;
 use rows::MAX_ROWS;
 use rows::ROW_WORDS;
 use rows::ROWS_WORDS;
+use rows::get;
+use rows::kinds::FIRST_EXPRESSION;
 
 // a count of namings stops here
 const MAX_NAMINGS: u8 = 2;
 
-fn name(table: &mut [u8; MAX_ROWS], q: Asked, w: u32)
+fn name(table: &mut [u8; MAX_ROWS], q: Ask, w: u32)
     ensures { λ r. ⌜ More (now (table .entry)) (now (table .exit)) (λ i. count (names (askBy q) && eqb w i)) ⌝ }
 {
     if !names_row(q) {
@@ -37,10 +38,10 @@ fn name(table: &mut [u8; MAX_ROWS], q: Asked, w: u32)
     table[at] = x + 1;
 }
 
-fn name_operands(table: &mut [u8; MAX_ROWS], s: Shaped, a: u32, b: u32, c: u32)
-    ensures { λ r. ⌜ More (now (table .entry)) (now (table .exit)) (λ i. namesBy (shapeBy s) a b c i) ⌝ }
+fn name_operands(table: &mut [u8; MAX_ROWS], s: Asks, a: u32, b: u32, c: u32)
+    ensures { λ r. ⌜ More (now (table .entry)) (now (table .exit)) (λ i. namesBy (asksBy s) a b c i) ⌝ }
 {
-    let Shaped::Known(p, q, t, _, _) = s else {
+    let Asks::Known(p, q, t, _, _) = s else {
         return;
     };
     name(table, p, a);
@@ -52,13 +53,13 @@ fn name_row(rows: &[u32; ROWS_WORDS], table: &mut [u8; MAX_ROWS], j: usize)
     requires { ⌜ j < maxRows ⌝ }
     ensures { λ r. ⌜ More (now (table .entry)) (now (table .exit)) (λ i. namesIn (now (rows .entry)) i j) ⌝ }
 {
-    if word_at(rows, j, 0) < 20 {
+    if get(rows, j, 0) < FIRST_EXPRESSION {
         return;
     }
-    let a = word_at(rows, j, 1);
-    let b = word_at(rows, j, 2);
-    let c = word_at(rows, j, 3);
-    name_operands(table, shape_at(rows, j), a, b, c);
+    let a = get(rows, j, 1);
+    let b = get(rows, j, 2);
+    let c = get(rows, j, 3);
+    name_operands(table, asks_at(rows, j), a, b, c);
 }
 
 fn name_rows(rows: &[u32; ROWS_WORDS], table: &mut [u8; MAX_ROWS], n: usize)
@@ -75,7 +76,7 @@ fn named_once(rows: &[u32; ROWS_WORDS], n: usize, i: usize, x: u8) -> bool
     requires { ⌜ (i < n) × (n ≤ maxRows) × (x ≡ stop maxNamings (namings (now rows) i n)) ⌝ }
     ensures { λ r. ⌜ r ≡ namedOnce (now (rows .entry)) n i ⌝ }
 {
-    if word_at(rows, i, 0) < 20 {
+    if get(rows, i, 0) < FIRST_EXPRESSION {
         return true;
     }
     if i + 1 == n {
@@ -97,7 +98,7 @@ fn all_named(rows: &[u32; ROWS_WORDS], n: usize, table: &[u8; MAX_ROWS]) -> bool
 }
 
 fn last_fits(k: u32) -> bool
-    ensures { λ r. ⌜ r ≡ (leb 25 k && not (leb 26 k && leb k 30)) ⌝ }
+    ensures { λ r. ⌜ r ≡ fitsLast k ⌝ }
 {
     match k {
         0..=24 => false,
@@ -115,5 +116,5 @@ pub fn named(rows: &[u32; ROWS_WORDS], n: usize) -> bool
     if !all_named(rows, n, &table) {
         return false;
     }
-    last_fits(word_at(rows, n - 1, 0))
+    last_fits(get(rows, n - 1, 0))
 }

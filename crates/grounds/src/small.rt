@@ -6,20 +6,20 @@ ghost use mathlib.Core.Bool.{cond};
 ghost use Prim.Native.Nat.{suc, _+_, _<_, _≤_, max};
 ghost use Rattle.rows.specs.Rows.{maxRows, names, every};
 ghost use Rattle.rows.specs.Enclosing.{maxBinders, bindersBy, marksBy, mostBinders, mostMarks, leavesBy, rowSmall};
-ghost use Rattle.grounds.specs.Table.{askBy, aroundBy, shapeBy};
+ghost use Rattle.grounds.specs.Table.{askBy, aroundBy, asksBy};
 ghost use Rattle.grounds.specs.Tables.{stop};
 ghost use Rattle.grounds.specs.Counts.{countBy, mostOf, countOf, fewAt, CountsTo};
-use crate::table::Asked;
-use crate::table::Owned;
-use crate::table::Puts;
-use crate::table::Shaped;
+use crate::table::Around;
+use crate::table::Ask;
+use crate::table::Asks;
+use crate::table::Own;
+use crate::table::asks_at;
 use crate::table::below;
 use crate::table::names_row;
-use crate::table::shape_at;
-use crate::table::word_at;
 use rows::MAX_ROWS;
 use rows::ROW_WORDS;
 use rows::ROWS_WORDS;
+use rows::get;
 
 const MAX_LEAVES: u8 = tophat::MAX_LEAVES as u8;
 
@@ -52,7 +52,7 @@ fn larger(a: u8, b: u8) -> u8
     a
 }
 
-fn if_named(q: Asked, a: u8) -> u8
+fn if_named(q: Ask, a: u8) -> u8
     ensures { λ r. ⌜ r ≡ cond (names (askBy q)) a 0 ⌝ }
 {
     if names_row(q) {
@@ -61,28 +61,28 @@ fn if_named(q: Asked, a: u8) -> u8
     0
 }
 
-fn binder_of(x: Puts) -> u8
+fn binder_of(x: Around) -> u8
     ensures { λ r. ⌜ (r ≡ bindersBy (aroundBy x)) × (r ≤ 1) ⌝ }
 {
     match x {
-        Puts::Nought => 0,
-        Puts::Binder => 1,
-        Puts::Mark => 0,
+        Around::Nothing => 0,
+        Around::Binder => 1,
+        Around::Mark => 0,
     }
 }
 
-fn mark_of(x: Puts) -> u8
+fn mark_of(x: Around) -> u8
     ensures { λ r. ⌜ (r ≡ marksBy (aroundBy x)) × (r ≤ 1) ⌝ }
 {
     match x {
-        Puts::Nought => 0,
-        Puts::Binder => 0,
-        Puts::Mark => 1,
+        Around::Nothing => 0,
+        Around::Binder => 0,
+        Around::Mark => 1,
     }
 }
 
 // leaves of a type row: one, or those of a pair
-fn type_leaves(p: Asked, a: u8, b: u8) -> u8
+fn type_leaves(p: Ask, a: u8, b: u8) -> u8
     requires { ⌜ (a ≤ suc maxBinders) × (b ≤ suc maxBinders) ⌝ }
     ensures { λ r. ⌜ r ≡ cond (names (askBy p)) (a + b) 1 ⌝ }
 {
@@ -92,28 +92,28 @@ fn type_leaves(p: Asked, a: u8, b: u8) -> u8
     1
 }
 
-fn leaves_by(s: Shaped, a: u8, b: u8, c: u8) -> u8
+fn leaves_by(s: Asks, a: u8, b: u8, c: u8) -> u8
     requires { ⌜ (a ≤ suc maxBinders) × (b ≤ suc maxBinders) ⌝ }
-    ensures { λ r. ⌜ r ≡ leavesBy (shapeBy s) a b c ⌝ }
+    ensures { λ r. ⌜ r ≡ leavesBy (asksBy s) a b c ⌝ }
 {
-    let Shaped::Known(p, _, _, o, _) = s else {
+    let Asks::Known(p, _, _, o, _) = s else {
         return 0;
     };
     match o {
-        Owned::OwnType => type_leaves(p, a, b),
-        Owned::OwnBasic => type_leaves(p, a, b),
-        Owned::OwnCell => 0,
-        Owned::OwnPlain => 0,
-        Owned::OwnTask => 0,
-        Owned::AsB => 0,
+        Own::OwnType => type_leaves(p, a, b),
+        Own::OwnBasic => type_leaves(p, a, b),
+        Own::OwnCell => 0,
+        Own::OwnPlain => 0,
+        Own::OwnTask => 0,
+        Own::AsB => 0,
     }
 }
 
-fn binders_by(s: Shaped, a: u8, b: u8, c: u8) -> u8
+fn binders_by(s: Asks, a: u8, b: u8, c: u8) -> u8
     requires { ⌜ b ≤ suc maxBinders ⌝ }
-    ensures { λ r. ⌜ r ≡ mostBinders (shapeBy s) a b c ⌝ }
+    ensures { λ r. ⌜ r ≡ mostBinders (asksBy s) a b c ⌝ }
 {
-    let Shaped::Known(p, q, t, _, x) = s else {
+    let Asks::Known(p, q, t, _, x) = s else {
         return 0;
     };
     let u = if_named(p, a);
@@ -122,11 +122,11 @@ fn binders_by(s: Shaped, a: u8, b: u8, c: u8) -> u8
     larger(u, larger(v, w))
 }
 
-fn marks_by(s: Shaped, a: u8, b: u8, c: u8) -> u8
+fn marks_by(s: Asks, a: u8, b: u8, c: u8) -> u8
     requires { ⌜ (a ≤ suc maxBinders) × (b ≤ suc maxBinders) ⌝ }
-    ensures { λ r. ⌜ r ≡ mostMarks (shapeBy s) a b c ⌝ }
+    ensures { λ r. ⌜ r ≡ mostMarks (asksBy s) a b c ⌝ }
 {
-    let Shaped::Known(p, q, t, _, x) = s else {
+    let Asks::Known(p, q, t, _, x) = s else {
         return 0;
     };
     let m = mark_of(x);
@@ -136,9 +136,9 @@ fn marks_by(s: Shaped, a: u8, b: u8, c: u8) -> u8
     larger(u, larger(v, w))
 }
 
-fn count_by(w: Counted, s: Shaped, a: u8, b: u8, c: u8) -> u8
+fn count_by(w: Counted, s: Asks, a: u8, b: u8, c: u8) -> u8
     requires { ⌜ (a ≤ suc (mostOf w)) × (b ≤ suc (mostOf w)) ⌝ }
-    ensures { λ r. ⌜ r ≡ countBy w (shapeBy s) a b c ⌝ }
+    ensures { λ r. ⌜ r ≡ countBy w (asksBy s) a b c ⌝ }
 {
     match w {
         Counted::Leaves => leaves_by(s, a, b, c),
@@ -152,10 +152,10 @@ fn row_count(rows: &[u32; ROWS_WORDS], table: &[u8; MAX_ROWS], i: usize, w: Coun
     requires { ⌜ (i < maxRows) × CountsTo w (now rows) (now table) i ⌝ }
     ensures { λ r. ⌜ (r ≡ stop (suc (mostOf w)) (countOf w (now (rows .entry)) i)) × (r ≤ suc (mostOf w)) ⌝ }
 {
-    let a = below(table, i, word_at(rows, i, 1));
-    let b = below(table, i, word_at(rows, i, 2));
-    let c = below(table, i, word_at(rows, i, 3));
-    let x = count_by(w, shape_at(rows, i), a, b, c);
+    let a = below(table, i, get(rows, i, 1));
+    let b = below(table, i, get(rows, i, 2));
+    let c = below(table, i, get(rows, i, 3));
+    let x = count_by(w, asks_at(rows, i), a, b, c);
     let most = most_of(w);
     if x <= most {
         return x;

@@ -4,19 +4,19 @@ ghost use mathlib.Core.Path.{_≡_};
 ghost use mathlib.Core.Bool.{_||_};
 ghost use Prim.Native.Nat.{_<_, _≤_};
 ghost use lib.Dec.{eqb};
-ghost use Rattle.rows.specs.Kinds.{Sort, shapeOf};
-ghost use Rattle.rows.specs.Rows.{maxRows, kindAt, opB, sortBy, sortBelow, sortNumber, sortedAs, sorted, rowSorted, every};
-ghost use Rattle.grounds.specs.Table.{askBy, shapeBy};
+ghost use Rattle.rows.specs.Kinds.{Sort};
+ghost use Rattle.rows.specs.Rows.{maxRows, asksAt, opB, sortBy, sortBelow, sortNumber, sortedAs, sorted, rowSorted, every};
+ghost use Rattle.grounds.specs.Table.{askBy, asksBy};
 ghost use Rattle.grounds.specs.Tables.{SortsTo};
-use crate::table::Asked;
-use crate::table::Owned;
-use crate::table::Shaped;
+use crate::table::Ask;
+use crate::table::Asks;
+use crate::table::Own;
+use crate::table::asks_at;
 use crate::table::below;
-use crate::table::shape_at;
-use crate::table::word_at;
 use rows::MAX_ROWS;
 use rows::ROW_WORDS;
 use rows::ROWS_WORDS;
+use rows::get;
 
 const TYPE: u8 = 1;
 
@@ -29,19 +29,19 @@ const PLAIN: u8 = 4;
 const TASK: u8 = 5;
 
 // the number of a row's own sort, where b is that of its B
-fn sort_by(s: Shaped, b: u8) -> u8
-    ensures { λ r. ⌜ ((u : Sort) → b ≡ sortNumber u → r ≡ sortNumber (sortBy (shapeBy s) u)) ⌝ }
+fn sort_by(s: Asks, b: u8) -> u8
+    ensures { λ r. ⌜ ((u : Sort) → b ≡ sortNumber u → r ≡ sortNumber (sortBy (asksBy s) u)) ⌝ }
 {
-    let Shaped::Known(_, _, _, o, _) = s else {
+    let Asks::Known(_, _, _, o, _) = s else {
         return 0;
     };
     match o {
-        Owned::OwnType => TYPE,
-        Owned::OwnBasic => BASIC,
-        Owned::OwnCell => CELL,
-        Owned::OwnPlain => PLAIN,
-        Owned::OwnTask => TASK,
-        Owned::AsB => b,
+        Own::OwnType => TYPE,
+        Own::OwnBasic => BASIC,
+        Own::OwnCell => CELL,
+        Own::OwnPlain => PLAIN,
+        Own::OwnTask => TASK,
+        Own::AsB => b,
     }
 }
 
@@ -54,28 +54,28 @@ fn one_of(s: u8, a: u8, b: u8) -> bool
     s == b
 }
 
-fn sorted_as(q: Asked, s: u8, b: u8) -> bool
+fn sorted_as(q: Ask, s: u8, b: u8) -> bool
     ensures { λ r. ⌜ ((u v : Sort) → s ≡ sortNumber u → b ≡ sortNumber v → r ≡ sortedAs (askBy q) u v) ⌝ }
 {
     match q {
-        Asked::Unused => true,
-        Asked::Operator => true,
-        Asked::Truth => true,
-        Asked::AnyWord => true,
-        Asked::AType => one_of(s, TYPE, BASIC),
-        Asked::ABasic => s == BASIC,
-        Asked::ACell => s == CELL,
-        Asked::APlain => s == PLAIN,
-        Asked::ATask => s == TASK,
-        Asked::ABranch => one_of(s, PLAIN, TASK),
-        Asked::LikeB => s == b,
+        Ask::Unused => true,
+        Ask::Operator => true,
+        Ask::Truth => true,
+        Ask::AnyWord => true,
+        Ask::AType => one_of(s, TYPE, BASIC),
+        Ask::ABasic => s == BASIC,
+        Ask::ACell => s == CELL,
+        Ask::APlain => s == PLAIN,
+        Ask::ATask => s == TASK,
+        Ask::ABranch => one_of(s, PLAIN, TASK),
+        Ask::LikeB => s == b,
     }
 }
 
-fn shape_sorted(s: Shaped, a: u8, b: u8, c: u8) -> bool
-    ensures { λ r. ⌜ ((u v w : Sort) → a ≡ sortNumber u → b ≡ sortNumber v → c ≡ sortNumber w → r ≡ sorted (shapeBy s) u v w) ⌝ }
+fn operands_sorted(s: Asks, a: u8, b: u8, c: u8) -> bool
+    ensures { λ r. ⌜ ((u v w : Sort) → a ≡ sortNumber u → b ≡ sortNumber v → c ≡ sortNumber w → r ≡ sorted (asksBy s) u v w) ⌝ }
 {
-    let Shaped::Known(p, q, t, _, _) = s else {
+    let Asks::Known(p, q, t, _, _) = s else {
         return false;
     };
     if !sorted_as(p, a, b) {
@@ -91,18 +91,18 @@ fn row_sorted(rows: &[u32; ROWS_WORDS], table: &[u8; MAX_ROWS], i: usize) -> boo
     requires { ⌜ (i < maxRows) × SortsTo (now rows) (now table) i ⌝ }
     ensures { λ r. ⌜ r ≡ rowSorted (now (rows .entry)) i ⌝ }
 {
-    let a = below(table, i, word_at(rows, i, 1));
-    let b = below(table, i, word_at(rows, i, 2));
-    let c = below(table, i, word_at(rows, i, 3));
-    shape_sorted(shape_at(rows, i), a, b, c)
+    let a = below(table, i, get(rows, i, 1));
+    let b = below(table, i, get(rows, i, 2));
+    let c = below(table, i, get(rows, i, 3));
+    operands_sorted(asks_at(rows, i), a, b, c)
 }
 
 fn own_sort(rows: &[u32; ROWS_WORDS], table: &[u8; MAX_ROWS], i: usize) -> u8
     requires { ⌜ (i < maxRows) × SortsTo (now rows) (now table) i ⌝ }
-    ensures { λ r. ⌜ r ≡ sortNumber (sortBy (shapeOf (kindAt (now (rows .entry)) i)) (sortBelow (now (rows .entry)) i (opB (now (rows .entry)) i))) ⌝ }
+    ensures { λ r. ⌜ r ≡ sortNumber (sortBy (asksAt (now (rows .entry)) i) (sortBelow (now (rows .entry)) i (opB (now (rows .entry)) i))) ⌝ }
 {
-    let b = below(table, i, word_at(rows, i, 2));
-    sort_by(shape_at(rows, i), b)
+    let b = below(table, i, get(rows, i, 2));
+    sort_by(asks_at(rows, i), b)
 }
 
 pub fn sorted(rows: &[u32; ROWS_WORDS], n: usize) -> bool

@@ -3,18 +3,19 @@
 ghost use mathlib.Core.Path.{_≡_};
 ghost use Prim.Native.Nat.{_<_, _≤_};
 ghost use lib.ListN.{getD, take};
-ghost use Rattle.rows.specs.Kinds.{kindOf, shapeOf};
-ghost use Rattle.rows.specs.Rows.{maxRows, rowWords, word, kindAt, names};
-ghost use Rattle.grounds.specs.Table.{askBy, shapeBy};
-use crate::table::Asked::*;
-use crate::table::Owned::*;
-use crate::table::Puts::*;
-use crate::table::Shaped::*;
+ghost use Rattle.rows.specs.Kinds.{asksOf};
+ghost use Rattle.rows.specs.Rows.{maxRows, rowWords, word, asksAt, names};
+ghost use Rattle.grounds.specs.Table.{askBy, asksBy};
+use crate::table::Around::*;
+use crate::table::Ask::*;
+use crate::table::Asks::*;
+use crate::table::Own::*;
 use rows::MAX_ROWS;
 use rows::ROW_WORDS;
 use rows::ROWS_WORDS;
+use rows::get;
 
-pub enum Asked {
+pub enum Ask {
     Unused,
     Operator,
     Truth,
@@ -28,7 +29,7 @@ pub enum Asked {
     LikeB,
 }
 
-pub enum Owned {
+pub enum Own {
     OwnType,
     OwnBasic,
     OwnCell,
@@ -37,77 +38,70 @@ pub enum Owned {
     AsB,
 }
 
-pub enum Puts {
-    Nought,
+pub enum Around {
+    Nothing,
     Binder,
     Mark,
 }
 
-pub enum Shaped {
-    Known(Asked, Asked, Asked, Owned, Puts),
+pub enum Asks {
+    Known(Ask, Ask, Ask, Own, Around),
     Unknown,
 }
 
-pub fn shape_of(k: u32) -> Shaped
-    ensures { λ r. ⌜ shapeBy r ≡ shapeOf (kindOf k) ⌝ }
+pub fn asks_of(k: u32) -> Asks
+    ensures { λ r. ⌜ asksBy r ≡ asksOf k ⌝ }
 {
     match k {
-        1 => Known(Unused, Unused, Unused, OwnType, Nought),
-        2..=3 => Known(Unused, Unused, Unused, OwnBasic, Nought),
-        4 => Known(AType, AType, Unused, OwnType, Nought),
-        10 => Known(ABasic, AnyWord, Unused, OwnCell, Nought),
-        20 => Known(Unused, Unused, Unused, OwnPlain, Nought),
-        21 => Known(Truth, Unused, Unused, OwnPlain, Nought),
-        22..=23 => Known(AnyWord, Unused, Unused, OwnPlain, Nought),
-        24 => Known(Operator, APlain, APlain, OwnPlain, Nought),
-        25 => Known(APlain, ABranch, LikeB, AsB, Nought),
-        26 => Known(APlain, APlain, Unused, OwnPlain, Nought),
-        27..=28 => Known(APlain, Unused, Unused, OwnPlain, Nought),
-        29 => Known(ACell, Unused, Unused, OwnPlain, Nought),
-        30 => Known(ACell, APlain, Unused, OwnPlain, Nought),
+        1 => Known(Unused, Unused, Unused, OwnType, Nothing),
+        2..=3 => Known(Unused, Unused, Unused, OwnBasic, Nothing),
+        4 => Known(AType, AType, Unused, OwnType, Nothing),
+        10 => Known(ABasic, AnyWord, Unused, OwnCell, Nothing),
+        20 => Known(Unused, Unused, Unused, OwnPlain, Nothing),
+        21 => Known(Truth, Unused, Unused, OwnPlain, Nothing),
+        22..=23 => Known(AnyWord, Unused, Unused, OwnPlain, Nothing),
+        24 => Known(Operator, APlain, APlain, OwnPlain, Nothing),
+        25 => Known(APlain, ABranch, LikeB, AsB, Nothing),
+        26 => Known(APlain, APlain, Unused, OwnPlain, Nothing),
+        27..=28 => Known(APlain, Unused, Unused, OwnPlain, Nothing),
+        29 => Known(ACell, Unused, Unused, OwnPlain, Nothing),
+        30 => Known(ACell, APlain, Unused, OwnPlain, Nothing),
         31 => Known(APlain, ABranch, Unused, AsB, Binder),
-        40 => Known(APlain, Unused, Unused, OwnTask, Nought),
-        41 => Known(AType, Unused, Unused, OwnTask, Nought),
-        42 => Known(ACell, Unused, Unused, OwnTask, Nought),
+        40 => Known(APlain, Unused, Unused, OwnTask, Nothing),
+        41 => Known(AType, Unused, Unused, OwnTask, Nothing),
+        42 => Known(ACell, Unused, Unused, OwnTask, Nothing),
         43..=44 => Known(ATask, ATask, Unused, OwnTask, Binder),
-        45 => Known(AType, Unused, Unused, OwnTask, Nought),
+        45 => Known(AType, Unused, Unused, OwnTask, Nothing),
         46..=47 => Known(ATask, ATask, Unused, OwnTask, Mark),
-        48 => Known(ATask, ATask, Unused, OwnTask, Nought),
+        48 => Known(ATask, ATask, Unused, OwnTask, Nothing),
         _ => Unknown,
     }
 }
 
 // the operand names a row
-pub fn names_row(q: Asked) -> bool
+pub fn names_row(q: Ask) -> bool
     ensures { λ r. ⌜ r ≡ names (askBy q) ⌝ }
 {
     match q {
-        Asked::Unused => false,
-        Asked::Operator => false,
-        Asked::Truth => false,
-        Asked::AnyWord => false,
-        Asked::AType => true,
-        Asked::ABasic => true,
-        Asked::ACell => true,
-        Asked::APlain => true,
-        Asked::ATask => true,
-        Asked::ABranch => true,
-        Asked::LikeB => true,
+        Ask::Unused => false,
+        Ask::Operator => false,
+        Ask::Truth => false,
+        Ask::AnyWord => false,
+        Ask::AType => true,
+        Ask::ABasic => true,
+        Ask::ACell => true,
+        Ask::APlain => true,
+        Ask::ATask => true,
+        Ask::ABranch => true,
+        Ask::LikeB => true,
     }
 }
 
-pub fn word_at(rows: &[u32; ROWS_WORDS], i: usize, k: usize) -> u32
-    requires { ⌜ (i < maxRows) × (k < rowWords) ⌝ }
-    ensures { λ r. ⌜ r ≡ word (now (rows .entry)) i k ⌝ }
-{
-    rows[i * ROW_WORDS + k]
-}
-
-pub fn shape_at(rows: &[u32; ROWS_WORDS], i: usize) -> Shaped
+pub fn asks_at(rows: &[u32; ROWS_WORDS], i: usize) -> Asks
     requires { ⌜ i < maxRows ⌝ }
-    ensures { λ r. ⌜ shapeBy r ≡ shapeOf (kindAt (now (rows .entry)) i) ⌝ }
+    ensures { λ r. ⌜ asksBy r ≡ asksAt (now (rows .entry)) i ⌝ }
 {
-    shape_of(word_at(rows, i, 0))
+    asks_of(get(rows, i, 0))
 }
 
 // what a table says of row w, where it is lower than row i; else 0

@@ -3,7 +3,7 @@
 use mathlib.Core.Path.{_≡_, refl, sym, _∙_, subst}
 use mathlib.Core.Bool.{Bool, true, false}
 use mathlib.Core.List.{List, [], _∷_}
-use Prim.Native.Nat.{ℕ, _≤_}
+use Prim.Native.Nat.{ℕ}
 use native.Mathlib.Decide.{ℕ-discrete}
 use native.Mathlib.Omega.{arith}
 use Rattle.decimal.specs.Path.{Path}
@@ -14,16 +14,18 @@ use Rattle.tophat.specs.Typing.{CodeType}
 use Rattle.tophat.specs.Handling.{continue, left, right, Action, press}
 use Rattle.tophat.proofs.ComputeNormalising.{settle}
 use Rattle.tophat.proofs.ComputeHandling.{atSides, unlessFailing, handle}
-use Rattle.rows.specs.Rows.{word, opA, opB}
+use Rattle.rows.specs.Kinds.{taskK, editK, nextK, andK, xorK}
+use Rattle.rows.specs.Rows.{opA, opB, OfKind, FromKind, UpToKind}
 use Rattle.state.specs.Layout.{one, other}
 use Rattle.state.specs.Holds.{Sits, Holds, World}
 use Rattle.state.specs.Words.{Laid}
 use Rattle.state.specs.Contracts.{Handled, HandleOk}
 use Rattle.state.proofs.Frames.{same-trans, same-weak, laid-same, keeps, keeps-laid, clear-kept, holds-kept, stores-laid, kids-xor}
-use Rattle.tasks.proofs.Forms.{Unhanded, on-unpicked, on-no-if, on-no-let}
-use Rattle.cycle.specs.Trying.{SettleOk}
+use Rattle.running.proofs.Forms.{on-unpicked, on-no-if, on-no-let}
+use Rattle.running.specs.Hands.{Unhanded}
+use Rattle.normalising.specs.Trying.{SettleOk}
 use Rattle.handle.specs.declared.Event.{Event}
-use Rattle.handle.specs.Events.{giving, continuing, leftward, rightward, Readable, eventPath, eventAction}
+use Rattle.handle.specs.Events.{giveNumber, continueNumber, leftNumber, rightNumber, KnownAction, eventPath, eventAction}
 use Rattle.handle.specs.Taking.{Picked, PickOk}
 use Rattle.handle.proofs.Numbers.{some-marks, is-give, is-continue, is-left, is-right}
 
@@ -69,7 +71,7 @@ module _ (rs ws ws₁ : List ℕ) (i : ℕ) (env : List ℕ) (d : ℕ) (r : Bool
         },
       )
 
-module _ (rs ws ws₁ : List ℕ) (i : ℕ) (env : List ℕ) (d : ℕ) (r : Bool) (e : Event) (v : Unhanded rs ws i) (q : word rs i 0 ≡ 48) where
+module _ (rs ws ws₁ : List ℕ) (i : ℕ) (env : List ℕ) (d : ℕ) (r : Bool) (e : Event) (v : Unhanded rs ws i) (q : OfKind rs i (taskK xorK)) where
   -- by what the event is
   module _ (p : Path) (x : Action) (ep : eventPath e ≡ p) (ex : eventAction e ≡ x) where
     chosen : ((a b : Code) (τ : Ty) (Σ Γ : List Ty) (s : Store) (ρ : Env) → Sits rs d i (xor a b) → Holds rs ws i (xor a b) unpicked → CodeType Σ Γ a τ → CodeType Σ Γ b τ → World rs ws env d Σ Γ s ρ
@@ -79,32 +81,32 @@ module _ (rs ws ws₁ : List ℕ) (i : ℕ) (env : List ℕ) (d : ℕ) (r : Bool
         (λ a b τ z h y n. subst (λ p. Handled rs ws ws₁ i env d (xor a b) r (handle (xor a b) ρ s unpicked p (eventAction e))) (sym ep)
         (subst (λ x. Handled rs ws ws₁ i env d (xor a b) r (handle (xor a b) ρ s unpicked p x)) (sym ex) (f a b τ Σ Γ s ρ z h y n w))) c z τ t y h
 
-  pub handle-left : (a : ℕ) → (e .path ≡ 0) × (e .action ≡ leftward) → a ≡ opA rs i → PickOk rs ws ws₁ i a one env d r → HandleOk rs ws ws₁ i env d (eventPath e) (eventAction e) r
+  pub handle-left : (a : ℕ) → (e .path ≡ 0) × (e .action ≡ leftNumber) → a ≡ opA rs i → PickOk rs ws ws₁ i a one env d r → HandleOk rs ws ws₁ i env d (eventPath e) (eventAction e) r
   unfolding handle atSides
   handle-left a (ep, en) ea h = chosen [] (press left) (path-0 (e .path) ep) (is-left (e .action) (e .leaves) (λ k. omega arith) (λ k. omega arith) en)
       (λ a₁ b₁ τ Σ Γ s ρ z g y n w. picked-left rs ws ws₁ i env d r a₁ b₁ z g _ _ _ (subst (λ a. PickOk rs ws ws₁ i a one env d r) ea h a₁ (z .1) Σ Γ τ s ρ y w (g .1)))
 
-  pub handle-right : (b : ℕ) → (e .path ≡ 0) × (e .action ≡ rightward) → b ≡ opB rs i → PickOk rs ws ws₁ i b other env d r → HandleOk rs ws ws₁ i env d (eventPath e) (eventAction e) r
+  pub handle-right : (b : ℕ) → (e .path ≡ 0) × (e .action ≡ rightNumber) → b ≡ opB rs i → PickOk rs ws ws₁ i b other env d r → HandleOk rs ws ws₁ i env d (eventPath e) (eventAction e) r
   unfolding handle atSides
   handle-right b (ep, en) eb h = chosen [] (press right) (path-0 (e .path) ep) (is-right (e .action) (e .leaves) (λ k. omega arith) (λ k. omega arith) (λ k. omega arith))
       (λ a₁ b₁ τ Σ Γ s ρ z g y n w. picked-right rs ws ws₁ i env d r a₁ b₁ z g _ _ _ (subst (λ b. PickOk rs ws ws₁ i b other env d r) eb h b₁ (z .2) Σ Γ τ s ρ n w (g .2)))
 
-module _ (rs ws : List ℕ) (i : ℕ) (env : List ℕ) (d : ℕ) (e : Event) (v : Unhanded rs ws i) (q : word rs i 0 ≡ 48) where
+module _ (rs ws : List ℕ) (i : ℕ) (env : List ℕ) (d : ℕ) (e : Event) (v : Unhanded rs ws i) (q : OfKind rs i (taskK xorK)) where
   -- a mark is left over, a value, or Continue
-  pub handle-unpicked : Readable e → (e .path ≡ 0 → e .action ≡ leftward → ⊥) → (e .path ≡ 0 → e .action ≡ rightward → ⊥) → HandleOk rs ws ws i env d (eventPath e) (eventAction e) false
+  pub handle-unpicked : KnownAction e → (e .path ≡ 0 → e .action ≡ leftNumber → ⊥) → (e .path ≡ 0 → e .action ≡ rightNumber → ⊥) → HandleOk rs ws ws i env d (eventPath e) (eventAction e) false
   unfolding handle atSides
-  handle-unpicked l h g = by (ℕ-discrete (e .path) 0) (ℕ-discrete (e .action) giving)
+  handle-unpicked l h g = by (ℕ-discrete (e .path) 0) (ℕ-discrete (e .action) giveNumber)
     where
-      by : Dec (e .path ≡ 0) → Dec (e .action ≡ giving) → HandleOk rs ws ws i env d (eventPath e) (eventAction e) false
+      by : Dec (e .path ≡ 0) → Dec (e .action ≡ giveNumber) → HandleOk rs ws ws i env d (eventPath e) (eventAction e) false
       by (no n) k = chosen rs ws ws i env d false e v q _ _ (some-marks (e .path) n) refl (λ a b τ Σ Γ s ρ z g y n w. (refl, refl))
       by (yes p) (yes k) = chosen rs ws ws i env d false e v q [] _ (path-0 (e .path) p) (is-give (e .action) (e .leaves) k) (λ a b τ Σ Γ s ρ z g y n w. (refl, refl))
       by (yes p) (no k) =
-          let m : e .action ≡ continuing = (let x = h p in let y = g p in omega (arith, l .0, l .1)) in
+          let m : e .action ≡ continueNumber = (let x = h p in let y = g p in omega (arith, l .0, l .1)) in
           chosen rs ws ws i env d false e v q [] (press continue) (path-0 (e .path) p) (is-continue (e .action) (e .leaves) k m) (λ a b τ Σ Γ s ρ z g y n w. (refl, refl))
 
 -- ---- rows that take no event: 45, and what is no task
 
-pub handle-none : (rs ws : List ℕ) (i : ℕ) (env : List ℕ) (d : ℕ) (p : Path) (x : Action) → Unhanded rs ws i → (40 ≤ word rs i 0 → word rs i 0 ≤ 44 → ⊥) → (46 ≤ word rs i 0 → word rs i 0 ≤ 48 → ⊥)
+pub handle-none : (rs ws : List ℕ) (i : ℕ) (env : List ℕ) (d : ℕ) (p : Path) (x : Action) → Unhanded rs ws i → (FromKind rs i (taskK editK) → UpToKind rs i (taskK nextK) → ⊥) → (FromKind rs i (taskK andK) → UpToKind rs i (taskK xorK) → ⊥)
     → HandleOk rs ws ws i env d p x false
 unfolding handle
 handle-none rs ws i env d p x v l h (edit e) z Σ Γ τ s ρ t y w g = absurd (let k = z .0 in l (omega arith) (omega arith))

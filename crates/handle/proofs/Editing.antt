@@ -3,7 +3,7 @@
 use mathlib.Core.Path.{_≡_, refl, sym, ap, _∙_, subst}
 use mathlib.Core.Logic.{inl, inr}
 use mathlib.Core.Bool.{Bool, true, false}
-use mathlib.Core.Option.{Option, none, some}
+use mathlib.Core.Option.{Option, none, some, bind}
 use mathlib.Core.List.{List, [], _∷_}
 use Prim.Native.Nat.{ℕ, _≤_}
 use native.Mathlib.Decide.{ℕ-discrete}
@@ -11,22 +11,29 @@ use native.Mathlib.Omega.{arith}
 use lib.IntN.{ℤ}
 use lib.ListN.{getD, set}
 use borrow.Author.Tests.{eq-eqb}
+use Rattle.word.specs.Word.{AllBits}
 use Rattle.decimal.specs.Path.{Path}
 use Rattle.decimal.proofs.PathNumbers.{path-0}
 use Rattle.tophat.specs.Syntax.{maxLeaves, Ty, leaves, Code, edit, enter, update, Val, vunit, Store}
 use Rattle.tophat.specs.Syntax.{TaskOf, filled, entered, shared}
-use Rattle.tophat.specs.Typing.{TaskType, k-blank, k-entered}
+use Rattle.tophat.specs.Typing.{TaskType, k-blank, k-entered, typeOf}
 use Rattle.tophat.specs.Handling.{Action, give, press}
-use Rattle.tophat.proofs.ComputeHandling.{typeOf, given, thenSome, atEditor, handle}
+use Rattle.tophat.proofs.ComputeHandling.{thenSome, atEditor, handle}
+use Rattle.tophat.specs.Leaves.{given}
 use Rattle.tophat.proofs.EvaluationAgrees.{look-up}
 use Rattle.tophat.proofs.Leaves.{type-of}
 use Rattle.tophat.proofs.TypeLeaves.{at-leaves, type-leaves}
-use Rattle.rows.specs.Rows.{word, opA}
-use Rattle.shape.specs.Shape.{asShape}
+use Rattle.rows.specs.Kinds.{taskK, editK, enterK, updateK}
+use Rattle.rows.specs.Rows.{word, opA, OfKind}
+use Rattle.shape.specs.Shape.{asShape, asType}
+use Rattle.shape.proofs.Puts.{as-type}
+use Rattle.shape.proofs.Counts.{by-type}
 use Rattle.typing.specs.RowTypes as typing
 use Rattle.typing.proofs.TypeRows.{type-shape}
 use Rattle.value.specs.Values.{asValue}
-use Rattle.value.specs.Fits.{Got, got-none, got-some, valueIn, FitsOk}
+use Rattle.value.specs.declared.Value.{Value}
+use Rattle.value.specs.Fits.{Got, got-none, got-some, valueIn, valueFor, fitsIn}
+use Rattle.value.proofs.Fitting.{fits-got}
 use Rattle.value.proofs.Operators.{differ}
 use Rattle.state.specs.Layout.{at, own, one, valueWords}
 use Rattle.state.specs.Holds.{Sits, Ran}
@@ -34,11 +41,11 @@ use Rattle.state.specs.Words.{wordsOf, Laid}
 use Rattle.state.specs.Contracts.{Handled, HandleAt, HandleOk}
 use Rattle.state.proofs.Words.{laid-as}
 use Rattle.state.proofs.Frames.{same-row, laid-same, stores-laid, stores-set, foot-cell}
-use Rattle.state.proofs.Sites.{on-enter}
+use Rattle.state.proofs.Sites.{on-code}
 use Rattle.eval.proofs.Arms.{in-list}
-use Rattle.tasks.proofs.Forms.{on-filled, on-shared}
+use Rattle.running.proofs.Forms.{on-filled, on-shared}
 use Rattle.handle.specs.declared.Event.{Event}
-use Rattle.handle.specs.Events.{giving, eventPath, eventAction}
+use Rattle.handle.specs.Events.{giveNumber, eventPath, eventAction}
 use Rattle.handle.specs.Taking.{takenBy, Filled, FillOk}
 use Rattle.handle.proofs.Numbers.{some-marks, is-give, is-press}
 
@@ -46,7 +53,7 @@ use Rattle.handle.proofs.Numbers.{some-marks, is-give, is-press}
 
 module _ (e : Event) where
   -- no value at the path's end
-  not-given : (τ : Ty) → (e .path ≡ 0 → e .action ≡ giving → ⊥) → takenBy τ e ≡ none
+  not-given : (τ : Ty) → (e .path ≡ 0 → e .action ≡ giveNumber → ⊥) → takenBy τ e ≡ none
   unfolding atEditor
   not-given τ h = by (ℕ-discrete (e .path) 0)
     where
@@ -55,28 +62,41 @@ module _ (e : Event) where
       by (no n) = rw (some-marks (e .path) n)
 
   -- leaves at the path's end
-  taken-is : (c : ℕ) (τ : Ty) → (e .path ≡ 0) × (e .action ≡ giving) → c ≡ asShape τ → valueIn (record { shape = c; leaves = e .leaves }) τ ≡ takenBy τ e
+  taken-is : (c : ℕ) (τ : Ty) → (e .path ≡ 0) × (e .action ≡ giveNumber) → c ≡ asShape τ → valueIn (record { shape = c; leaves = e .leaves }) τ ≡ takenBy τ e
   unfolding atEditor valueIn
   taken-is c τ (p, h) q = rw (path-0 (e .path) p, is-give (e .action) (e .leaves) h, eq-eqb c (asShape τ) q)
 
 module _ (ws : List ℕ) (i x c : ℕ) (e : Event) where
-  pub fill-not-given : (e .path ≡ 0 → e .action ≡ giving → ⊥) → FillOk ws ws i x c e false
-  fill-not-given h τ l q = subst (Filled ws ws i x false) (sym (not-given e τ h)) (refl, refl)
+  pub fill-not-given : (e .path ≡ 0 → e .action ≡ giveNumber → ⊥) → FillOk ws ws i x c e false
+  unfolding bind
+  fill-not-given h = by-type c (λ o. Filled ws ws i x false (bind o λ τ. takenBy τ e)) (refl, refl) (λ τ q l. subst (Filled ws ws i x false) (sym (not-given e τ h)) (refl, refl))
 
-  module _ (r : Bool) (g : (e .path ≡ 0) × (e .action ≡ giving)) (f : FitsOk (record { shape = c; leaves = e .leaves }) c r) where
+  module _ (r : Bool) (g : (e .path ≡ 0) × (e .action ≡ giveNumber)) (w : r ≡ true → AllBits (e .leaves)) (f : r ≡ fitsIn (record { shape = c; leaves = e .leaves }) c) where
+    -- the value that the event gives, if there is one
+    given-got : Got r (λ u. record { shape = c; leaves = e .leaves } ≡ asValue u) (bind (asType c) λ τ. takenBy τ e)
+    unfolding valueFor bind
+    given-got =
+        let v : Value = record { shape = c; leaves = e .leaves } in
+        subst (Got r (λ u. v ≡ asValue u)) (by-type c (λ o. bind o (valueIn v) ≡ bind o (λ τ. takenBy τ e)) refl (λ τ q l. taken-is e c τ g q)) (fits-got v c r w f)
+
     pub fill-unfit : r ≡ false → FillOk ws ws i x c e false
-    fill-unfit h τ l q = subst (Filled ws ws i x false) (taken-is e c τ g q) (by (f .some τ l q))
+    fill-unfit h = by given-got
       where
         by : {o : Option Val} {Q : Val → Type 0} → Got r Q o → Filled ws ws i x false o
         by (got-none n) = (refl, refl)
         by (got-some n k) = differ (sym n ∙ h)
 
     pub fill-fits : (ws₁ : List ℕ) → r ≡ true → Laid ws ws₁ i (x ∷ wordsOf (record { shape = c; leaves = e .leaves })) → FillOk ws ws₁ i x c e true
-    fill-fits ws₁ h m τ l q = subst (Filled ws ws₁ i x true) (taken-is e c τ g q) (by (f .some τ l q))
+    fill-fits ws₁ h m = by given-got
       where
         by : {o : Option Val} → Got r (λ u. record { shape = c; leaves = e .leaves } ≡ asValue u) o → Filled ws ws₁ i x true o
         by (got-none n) = differ (sym h ∙ n)
         by (got-some {x = u} n k) = (refl, laid-as u m k)
+
+-- at a type's shape
+fill-type : (ws ws₁ : List ℕ) (i x c : ℕ) (e : Event) (r : Bool) (τ : Ty) → leaves τ ≤ maxLeaves → c ≡ asShape τ → FillOk ws ws₁ i x c e r → Filled ws ws₁ i x r (takenBy τ e)
+unfolding bind
+fill-type ws ws₁ i x c e r τ l q f = let t = ap asType q ∙ as-type τ l in rw t at f
 
 -- ---- an editor of a type
 
@@ -100,10 +120,10 @@ module _ (rs ws ws₁ : List ℕ) (i : ℕ) (env : List ℕ) (d : ℕ) (e : Even
       → Handled rs ws ws₁ i env d c r (atEditor (eventPath e) (eventAction e) (λ ls. thenSome (given τ ls) K))
   filled-by c τ n j y K q l f g =
       subst (Handled rs ws ws₁ i env d c r) (sym (editor-then (eventPath e) (eventAction e) (λ ls. given τ ls) K))
-      (handled-by c j y K (takenBy τ e) (f τ l q) g)
+      (handled-by c j y K (takenBy τ e) (fill-type ws ws₁ j y n e r τ l q f) g)
 
   -- 40
-  pub handle-edit : (n : ℕ) → word rs i 0 ≡ 40 → n ≡ at ws i 1 → FillOk ws ws₁ i own n e r → HandleOk rs ws ws₁ i env d (eventPath e) (eventAction e) r
+  pub handle-edit : (n : ℕ) → OfKind rs i (taskK editK) → n ≡ at ws i 1 → FillOk ws ws₁ i own n e r → HandleOk rs ws ws₁ i env d (eventPath e) (eventAction e) r
   unfolding handle valueWords
   handle-edit n q m f c z Σ Γ τ s ρ t y w h =
       on-filled rs ws d i Σ Γ (λ c t τ. Handled rs ws ws₁ i env d c r (handle c ρ s t (eventPath e) (eventAction e))) q
@@ -114,9 +134,9 @@ module _ (rs ws ws₁ : List ℕ) (i : ℕ) (env : List ℕ) (d : ℕ) (e : Even
       c z τ t y h
 
   -- 41
-  pub handle-enter : (a n : ℕ) (zs : List ℕ) → word rs i 0 ≡ 41 → a ≡ opA rs i → n ≡ typing.typeOf rs zs 0 a → FillOk ws ws₁ i one n e r → HandleOk rs ws ws₁ i env d (eventPath e) (eventAction e) r
+  pub handle-enter : (a n : ℕ) (zs : List ℕ) → OfKind rs i (taskK enterK) → a ≡ opA rs i → n ≡ typing.typeOf rs zs 0 a → FillOk ws ws₁ i one n e r → HandleOk rs ws ws₁ i env d (eventPath e) (eventAction e) r
   unfolding handle
-  handle-enter a n zs q ea m f = on-enter rs d i (HandleAt rs ws ws₁ i env d (eventPath e) (eventAction e) r) q (λ τ z. by τ z)
+  handle-enter a n zs q ea m f = on-code rs d i (taskK enterK) (HandleAt rs ws ws₁ i env d (eventPath e) (eventAction e) r) q (λ τ z. by τ z)
     where
       small : {Σ Γ : List Ty} {υ τ : Ty} {t : TaskOf (enter υ)} → TaskType Σ Γ (enter υ) t τ → leaves υ ≤ maxLeaves
       small (k-blank l) = l
@@ -129,7 +149,7 @@ module _ (rs ws ws₁ : List ℕ) (i : ℕ) (env : List ℕ) (d : ℕ) (e : Even
           (λ v l. record { holds = l .row; stores = stores-laid (w .stores) (λ k. foot-cell rs d i (enter υ) z i k refl) l; same = laid-same l (inl refl) })
 
   -- 42
-  pub handle-update : (a n : ℕ) → word rs i 0 ≡ 42 → a ≡ opA rs i → n ≡ at ws a 1 → FillOk ws ws₁ a own n e r → HandleOk rs ws ws₁ i env d (eventPath e) (eventAction e) r
+  pub handle-update : (a n : ℕ) → OfKind rs i (taskK updateK) → a ≡ opA rs i → n ≡ at ws a 1 → FillOk ws ws₁ a own n e r → HandleOk rs ws ws₁ i env d (eventPath e) (eventAction e) r
   unfolding handle valueWords
   handle-update a n q ea m f c z Σ Γ τ s ρ t y w h =
       on-shared rs ws d i Σ Γ (λ c t τ. Handled rs ws ws₁ i env d c r (handle c ρ s t (eventPath e) (eventAction e))) q

@@ -15,7 +15,7 @@ use Rattle.decimal.proofs.PathNumbers.{path-front, path-number}
 use Rattle.tophat.specs.Handling.{Button, continue, left, right, Action, give, press}
 use Rattle.value.proofs.Operators.{differ}
 use Rattle.handle.specs.declared.Event.{Event}
-use Rattle.handle.specs.Events.{giving, continuing, leftward, rightward, actionOf, Ends}
+use Rattle.handle.specs.Events.{giveNumber, continueNumber, leftNumber, rightNumber, actionBy, Ends}
 
 -- ---- paths
 
@@ -55,48 +55,48 @@ front-second (second ∷ p) n e = ap (λ q. second ∷ q) (sym (path-number p) �
 -- ---- actions
 
 abbrev numberOf : Action → ℕ
-numberOf (give ls) = giving
-numberOf (press continue) = continuing
-numberOf (press left) = leftward
-numberOf (press right) = rightward
+numberOf (give ls) = giveNumber
+numberOf (press continue) = continueNumber
+numberOf (press left) = leftNumber
+numberOf (press right) = rightNumber
 
 unlike-actions : {X : Type 0} {x y : Action} → x ≡ y → (numberOf x ≡ numberOf y → ⊥) → X
 unlike-actions e n = absurd (n (ap numberOf e))
 
 module _ (n : ℕ) (ls : List ℕ) where
-  pub is-give : n ≡ giving → actionOf n ls ≡ give (map (toZ w32) ls)
-  unfolding actionOf
-  is-give e = rw (eq-eqb n giving e)
+  pub is-give : n ≡ giveNumber → actionBy n ls ≡ give (map (toZ w32) ls)
+  unfolding actionBy
+  is-give e = rw (eq-eqb n giveNumber e)
 
-  module _ (h : n ≡ giving → ⊥) where
-    pub is-continue : n ≡ continuing → actionOf n ls ≡ press continue
-    unfolding actionOf
-    is-continue e = rw (ne-eqb n giving h, eq-eqb n continuing e)
+  module _ (h : n ≡ giveNumber → ⊥) where
+    pub is-continue : n ≡ continueNumber → actionBy n ls ≡ press continue
+    unfolding actionBy
+    is-continue e = rw (ne-eqb n giveNumber h, eq-eqb n continueNumber e)
 
-    module _ (g : n ≡ continuing → ⊥) where
-      pub is-left : n ≡ leftward → actionOf n ls ≡ press left
-      unfolding actionOf
-      is-left e = rw (ne-eqb n giving h, ne-eqb n continuing g, eq-eqb n leftward e)
+    module _ (g : n ≡ continueNumber → ⊥) where
+      pub is-left : n ≡ leftNumber → actionBy n ls ≡ press left
+      unfolding actionBy
+      is-left e = rw (ne-eqb n giveNumber h, ne-eqb n continueNumber g, eq-eqb n leftNumber e)
 
-      pub is-right : (n ≡ leftward → ⊥) → actionOf n ls ≡ press right
-      unfolding actionOf
-      is-right f = rw (ne-eqb n giving h, ne-eqb n continuing g, ne-eqb n leftward f)
+      pub is-right : (n ≡ leftNumber → ⊥) → actionBy n ls ≡ press right
+      unfolding actionBy
+      is-right f = rw (ne-eqb n giveNumber h, ne-eqb n continueNumber g, ne-eqb n leftNumber f)
 
-    pub is-press : (b : Button) × (actionOf n ls ≡ press b)
-    unfolding actionOf
-    is-press = by (eqb n continuing) (eqb n leftward) (rw (ne-eqb n giving h))
+    pub is-press : (b : Button) × (actionBy n ls ≡ press b)
+    unfolding actionBy
+    is-press = by (eqb n continueNumber) (eqb n leftNumber) (rw (ne-eqb n giveNumber h))
       where
-        by : (x y : Bool) → actionOf n ls ≡ cond x (press continue) (cond y (press left) (press right)) → (b : Button) × (actionOf n ls ≡ press b)
+        by : (x y : Bool) → actionBy n ls ≡ cond x (press continue) (cond y (press left) (press right)) → (b : Button) × (actionBy n ls ≡ press b)
         by true y e = (continue, e)
         by false true e = (left, e)
         by false false e = (right, e)
 
 -- Continue has one number
-pub continue-is : (n : ℕ) (ls : List ℕ) → actionOf n ls ≡ press continue → n ≡ continuing
-unfolding actionOf
-continue-is n ls = by (eqb n giving) (eqb n continuing) (eqb n leftward) (λ e. eqb-true n continuing e)
+pub continue-is : (n : ℕ) (ls : List ℕ) → actionBy n ls ≡ press continue → n ≡ continueNumber
+unfolding actionBy
+continue-is n ls = by (eqb n giveNumber) (eqb n continueNumber) (eqb n leftNumber) (λ e. eqb-true n continueNumber e)
   where
-    by : (x y z : Bool) → (y ≡ true → n ≡ continuing) → cond x (give (map (toZ w32) ls)) (cond y (press continue) (cond z (press left) (press right))) ≡ press continue → n ≡ continuing
+    by : (x y z : Bool) → (y ≡ true → n ≡ continueNumber) → cond x (give (map (toZ w32) ls)) (cond y (press continue) (cond z (press left) (press right))) ≡ press continue → n ≡ continueNumber
     by true y z f e = unlike-actions e (λ z. omega arith)
     by false true z f e = f refl
     by false false true f e = unlike-actions e (λ z. omega arith)

@@ -2,10 +2,10 @@
 -- takes Continue itself where its left side has a value. Rests on Numbers, on the forms of rows and on the frames of crate state.
 use mathlib.Core.Path.{_≡_, refl, sym, ap, _∙_, subst}
 use mathlib.Core.Bool.{Bool, true, false}
-use mathlib.Core.Logic.{_⊎_, inr, ⊎-elim}
+use mathlib.Core.Logic.{inr, ⊎-elim}
 use mathlib.Core.Option.{Option, none, some}
 use mathlib.Core.List.{List, [], _∷_}
-use Prim.Native.Nat.{ℕ, _≤_}
+use Prim.Native.Nat.{ℕ}
 use native.Mathlib.Decide.{ℕ-discrete}
 use native.Mathlib.Omega.{arith}
 use Rattle.decimal.specs.Path.{first, second, Path}
@@ -19,20 +19,21 @@ use Rattle.tophat.proofs.ComputeEvaluation.{evaluate}
 use Rattle.tophat.proofs.ComputeNormalising.{failing}
 use Rattle.tophat.proofs.ComputeHandling.{mapTask, atMark, atContinue, unlessFailing, handle}
 use Rattle.tophat.proofs.Preservation.{option-is, value-type}
-use Rattle.rows.specs.Rows.{word, opA, opB}
+use Rattle.rows.specs.Kinds.{taskK, thenK, nextK, andK, orK, numberOf}
+use Rattle.rows.specs.Rows.{word, opA, opB, OfKind, FromKind, UpToKind}
 use Rattle.value.specs.declared.Found.{Found}
-use Rattle.value.specs.Values.{asFound}
+use Rattle.value.specs.Found.{asFound, noneFound}
 use Rattle.value.proofs.Meaning.{found-none, found-some}
 use Rattle.state.specs.Holds.{treeOf, Holds, Ran}
 use Rattle.state.specs.Contracts.{ValueOk, Handled, HandleOk}
 use Rattle.state.proofs.Frames.{same-weak, same-row, keeps, clear-kept, holds-kept, Kids, kids-then, kids-next, kids-and, kids-or}
-use Rattle.tasks.specs.Found.{nothing}
-use Rattle.tasks.proofs.Forms.{Unhanded, on-then-before, on-next-before, on-either, on-both}
-use Rattle.cycle.specs.Trying.{Attempted, AttemptOk}
-use Rattle.cycle.proofs.Asking.{two-kinds}
-use Rattle.cycle.proofs.Trying.{ran-next}
+use Rattle.running.proofs.Forms.{on-then-before, on-next-before, on-either, on-both}
+use Rattle.running.specs.Hands.{Unhanded}
+use Rattle.normalising.specs.Trying.{Attempted, AttemptOk}
+use Rattle.normalising.proofs.Asking.{two-kinds}
+use Rattle.normalising.proofs.Trying.{ran-next}
 use Rattle.handle.specs.declared.Event.{Event}
-use Rattle.handle.specs.Events.{continuing, eventPath, eventAction}
+use Rattle.handle.specs.Events.{continueNumber, eventPath, eventAction}
 use Rattle.handle.specs.Taking.{goingOn, GoingOk}
 use Rattle.handle.proofs.Numbers.{some-marks, is-continue, continue-is}
 
@@ -59,21 +60,21 @@ module _ {X : Type 0} (F : Val → Option X) (G : Unit {0} → Option X) where
 
 -- going_on, way by way
 module _ (rs ws : List ℕ) (i : ℕ) (e : Event) where
-  pub going-none : (e .path ≡ 0 → e .action ≡ continuing → ⊥) → GoingOk rs ws i e nothing
+  pub going-none : (e .path ≡ 0 → e .action ≡ continueNumber → ⊥) → GoingOk rs ws i e noneFound
   unfolding goingOn asFound
   going-none h d c z Σ Γ τ s t y st gs gb g w = by (ℕ-discrete (e .path) 0)
     where
-      at-end : e .path ≡ 0 → (x : Action) → eventAction e ≡ x → nothing ≡ asFound (goingOn (eventPath e) (eventAction e) (value c t s))
+      at-end : e .path ≡ 0 → (x : Action) → eventAction e ≡ x → noneFound ≡ asFound (goingOn (eventPath e) (eventAction e) (value c t s))
       at-end p (give ls) q = rw (path-0 (e .path) p, q)
       at-end p (press continue) q = absurd (h p (continue-is (e .action) (e .leaves) q))
       at-end p (press left) q = rw (path-0 (e .path) p, q)
       at-end p (press right) q = rw (path-0 (e .path) p, q)
 
-      by : Dec (e .path ≡ 0) → nothing ≡ asFound (goingOn (eventPath e) (eventAction e) (value c t s))
+      by : Dec (e .path ≡ 0) → noneFound ≡ asFound (goingOn (eventPath e) (eventAction e) (value c t s))
       by (yes p) = at-end p (eventAction e) refl
       by (no n) = rw (some-marks (e .path) n)
 
-  pub going-value : (r : Found) → (e .path ≡ 0) × (e .action ≡ continuing) → ValueOk rs ws i r → GoingOk rs ws i e r
+  pub going-value : (r : Found) → (e .path ≡ 0) × (e .action ≡ continueNumber) → ValueOk rs ws i r → GoingOk rs ws i e r
   unfolding goingOn
   going-value r (p, h) f d c z Σ Γ τ s t y st gs gb g w =
       f d c z Σ Γ τ s t y st gs gb g w ∙ ap asFound (sym (rw (path-0 (e .path) p, is-continue (e .action) (e .leaves) (λ k. omega arith) h)))
@@ -109,14 +110,14 @@ module _ (rs ws ws₁ : List ℕ) (i : ℕ) (env : List ℕ) (d : ℕ) (r : Bool
   }
 
   -- 43
-  pub handle-then : (a : ℕ) (p : Path) (x : Action) → Unhanded rs ws i → word rs i 0 ≡ 43 → a ≡ opA rs i → HandleOk rs ws ws₁ a env d p x r → HandleOk rs ws ws₁ i env d p x r
+  pub handle-then : (a : ℕ) (p : Path) (x : Action) → Unhanded rs ws i → OfKind rs i (taskK thenK) → a ≡ opA rs i → HandleOk rs ws ws₁ a env d p x r → HandleOk rs ws ws₁ i env d p x r
   unfolding handle
   handle-then a p x z q e h c k Σ Γ τ s ρ t y w g =
       let f = subst (λ a. HandleOk rs ws ws₁ a env d p x r) e h in
       on-then-before rs ws d i Σ Γ (λ c t τ. Handled rs ws ws₁ i env d c r (handle c ρ s t p x)) z q
       (λ a b t σ υ k g y n. mapped (opA rs i) a (then a b) before (handle a ρ s t p x) (λ u s m. step-on a b t u s (kids-then rs d i a b k) g m) (f a (k .1) Σ Γ σ s ρ t y w (g .1))) c k τ t y g
 
-  module _ (e : Event) (a : ℕ) (f : Found) (z : Unhanded rs ws i) (q : word rs i 0 ≡ 44) (ea : a ≡ opA rs i) (hg : GoingOk rs ws a e f) where
+  module _ (e : Event) (a : ℕ) (f : Found) (z : Unhanded rs ws i) (q : OfKind rs i (taskK nextK)) (ea : a ≡ opA rs i) (hg : GoingOk rs ws a e f) where
     going : GoingOk rs ws (opA rs i) e f
     going = subst (λ a. GoingOk rs ws a e f) ea hg
 
@@ -159,7 +160,7 @@ module _ (rs ws ws₁ : List ℕ) (i : ℕ) (env : List ℕ) (d : ℕ) (r : Bool
         c k τ t y g
 
   -- 46 and 47: the part that the mark names
-  module _ (p : Path) (x : Action) (z : Unhanded rs ws i) (lo : 46 ≤ word rs i 0) (hi : word rs i 0 ≤ 47) where
+  module _ (p : Path) (x : Action) (z : Unhanded rs ws i) (lo : FromKind rs i (taskK andK)) (hi : UpToKind rs i (taskK orK)) where
     abbrev Taken : Env → Store → (c : Code) → TaskOf c → Type 0
     Taken ρ s c t = Handled rs ws ws₁ i env d c r (handle c ρ s t p x)
 
@@ -179,7 +180,7 @@ module _ (rs ws ws₁ : List ℕ) (i : ℕ) (env : List ℕ) (d : ℕ) (r : Bool
         (mapped (opA rs i) a (or a b) (λ t. either t u) (handle a ρ s t m x)
         (λ t₁ s q. let o = left-on a b t t₁ u s (kids-or rs d i a b k) g q in record { holds = o .holds; stores = o .stores; same = o .same }) (f a (k .1) Σ Γ σ s ρ t y w (g .1))))
         c k τ t y g)
-        (two-kinds 46 (word rs i 0) lo hi)
+        (two-kinds (numberOf (taskK andK)) (word rs i 0) lo hi)
 
     pub handle-second : (b : ℕ) (m : Path) → b ≡ opB rs i → p ≡ second ∷ m → HandleOk rs ws ws₁ b env d m x r → HandleOk rs ws ws₁ i env d p x r
     unfolding handle atMark
@@ -197,14 +198,14 @@ module _ (rs ws ws₁ : List ℕ) (i : ℕ) (env : List ℕ) (d : ℕ) (r : Bool
         (mapped (opB rs i) b (or a b) (λ u. either t u) (handle b ρ s u m x)
         (λ u₁ s q. let o = right-on a b t u u₁ s (kids-or rs d i a b k) g q in record { holds = o .holds; stores = o .stores; same = o .same }) (f b (k .2) Σ Γ σ s ρ u n w (g .2))))
         c k τ t y g)
-        (two-kinds 46 (word rs i 0) lo hi)
+        (two-kinds (numberOf (taskK andK)) (word rs i 0) lo hi)
 
 -- no mark: refused
-pub handle-unmarked : (rs ws : List ℕ) (i : ℕ) (env : List ℕ) (d : ℕ) (p : Path) (x : Action) → Unhanded rs ws i → 46 ≤ word rs i 0 → word rs i 0 ≤ 47 → p ≡ [] → HandleOk rs ws ws i env d p x false
+pub handle-unmarked : (rs ws : List ℕ) (i : ℕ) (env : List ℕ) (d : ℕ) (p : Path) (x : Action) → Unhanded rs ws i → FromKind rs i (taskK andK) → UpToKind rs i (taskK orK) → p ≡ [] → HandleOk rs ws ws i env d p x false
 unfolding handle atMark
 handle-unmarked rs ws i env d p x z lo hi e c k Σ Γ τ s ρ t y w g = ⊎-elim
     (λ q. on-both rs ws d i Σ Γ (λ c t τ. Handled rs ws ws i env d c false (handle c ρ s t p x)) q
     (λ a b t u σ υ k g y n l. subst (λ p. Handled rs ws ws i env d (and a b) false (handle (and a b) ρ s (both t u) p x)) (sym e) (refl, refl)) c k τ t y g)
     (λ q. on-either rs ws d i Σ Γ (λ c t τ. Handled rs ws ws i env d c false (handle c ρ s t p x)) z q
     (λ a b t u σ k g y n. subst (λ p. Handled rs ws ws i env d (or a b) false (handle (or a b) ρ s (either t u) p x)) (sym e) (refl, refl)) c k τ t y g)
-    (two-kinds 46 (word rs i 0) lo hi)
+    (two-kinds (numberOf (taskK andK)) (word rs i 0) lo hi)

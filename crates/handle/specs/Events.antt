@@ -8,34 +8,35 @@ use lib.Dec.{eqb}
 use mir.Syntax.{w32}
 use mir.Val.{toZ}
 use Rattle.decimal.specs.Path.{Path, pathOf}
-use Rattle.tophat.specs.Handling.{continue, left, right, Action, give, press}
+use Rattle.tophat.specs.Handling.{continue, left, right, giving, pressing, actNumber, Action, give, press}
 use Rattle.handle.specs.declared.Event.{Event}
 
--- 01: actions 1 to 4
-abbrev pub giving : ℕ
-giving = 1
+-- the numbers of actions, from the calculus' table
+abbrev pub giveNumber : ℕ
+giveNumber = actNumber giving
 
-abbrev pub continuing : ℕ
-continuing = 2
+abbrev pub continueNumber : ℕ
+continueNumber = actNumber (pressing continue)
 
-abbrev pub leftward : ℕ
-leftward = 3
+abbrev pub leftNumber : ℕ
+leftNumber = actNumber (pressing left)
 
-abbrev pub rightward : ℕ
-rightward = 4
+abbrev pub rightNumber : ℕ
+rightNumber = actNumber (pressing right)
 
-abbrev pub Readable : Event → Type 0
-Readable e = (giving ≤ e .action) × (e .action ≤ rightward)
+-- the event's action is one of these
+abbrev pub KnownAction : Event → Type 0
+KnownAction e = (giveNumber ≤ e .action) × (e .action ≤ rightNumber)
 
 -- the action of one of these numbers
-unfoldable pub actionOf : ℕ → List ℕ → Action
-actionOf n ls = cond (eqb n giving) (give (map (toZ w32) ls)) (cond (eqb n continuing) (press continue) (cond (eqb n leftward) (press left) (press right)))
+unfoldable pub actionBy : ℕ → List ℕ → Action
+actionBy n ls = cond (eqb n giveNumber) (give (map (toZ w32) ls)) (cond (eqb n continueNumber) (press continue) (cond (eqb n leftNumber) (press left) (press right)))
 
 abbrev pub eventPath : Event → Path
 eventPath e = pathOf (e .path)
 
 abbrev pub eventAction : Event → Action
-eventAction e = actionOf (e .action) (e .leaves)
+eventAction e = actionBy (e .action) (e .leaves)
 
 -- r tells whether the event is the action n at the path's end
 pub record Ends (e : Event) (n : ℕ) (r : Bool) : Type 0 where

@@ -2,20 +2,20 @@
 -- on with, a side that is picked. Rests on Events and on crate state's terms.
 use mathlib.Core.Path.{_≡_}
 use mathlib.Core.Bool.{Bool, true, false}
-use mathlib.Core.Option.{Option, none, some}
+use mathlib.Core.Option.{Option, none, some, bind}
 use mathlib.Core.List.{List, [], _∷_}
-use Prim.Native.Nat.{ℕ, _≤_}
+use Prim.Native.Nat.{ℕ}
 use Rattle.decimal.specs.Path.{Path}
-use Rattle.tophat.specs.Syntax.{maxLeaves, Ty, leaves, Code, Val, TaskOf, Env, Store}
-use Rattle.tophat.specs.Typing.{CodeType, TaskType, ValueTypes}
+use Rattle.tophat.specs.Syntax.{Ty, Code, Val, TaskOf, Env, Store}
+use Rattle.tophat.specs.Typing.{CodeType, TaskType, ValueTypes, AllSmall}
 use Rattle.tophat.specs.Normalising.{value}
 use Rattle.tophat.specs.Handling.{continue, left, right, Action, give, press}
-use Rattle.tophat.proofs.TypeLeaves.{AllSmall}
 use Rattle.tophat.proofs.ComputeNormalising.{failing, settle}
-use Rattle.tophat.proofs.ComputeHandling.{given, atEditor}
-use Rattle.shape.specs.Shape.{asShape}
+use Rattle.tophat.proofs.ComputeHandling.{atEditor}
+use Rattle.tophat.specs.Leaves.{given}
+use Rattle.shape.specs.Shape.{asType}
 use Rattle.value.specs.declared.Found.{Found}
-use Rattle.value.specs.Values.{asFound}
+use Rattle.value.specs.Found.{asFound}
 use Rattle.state.specs.Layout.{valueWords}
 use Rattle.state.specs.Holds.{treeOf, Sits, Clear, Holds, Stores, World, Ran}
 use Rattle.state.specs.Words.{Laid}
@@ -33,9 +33,9 @@ abbrev pub Filled : List ℕ → List ℕ → ℕ → ℕ → Bool → Option Va
 Filled ws ws₁ i x r none = (r ≡ false) × (ws₁ ≡ ws)
 Filled ws ws₁ i x r (some v) = (r ≡ true) × Laid ws ws₁ i (x ∷ valueWords v)
 
--- that of the type whose shape is c
+-- that of the type whose shape is c, none where c is no type's shape
 abbrev pub FillOk : List ℕ → List ℕ → ℕ → ℕ → ℕ → Event → Bool → Type 0
-FillOk ws ws₁ i x c e r = (τ : Ty) → leaves τ ≤ maxLeaves → c ≡ asShape τ → Filled ws ws₁ i x r (takenBy τ e)
+FillOk ws ws₁ i x c e r = Filled ws ws₁ i x r (bind (asType c) λ τ. takenBy τ e)
 
 -- ---- steps: the value of the left side, where the event is Continue at the path's end
 

@@ -1,24 +1,25 @@
 // Handling an event: the task at a row takes it, and the words say what the task is then, or refuses it, and every word is as it
-// was. Work that may be given up is done in a copy of the state, in `side` here and in `attempt` of crate cycle. Rests on the crates
+// was. Work that may be given up is done in a copy of the state, in `side` here and in `attempt` of crate normalising. Rests on the crates
 // below for values, evaluation, normalising and rows that hand on; specs/Events says what an event is.
-use cycle::attempt;
-use cycle::settle;
 use decimal::path::Front;
 use decimal::path::front_mark;
+use normalising::attempt;
+use normalising::settle;
+use rows::MAX_BINDERS;
 use rows::ROWS_WORDS;
+use rows::get;
+use rows::operand;
+use running::enclose;
+use running::handed_on;
+use running::value;
 use state::ENV_WORDS;
 use state::ONE;
 use state::OTHER;
 use state::OWN;
 use state::STATE_SIZE;
-use state::get;
-use state::operand;
 use state::put_tag;
 use state::put_value;
 use state::read;
-use tasks::enclose;
-use tasks::handed_on;
-use tasks::value;
 use tophat::CONTINUE;
 use tophat::GIVE;
 use tophat::LEFT;
@@ -28,17 +29,18 @@ use typing::row_type;
 use value::Found;
 use value::Value;
 use value::fits;
+use value::none;
 ghost use mathlib.Core.Path.{_≡_};
 ghost use mathlib.Core.List.{List};
-ghost use Prim.Native.Nat.{ℕ, _<_, _≤_};
-ghost use Rattle.rows.specs.Rows.{maxRows, word};
+ghost use Prim.Native.Nat.{ℕ, _<_};
+ghost use Rattle.rows.specs.Kinds.{taskK, editK, updateK, xorK};
+ghost use Rattle.rows.specs.Rows.{maxRows, OfKind, FromKind, UpToKind};
 ghost use Rattle.state.specs.Contracts.{Fine, HandleOk};
-ghost use Rattle.tasks.specs.Found.{nothing};
-ghost use Rattle.tasks.proofs.Forms.{Unhanded};
-ghost use Rattle.handle.specs.Events.{Readable, eventPath, eventAction, Ends, passed};
+ghost use Rattle.running.specs.Hands.{Unhanded};
+ghost use Rattle.handle.specs.Events.{KnownAction, eventPath, eventAction, Ends, passed};
 ghost use Rattle.handle.specs.Taking.{FillOk, GoingOk, PickOk};
 
-// An event: a path as one number (crate decimal), an action's number, and four leaves.
+// An event: a path as one number (crate decimal), an action's number, and leaves.
 pub struct Event {
     pub path: u32,
     pub action: u32,
@@ -77,7 +79,7 @@ fn fill(state: &mut [u32; STATE_SIZE], row: usize, tag: u32, shape: u32, e: Even
 
 // An editor: its content's type is that of its row's value, of its type row, or of its cell.
 fn edit(rows: &[u32; ROWS_WORDS], state: &mut [u32; STATE_SIZE], row: usize, e: Event) -> bool
-    requires { ⌜ Fine (now rows) row 0 × (40 ≤ word (now rows) row 0) × (word (now rows) row 0 ≤ 42) ⌝ }
+    requires { ⌜ Fine (now rows) row 0 × FromKind (now rows) row (taskK editK) × UpToKind (now rows) row (taskK updateK) ⌝ }
     ensures { λ r. ⌜ ((env : List ℕ) (d : ℕ) → HandleOk (now (rows .entry)) (now (state .entry)) (now (state .exit)) row env d (eventPath e) (eventAction e) r) ⌝ }
 {
     let kind = get(rows, row, 0);
@@ -88,7 +90,7 @@ fn edit(rows: &[u32; ROWS_WORDS], state: &mut [u32; STATE_SIZE], row: usize, e: 
             return fill(state, row, OWN, shape, e);
         }
         41 => {
-            let none = [0u32; 16];
+            let none = [0u32; MAX_BINDERS];
             let shape = row_type(rows, a, none, 0);
             return fill(state, row, ONE, shape, e);
         }
@@ -99,25 +101,13 @@ fn edit(rows: &[u32; ROWS_WORDS], state: &mut [u32; STATE_SIZE], row: usize, e: 
     }
 }
 
-fn nothing() -> Found
-    ensures { λ r. ⌜ r ≡ nothing ⌝ }
-{
-    Found {
-        has: false,
-        value: Value {
-            shape: 0,
-            leaves: [0, 0, 0, 0],
-        },
-    }
-}
-
 // The value of the task at the row, if the event is Continue at the path's end.
 fn going_on(rows: &[u32; ROWS_WORDS], state: &[u32; STATE_SIZE], row: usize, e: Event) -> Found
     requires { ⌜ Fine (now rows) row 0 ⌝ }
     ensures { λ r. ⌜ GoingOk (now (rows .entry)) (now (state .entry)) row e r ⌝ }
 {
     if !ends(e, CONTINUE) {
-        return nothing();
+        return none();
     }
     value(rows, state, row)
 }
@@ -153,7 +143,7 @@ fn pick(
     depth: usize,
     e: Event,
 ) -> bool
-    requires { ⌜ Fine (now rows) row depth × (word (now rows) row 0 ≡ 48) × Unhanded (now rows) (now state) row × Readable e ⌝ }
+    requires { ⌜ Fine (now rows) row depth × OfKind (now rows) row (taskK xorK) × Unhanded (now rows) (now state) row × KnownAction e ⌝ }
     ensures { λ r. ⌜ HandleOk (now (rows .entry)) (now (state .entry)) (now (state .exit)) row (now (env .entry)) depth (eventPath e) (eventAction e) r ⌝ }
 {
     if ends(e, LEFT) {
@@ -183,7 +173,7 @@ pub fn handle(
     depth: usize,
     e: Event,
 ) -> bool
-    requires { ⌜ Fine (now rows) row depth × Readable e ⌝ }
+    requires { ⌜ Fine (now rows) row depth × KnownAction e ⌝ }
     ensures { λ r. ⌜ HandleOk (now (rows .entry)) (now (state .entry)) (now (state .exit)) row (now (env .entry)) depth (eventPath e) (eventAction e) r ⌝ }
 {
     let part = handed_on(rows, state, row);

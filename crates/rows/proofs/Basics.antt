@@ -1,4 +1,4 @@
--- Tests of Bool, tests of each row below n, and lists that are made row by row. Rests on Rows, and on the crate ranges.
+-- Tests of Bool, tests of each row below n, and lists that are made row by row. Rests on Rows, and on the crate match_laws.
 use mathlib.Core.Path.{_≡_, refl, sym, ap, subst, _∙_}
 use mathlib.Core.Bool.{Bool, true, false, _&&_, _||_}
 use mathlib.Core.Logic.{⊎-elim, _⊎_, inl, inr}
@@ -8,7 +8,7 @@ use native.Mathlib.Nat.{eq-or-lt-of-le, le-of-suc-le-suc}
 use native.Mathlib.Omega.{arith}
 use lib.ListN.{length, getD, length-append, List·getD-append, List·getD-eq-default}
 use lib.Seq.{getD-append-seam}
-use Rattle.ranges.proofs.Ranges.{and-left, and-right}
+use Rattle.match_laws.proofs.Ranges.{and-left, and-right}
 use Rattle.rows.specs.Rows.{every}
 
 pub no : {P : Type 0} → false ≡ true → P

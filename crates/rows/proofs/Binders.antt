@@ -1,15 +1,16 @@
--- What ground 6 gives the trees that rows read as: `FitsCode n c` says that with n binders around the code c never has over 16
--- around a part of it, `MarksFit m c` the same of marks. Rests on Most.
+-- What ground 6 gives the trees that rows read as: never more than 16 binders or marks around a part (specs/Fits). Rests on Most.
 use mathlib.Core.Path.{_≡_, refl, subst}
 use mathlib.Core.Bool.{true}
 use mathlib.Core.List.{List}
 use Prim.Native.Nat.{ℕ, suc, _+_, _<_, _≤_}
 use native.Mathlib.Omega.{arith}
-use Rattle.tophat.specs.Syntax.{Exp, eunit, etruth, enumber, ebinder, eop, eif, epair, efst, esnd, ederef, eassign, elet}
-use Rattle.tophat.specs.Syntax.{Code, edit, enter, update, then, next, fail, and, or, xor, if, let'}
-use Rattle.rows.specs.Kinds.{Kind, Shape, shapeOf}
-use Rattle.rows.specs.Rows.{kindAt, every, names}
+use Rattle.tophat.specs.Syntax.{Exp}
+use Rattle.tophat.specs.Syntax.{Code}
+use Rattle.tophat.specs.Showing.{MarksFit}
+use Rattle.rows.specs.Kinds.{Kind, Asks, plainK, eopK, epairK, efstK, esndK, eassignK, eitherK, ifK, letK, taskK, editK, thenK, nextK, andK, orK, xorK, asksOf, numberOf}
+use Rattle.rows.specs.Rows.{every, names, OfKind}
 use Rattle.rows.specs.Enclosing.{maxBinders, maxMarks, bindersBy, marksBy, mostBinders, mostMarks, rowSmall}
+use Rattle.rows.specs.Fits.{FitsExp, FitsCode}
 use Rattle.rows.specs.Trees.{ReadsExp, r-eunit, r-etruth, r-enumber, r-ebinder, r-eop, r-eif, r-epair, r-efst, r-esnd, r-ederef, r-eassign, r-elet}
 use Rattle.rows.specs.Trees.{ReadsCode, r-edit, r-enter, r-update, r-then, r-next, r-fail, r-and, r-or, r-xor, r-if, r-let}
 use Rattle.rows.proofs.Exists.{Sorted}
@@ -17,111 +18,71 @@ use Rattle.rows.proofs.Places.{Place, placeA, placeB, placeC, opAt, ask
 use Rattle.rows.proofs.Steps.{bindersAt, marksAt}
 use Rattle.rows.proofs.Most.{countAt, binders-under, marks-under, few-binders, few-marks}
 
-abbrev pub FitsExp : ℕ → Exp → Type 0
-FitsExp n eunit = Unit {0}
-FitsExp n (etruth b) = Unit {0}
-FitsExp n (enumber w) = Unit {0}
-FitsExp n (ebinder i) = Unit {0}
-FitsExp n (eop o a b) = FitsExp n a × FitsExp n b
-FitsExp n (eif c a b) = FitsExp n c × FitsExp n a × FitsExp n b
-FitsExp n (epair a b) = FitsExp n a × FitsExp n b
-FitsExp n (efst a) = FitsExp n a
-FitsExp n (esnd a) = FitsExp n a
-FitsExp n (ederef c) = Unit {0}
-FitsExp n (eassign c a) = FitsExp n a
-FitsExp n (elet a b) = FitsExp n a × (n < maxBinders) × FitsExp (suc n) b
-
-abbrev pub FitsCode : ℕ → Code → Type 0
-FitsCode n (edit a) = FitsExp n a
-FitsCode n (enter τ) = Unit {0}
-FitsCode n (update c) = Unit {0}
-FitsCode n (then a b) = FitsCode n a × (n < maxBinders) × FitsCode (suc n) b
-FitsCode n (next a b) = FitsCode n a × (n < maxBinders) × FitsCode (suc n) b
-FitsCode n (fail τ) = Unit {0}
-FitsCode n (and a b) = FitsCode n a × FitsCode n b
-FitsCode n (or a b) = FitsCode n a × FitsCode n b
-FitsCode n (xor a b) = FitsCode n a × FitsCode n b
-FitsCode n (if e a b) = FitsExp n e × FitsCode n a × FitsCode n b
-FitsCode n (let' e b) = FitsExp n e × (n < maxBinders) × FitsCode (suc n) b
-
-abbrev pub MarksFit : ℕ → Code → Type 0
-MarksFit m (edit a) = Unit {0}
-MarksFit m (enter τ) = Unit {0}
-MarksFit m (update c) = Unit {0}
-MarksFit m (then a b) = MarksFit m a × MarksFit m b
-MarksFit m (next a b) = MarksFit m a × MarksFit m b
-MarksFit m (fail τ) = Unit {0}
-MarksFit m (and a b) = (m < maxMarks) × MarksFit (suc m) a × MarksFit (suc m) b
-MarksFit m (or a b) = (m < maxMarks) × MarksFit (suc m) a × MarksFit (suc m) b
-MarksFit m (xor a b) = MarksFit m a × MarksFit m b
-MarksFit m (if e a b) = MarksFit m a × MarksFit m b
-MarksFit m (let' e b) = MarksFit m b
-
 -- v around row i, and at most `limit` with the most under it
-record Room (most : Shape → ℕ → ℕ → ℕ → ℕ) (limit : ℕ) (rs : List ℕ) (n i v : ℕ) : Type 0 where
+record Room (most : Asks → ℕ → ℕ → ℕ → ℕ) (limit : ℕ) (rs : List ℕ) (n i v : ℕ) : Type 0 where
   low : i < n
   room : v + countAt most rs i ≤ limit
 
 module _ (rs : List ℕ) (n : ℕ) (q : Sorted rs n) where
   -- then so at the row named at a place, with w around that
-  inner : {i v : ℕ} → Room mostBinders maxBinders rs n i v → (w : ℕ) (k : Kind) (e : kindAt rs i ≡ k) (p : Place) → names (askAt (shapeOf k) p) ≡ true
-      → (let c = countAt mostBinders rs (opAt rs i p) in w + c ≤ v + bindersAt (shapeOf k) p c) → Room mostBinders maxBinders rs n (opAt rs i p) w
+  inner : {i v : ℕ} → Room mostBinders maxBinders rs n i v → (w : ℕ) (k : Kind) (e : OfKind rs i k) (p : Place) → names (askAt (asksOf (numberOf k)) p) ≡ true
+      → (let c = countAt mostBinders rs (opAt rs i p) in w + c ≤ v + bindersAt (asksOf (numberOf k)) p c) → Room mostBinders maxBinders rs n (opAt rs i p) w
   inner {i} {v} r w k e p g h =
       let l = r .low in let m = r .room in let x = lower rs n q i l p (names-of rs i k e p g) in
       let u = binders-under rs n q i (countAt mostBinders rs (opAt rs i p)) l p (names-of rs i k e p g) (omega arith) in
-      let u₁ = subst (λ k. bindersAt (shapeOf k) p (countAt mostBinders rs (opAt rs i p)) ≤ countAt mostBinders rs i) e u in
+      let u₁ = subst (λ w. bindersAt (asksOf w) p (countAt mostBinders rs (opAt rs i p)) ≤ countAt mostBinders rs i) e u in
       record { low = omega arith; room = omega arith }
 
-  marked : {i v : ℕ} → Room mostMarks maxMarks rs n i v → (w : ℕ) (k : Kind) (e : kindAt rs i ≡ k) (p : Place) → names (askAt (shapeOf k) p) ≡ true
-      → (let c = countAt mostMarks rs (opAt rs i p) in w + c ≤ v + marksAt (shapeOf k) p c) → Room mostMarks maxMarks rs n (opAt rs i p) w
+  marked : {i v : ℕ} → Room mostMarks maxMarks rs n i v → (w : ℕ) (k : Kind) (e : OfKind rs i k) (p : Place) → names (askAt (asksOf (numberOf k)) p) ≡ true
+      → (let c = countAt mostMarks rs (opAt rs i p) in w + c ≤ v + marksAt (asksOf (numberOf k)) p c) → Room mostMarks maxMarks rs n (opAt rs i p) w
   marked {i} {v} r w k e p g h =
       let l = r .low in let m = r .room in let x = lower rs n q i l p (names-of rs i k e p g) in
       let u = marks-under rs n q i (countAt mostMarks rs (opAt rs i p)) l p (names-of rs i k e p g) (omega arith) in
-      let u₁ = subst (λ k. marksAt (shapeOf k) p (countAt mostMarks rs (opAt rs i p)) ≤ countAt mostMarks rs i) e u in
+      let u₁ = subst (λ w. marksAt (asksOf w) p (countAt mostMarks rs (opAt rs i p)) ≤ countAt mostMarks rs i) e u in
       record { low = omega arith; room = omega arith }
 
   fits-exp : {i : ℕ} {a : Exp} (v : ℕ) → Room mostBinders maxBinders rs n i v → ReadsExp rs i a → FitsExp v a
-  unfolding names bindersBy
+  unfolding asksOf names bindersBy
   fits-exp v h (r-eunit k) = tt
   fits-exp v h (r-etruth k) = tt
   fits-exp v h (r-enumber k) = tt
   fits-exp v h (r-ebinder k) = tt
-  fits-exp v h (r-eop k x y d e) = (fits-exp v (inner h v _ k placeB refl (omega arith)) d, fits-exp v (inner h v _ k placeC refl (omega arith)) e)
-  fits-exp v h (r-eif k x y z d e f) = (fits-exp v (inner h v _ k placeA refl (omega arith)) d, fits-exp v (inner h v _ k placeB refl (omega arith)) e, fits-exp v (inner h v _ k placeC refl (omega arith)) f)
-  fits-exp v h (r-epair k x y d e) = (fits-exp v (inner h v _ k placeA refl (omega arith)) d, fits-exp v (inner h v _ k placeB refl (omega arith)) e)
-  fits-exp v h (r-efst k x d) = fits-exp v (inner h v _ k placeA refl (omega arith)) d
-  fits-exp v h (r-esnd k x d) = fits-exp v (inner h v _ k placeA refl (omega arith)) d
+  fits-exp v h (r-eop k x y d e) = (fits-exp v (inner h v (plainK eopK) k placeB refl (omega arith)) d, fits-exp v (inner h v (plainK eopK) k placeC refl (omega arith)) e)
+  fits-exp v h (r-eif k x y z d e f) = (fits-exp v (inner h v (eitherK ifK) k placeA refl (omega arith)) d, fits-exp v (inner h v (eitherK ifK) k placeB refl (omega arith)) e, fits-exp v (inner h v (eitherK ifK) k placeC refl (omega arith)) f)
+  fits-exp v h (r-epair k x y d e) = (fits-exp v (inner h v (plainK epairK) k placeA refl (omega arith)) d, fits-exp v (inner h v (plainK epairK) k placeB refl (omega arith)) e)
+  fits-exp v h (r-efst k x d) = fits-exp v (inner h v (plainK efstK) k placeA refl (omega arith)) d
+  fits-exp v h (r-esnd k x d) = fits-exp v (inner h v (plainK esndK) k placeA refl (omega arith)) d
   fits-exp v h (r-ederef k x c) = tt
-  fits-exp v h (r-eassign k x y c d) = fits-exp v (inner h v _ k placeB refl (omega arith)) d
-  fits-exp v h (r-elet k x y d e) = let r = inner h (suc v) _ k placeB refl (omega arith) in (fits-exp v (inner h v _ k placeA refl (omega arith)) d, omega (arith, r .room), fits-exp (suc v) r e)
+  fits-exp v h (r-eassign k x y c d) = fits-exp v (inner h v (plainK eassignK) k placeB refl (omega arith)) d
+  fits-exp v h (r-elet k x y d e) = let r = inner h (suc v) (eitherK letK) k placeB refl (omega arith) in (fits-exp v (inner h v (eitherK letK) k placeA refl (omega arith)) d, omega (arith, r .room), fits-exp (suc v) r e)
 
   fits-code : {i : ℕ} {c : Code} (v : ℕ) → Room mostBinders maxBinders rs n i v → ReadsCode rs i c → FitsCode v c
-  unfolding names bindersBy
-  fits-code v h (r-edit k x d) = fits-exp v (inner h v _ k placeA refl (omega arith)) d
+  unfolding asksOf names bindersBy
+  fits-code v h (r-edit k x d) = fits-exp v (inner h v (taskK editK) k placeA refl (omega arith)) d
   fits-code v h (r-enter k x d) = tt
   fits-code v h (r-update k x c) = tt
-  fits-code v h (r-then k x y d e) = let r = inner h (suc v) _ k placeB refl (omega arith) in (fits-code v (inner h v _ k placeA refl (omega arith)) d, omega (arith, r .room), fits-code (suc v) r e)
-  fits-code v h (r-next k x y d e) = let r = inner h (suc v) _ k placeB refl (omega arith) in (fits-code v (inner h v _ k placeA refl (omega arith)) d, omega (arith, r .room), fits-code (suc v) r e)
+  fits-code v h (r-then k x y d e) = let r = inner h (suc v) (taskK thenK) k placeB refl (omega arith) in (fits-code v (inner h v (taskK thenK) k placeA refl (omega arith)) d, omega (arith, r .room), fits-code (suc v) r e)
+  fits-code v h (r-next k x y d e) = let r = inner h (suc v) (taskK nextK) k placeB refl (omega arith) in (fits-code v (inner h v (taskK nextK) k placeA refl (omega arith)) d, omega (arith, r .room), fits-code (suc v) r e)
   fits-code v h (r-fail k x d) = tt
-  fits-code v h (r-and k x y d e) = (fits-code v (inner h v _ k placeA refl (omega arith)) d, fits-code v (inner h v _ k placeB refl (omega arith)) e)
-  fits-code v h (r-or k x y d e) = (fits-code v (inner h v _ k placeA refl (omega arith)) d, fits-code v (inner h v _ k placeB refl (omega arith)) e)
-  fits-code v h (r-xor k x y d e) = (fits-code v (inner h v _ k placeA refl (omega arith)) d, fits-code v (inner h v _ k placeB refl (omega arith)) e)
-  fits-code v h (r-if k x y z d e f) = (fits-exp v (inner h v _ k placeA refl (omega arith)) d, fits-code v (inner h v _ k placeB refl (omega arith)) e, fits-code v (inner h v _ k placeC refl (omega arith)) f)
-  fits-code v h (r-let k x y d e) = let r = inner h (suc v) _ k placeB refl (omega arith) in (fits-exp v (inner h v _ k placeA refl (omega arith)) d, omega (arith, r .room), fits-code (suc v) r e)
+  fits-code v h (r-and k x y d e) = (fits-code v (inner h v (taskK andK) k placeA refl (omega arith)) d, fits-code v (inner h v (taskK andK) k placeB refl (omega arith)) e)
+  fits-code v h (r-or k x y d e) = (fits-code v (inner h v (taskK orK) k placeA refl (omega arith)) d, fits-code v (inner h v (taskK orK) k placeB refl (omega arith)) e)
+  fits-code v h (r-xor k x y d e) = (fits-code v (inner h v (taskK xorK) k placeA refl (omega arith)) d, fits-code v (inner h v (taskK xorK) k placeB refl (omega arith)) e)
+  fits-code v h (r-if k x y z d e f) = (fits-exp v (inner h v (eitherK ifK) k placeA refl (omega arith)) d, fits-code v (inner h v (eitherK ifK) k placeB refl (omega arith)) e, fits-code v (inner h v (eitherK ifK) k placeC refl (omega arith)) f)
+  fits-code v h (r-let k x y d e) = let r = inner h (suc v) (eitherK letK) k placeB refl (omega arith) in (fits-exp v (inner h v (eitherK letK) k placeA refl (omega arith)) d, omega (arith, r .room), fits-code (suc v) r e)
 
   marks-fit : {i : ℕ} {c : Code} (v : ℕ) → Room mostMarks maxMarks rs n i v → ReadsCode rs i c → MarksFit v c
-  unfolding names marksBy
+  unfolding asksOf names marksBy
   marks-fit v h (r-edit k x d) = tt
   marks-fit v h (r-enter k x d) = tt
   marks-fit v h (r-update k x c) = tt
-  marks-fit v h (r-then k x y d e) = (marks-fit v (marked h v _ k placeA refl (omega arith)) d, marks-fit v (marked h v _ k placeB refl (omega arith)) e)
-  marks-fit v h (r-next k x y d e) = (marks-fit v (marked h v _ k placeA refl (omega arith)) d, marks-fit v (marked h v _ k placeB refl (omega arith)) e)
+  marks-fit v h (r-then k x y d e) = (marks-fit v (marked h v (taskK thenK) k placeA refl (omega arith)) d, marks-fit v (marked h v (taskK thenK) k placeB refl (omega arith)) e)
+  marks-fit v h (r-next k x y d e) = (marks-fit v (marked h v (taskK nextK) k placeA refl (omega arith)) d, marks-fit v (marked h v (taskK nextK) k placeB refl (omega arith)) e)
   marks-fit v h (r-fail k x d) = tt
-  marks-fit v h (r-and k x y d e) = let r = marked h (suc v) _ k placeA refl (omega arith) in (omega (arith, r .room), marks-fit (suc v) r d, marks-fit (suc v) (marked h (suc v) _ k placeB refl (omega arith)) e)
-  marks-fit v h (r-or k x y d e) = let r = marked h (suc v) _ k placeA refl (omega arith) in (omega (arith, r .room), marks-fit (suc v) r d, marks-fit (suc v) (marked h (suc v) _ k placeB refl (omega arith)) e)
-  marks-fit v h (r-xor k x y d e) = (marks-fit v (marked h v _ k placeA refl (omega arith)) d, marks-fit v (marked h v _ k placeB refl (omega arith)) e)
-  marks-fit v h (r-if k x y z d e f) = (marks-fit v (marked h v _ k placeB refl (omega arith)) e, marks-fit v (marked h v _ k placeC refl (omega arith)) f)
-  marks-fit v h (r-let k x y d e) = marks-fit v (marked h v _ k placeB refl (omega arith)) e
+  marks-fit v h (r-and k x y d e) = let r = marked h (suc v) (taskK andK) k placeA refl (omega arith) in (omega (arith, r .room), marks-fit (suc v) r d, marks-fit (suc v) (marked h (suc v) (taskK andK) k placeB refl (omega arith)) e)
+  marks-fit v h (r-or k x y d e) = let r = marked h (suc v) (taskK orK) k placeA refl (omega arith) in (omega (arith, r .room), marks-fit (suc v) r d, marks-fit (suc v) (marked h (suc v) (taskK orK) k placeB refl (omega arith)) e)
+  marks-fit v h (r-xor k x y d e) = (marks-fit v (marked h v (taskK xorK) k placeA refl (omega arith)) d, marks-fit v (marked h v (taskK xorK) k placeB refl (omega arith)) e)
+  marks-fit v h (r-if k x y z d e f) = (marks-fit v (marked h v (eitherK ifK) k placeB refl (omega arith)) e, marks-fit v (marked h v (eitherK ifK) k placeC refl (omega arith)) f)
+  marks-fit v h (r-let k x y d e) = marks-fit v (marked h v (eitherK letK) k placeB refl (omega arith)) e
 
   -- the tree of a row of small rows has at most 16 binders and 16 marks around any part
   module _ (s : every n (λ i. rowSmall rs i) ≡ true) where

@@ -8,8 +8,9 @@ use native.Mathlib.Decide.{decLe}
 use lib.Dec.{eqb}
 use lib.ListN.{length}
 use Rattle.tophat.specs.Syntax.{leaves}
-use Rattle.tophat.proofs.ComputeTyping.{bind, ask, nth, takes, gives, numberTo, opTo, sameTo, ifTo, typeTo, firstTo, secondTo, assignTo, infer, inferTask}
-use Rattle.rows.specs.Kinds.{kindOf}
+use Rattle.tophat.proofs.ComputeTyping.{ask, nth, takes, gives, numberTo, opTo, sameTo, ifTo, typeTo, firstTo, secondTo, assignTo, infer, inferTask}
+use mathlib.Core.Option.{bind}
+use Rattle.rows.specs.Kinds.{kindOf, asksOf}
 use Rattle.rows.specs.Rows.{every, listedAs, listed, truthCell, rowListed, sortBy, sorts, sortNumber, sortedAs, sorted, rowSorted, names, namesBy, namesIn, namings, namedOnce, lastFits}
 use Rattle.rows.specs.Enclosing.{bindersBy, marksBy, mostBinders, mostMarks, counts, leavesBy, rowSmall}
 use Rattle.rows.specs.Trees.{operatorOf}
@@ -76,5 +77,5 @@ met [] = true
 met (c ∷ cs) = eqb (groundOfRows (wordsOf (c .1)) (length (c .1))) (c .0) && met cs
 
 pub all-met : met cases ≡ true
-unfolding groundOfRows passes3 passes4 passes5 passes6 passes7 flowType isSome every rowListed listed listedAs truthCell rowSorted sorts sortBy sorted sortedAs sortNumber namedOnce namings namesIn namesBy names lastFits rowSmall counts leavesBy mostBinders mostMarks bindersBy marksBy kindOf operatorOf codeAt expAt typeAt cellTypes cellType bind inferTask infer nth ask opTo ifTo sameTo typeTo numberTo takes gives firstTo secondTo assignTo leaves decLe
+unfolding groundOfRows passes3 passes4 passes5 passes6 passes7 flowType isSome every rowListed listed listedAs truthCell rowSorted sorts sortBy sorted sortedAs sortNumber namedOnce namings namesIn namesBy names lastFits rowSmall counts leavesBy mostBinders mostMarks bindersBy marksBy kindOf asksOf operatorOf codeAt expAt typeAt cellTypes cellType bind inferTask infer nth ask opTo ifTo sameTo typeTo numberTo takes gives firstTo secondTo assignTo leaves decLe
 all-met = refl

@@ -11,10 +11,9 @@ use mir.Facts.{sfits-toZ}
 use mir.Syntax.{w32}
 use Rattle.word.specs.Word.{words}
 use Rattle.tophat.specs.Syntax.{Ty, unit, truth, number, leaves, maxLeaves, Val, Store}
-use Rattle.tophat.specs.Typing.{At, here, there, ValueType, v-unit, v-truth, v-number, ValueTypes, v-nil, v-cons}
-use Rattle.tophat.proofs.TypeLeaves.{AllSmall, small-nil, small-cons}
+use Rattle.tophat.specs.Typing.{At, here, there, ValueType, v-unit, v-truth, v-number, ValueTypes, v-nil, v-cons, AllSmall, small-nil, small-cons}
 use Rattle.rows.specs.Kinds.{cellK}
-use Rattle.rows.specs.Rows.{kindAt, opB}
+use Rattle.rows.specs.Rows.{opB, OfKind}
 use Rattle.rows.specs.Trees.{ReadsCell, r-cell, Cells, c-none, c-truth, c-number, c-other}
 use Rattle.rows.proofs.TreesAgree.{one-type}
 
@@ -51,7 +50,7 @@ module _ {rs : List ℕ} where
   one-cell : {i : ℕ} {τ υ : Ty} → ReadsCell rs i τ → ReadsCell rs i υ → τ ≡ υ
   one-cell (r-cell k p d) (r-cell l q e) = one-type d e
 
-  no-cell : {i : ℕ} {τ : Ty} {P : Type 0} → (kindAt rs i ≡ cellK → ⊥) → ReadsCell rs i τ → P
+  no-cell : {i : ℕ} {τ : Ty} {P : Type 0} → (OfKind rs i cellK → ⊥) → ReadsCell rs i τ → P
   no-cell c (r-cell k p e) = absurd (c k)
 
   -- at a cell's row its type

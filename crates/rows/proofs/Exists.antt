@@ -1,22 +1,23 @@
--- Rows that pass ground 4 read as trees, each row as its sort says; so do their cells. Rests on Trees and Basics.
+-- Rows that pass ground 4 read as trees, each row as its sort says; so do their cells. Rests on Trees and KindNumbers.
 use mathlib.Core.Path.{_≡_, refl, sym, ap, subst, _∙_}
 use mathlib.Core.Bool.{true, _&&_, _||_}
-use mathlib.Core.Logic.{⊎-elim, _⊎_}
+use mathlib.Core.Logic.{⊎-elim}
 use mathlib.Core.List.{List, [], _∷_}
 use Prim.Native.Nat.{ℕ, zero, suc, _<_, _≤_}
 use native.Mathlib.Omega.{arith}
 use lib.ListN.{getD}
 use borrow.Author.Tests.{eqb-true}
-use Rattle.ranges.proofs.Ranges.{and-left, and-right}
+use Rattle.match_laws.proofs.Ranges.{and-left, and-right}
 use Rattle.tophat.specs.Syntax.{Ty, truth, number, Exp, Code, Store}
-use Rattle.rows.specs.Kinds.{Kind, unitK, truthK, numberK, pairK, cellK, eunitK, etruthK, enumberK, ebinderK, eopK, ifK, epairK, efstK, esndK, ederefK, eassignK, letK}
-use Rattle.rows.specs.Kinds.{editK, enterK, updateK, thenK, nextK, failK, andK, orK, xorK, unknownK}
-use Rattle.rows.specs.Kinds.{Sort, typeS, basicS, cellS, plainS, taskS, noS, shapeOf}
-use Rattle.rows.specs.Rows.{kindAt, opA, opB, opC, sortBy, sorts, sortBelow, sortNumber, sameSort, sortedAs, sorted, rowSorted}
+use Rattle.rows.specs.Kinds.{Kind, typeK, unitK, truthK, numberK, pairK, cellK, plainK, eunitK, etruthK, enumberK, ebinderK, eopK, epairK, efstK, esndK, ederefK, eassignK}
+use Rattle.rows.specs.Kinds.{eitherK, ifK, letK, taskK, editK, enterK, updateK, thenK, nextK, failK, andK, orK, xorK}
+use Rattle.rows.specs.Kinds.{Sort, typeS, basicS, cellS, plainS, taskS, noS, asksOf, numberOf}
+use Rattle.rows.specs.Rows.{word, asksAt, OfKind, opA, opB, opC, sortBy, sorts, sortBelow, sortNumber, sameSort, sortedAs, sorted, rowSorted}
 use Rattle.rows.specs.Trees.{ReadsType, r-unit, r-truth, r-number, r-pair, ReadsCell, r-cell, Cells, c-none, c-truth, c-number, c-other}
 use Rattle.rows.specs.Trees.{ReadsExp, r-eunit, r-etruth, r-enumber, r-ebinder, r-eop, r-eif, r-epair, r-efst, r-esnd, r-ederef, r-eassign, r-elet}
 use Rattle.rows.specs.Trees.{ReadsCode, r-edit, r-enter, r-update, r-then, r-next, r-fail, r-and, r-or, r-xor, r-if, r-let}
 use Rattle.rows.proofs.Basics.{no, or-cases, le-or-lt, made-at, made-past}
+use Rattle.rows.proofs.KindNumbers.{by-kind, no-asks}
 
 -- ---- sorts
 
@@ -52,10 +53,10 @@ pub data Basic : Ty → Type 0 where
 module _ (rs : List ℕ) where
   -- the sort of row i
   unfoldable pub sortAt : ℕ → Sort
-  sortAt i = sortBy (shapeOf (kindAt rs i)) (sortBelow rs i (opB rs i))
+  sortAt i = sortBy (asksAt rs i) (sortBelow rs i (opB rs i))
 
   abbrev made : ℕ → List Sort → Sort
-  made i l = sortBy (shapeOf (kindAt rs i)) (getD l (opB rs i) noS)
+  made i l = sortBy (asksAt rs i) (getD l (opB rs i) noS)
 
   pub sort-below : (i w : ℕ) → w < i → sortBelow rs i w ≡ sortAt w
   unfolding sorts sortAt
@@ -132,7 +133,7 @@ module _ (rs : List ℕ) where
         let (m, y, q) = a-task (opB rs i) (and-left _ _ (and-right (sameSort a taskS) _ h)) in (l, m, x, y, p, q)
 
     -- 25 and 31, by the sort of B
-    if-has : kindAt rs i ≡ ifK → sameSort a plainS ≡ true → (sameSort b plainS || sameSort b taskS) ≡ true → sameSort c b ≡ true → Has i b
+    if-has : OfKind rs i (eitherK ifK) → sameSort a plainS ≡ true → (sameSort b plainS || sameSort b taskS) ≡ true → sameSort c b ≡ true → Has i b
     if-has k p h m = let (l, x, d) = a-plain (opA rs i) p in ⊎-elim
         (λ q. let (n, y, f) = a-plain (opB rs i) q in
         let (o, z, g) = a-plain (opC rs i) (subst (λ s. sameSort c s ≡ true) (same-sort b plainS q) m) in
@@ -142,49 +143,54 @@ module _ (rs : List ℕ) where
         subst (Has i) (sym (same-sort b taskS q)) (has-task (r-if k l n o d f g)))
         (or-cases _ _ h)
 
-    let-has : kindAt rs i ≡ letK → sameSort a plainS ≡ true → (sameSort b plainS || sameSort b taskS) ≡ true → Has i b
+    let-has : OfKind rs i (eitherK letK) → sameSort a plainS ≡ true → (sameSort b plainS || sameSort b taskS) ≡ true → Has i b
     let-has k p h = let (l, x, d) = a-plain (opA rs i) p in ⊎-elim
         (λ q. let (n, y, f) = a-plain (opB rs i) q in subst (Has i) (sym (same-sort b plainS q)) (has-plain (r-elet k l n d f)))
         (λ q. let (n, y, f) = a-task (opB rs i) q in subst (Has i) (sym (same-sort b taskS q)) (has-task (r-let k l n d f)))
         (or-cases _ _ h)
 
-    row-has : (k : Kind) → kindAt rs i ≡ k → sorted (shapeOf k) a b c ≡ true → Has i (sortBy (shapeOf k) b)
-    unfolding sorted sortedAs sortBy
-    row-has unitK k h = has-type (r-unit k)
-    row-has truthK k h = has-basic is-truth (r-truth k)
-    row-has numberK k h = has-basic is-number (r-number k)
-    row-has pairK k h =
+    row-has : (k : Kind) → OfKind rs i k → sorted (asksOf (numberOf k)) a b c ≡ true → Has i (sortBy (asksOf (numberOf k)) b)
+    unfolding asksOf sorted sortedAs sortBy
+    row-has (typeK unitK) k h = has-type (r-unit k)
+    row-has (typeK truthK) k h = has-basic is-truth (r-truth k)
+    row-has (typeK numberK) k h = has-basic is-number (r-number k)
+    row-has (typeK pairK) k h =
         let (l, τ, d) = a-type (opA rs i) (and-left _ _ h) in
         let (m, υ, e) = a-type (opB rs i) (and-left _ _ (and-right (sameSort a typeS || sameSort a basicS) _ h)) in has-type (r-pair k l m d e)
     row-has cellK k h = let (l, τ, t, d) = a-basic (opA rs i) (same-sort _ basicS (and-left _ _ h)) in has-cell t (r-cell k l d)
-    row-has eunitK k h = has-plain (r-eunit k)
-    row-has etruthK k h = has-plain (r-etruth k)
-    row-has enumberK k h = has-plain (r-enumber k)
-    row-has ebinderK k h = has-plain (r-ebinder k)
-    row-has eopK k h =
+    row-has (plainK eunitK) k h = has-plain (r-eunit k)
+    row-has (plainK etruthK) k h = has-plain (r-etruth k)
+    row-has (plainK enumberK) k h = has-plain (r-enumber k)
+    row-has (plainK ebinderK) k h = has-plain (r-ebinder k)
+    row-has (plainK eopK) k h =
         let (l, x, d) = a-plain (opB rs i) (and-left _ _ h) in
         let (m, y, e) = a-plain (opC rs i) (and-right (sameSort b plainS) _ h) in has-plain (r-eop k l m d e)
-    row-has ifK k h =
+    row-has (eitherK ifK) k h =
         let r = and-right (sameSort a plainS) _ h in
         if-has k (and-left _ _ h) (and-left _ _ r) (and-right (sameSort b plainS || sameSort b taskS) _ r)
-    row-has epairK k h = let (l, m, x, y, d, e) = plains h in has-plain (r-epair k l m d e)
-    row-has efstK k h = let (l, x, d) = a-plain (opA rs i) (and-left _ _ h) in has-plain (r-efst k l d)
-    row-has esndK k h = let (l, x, d) = a-plain (opA rs i) (and-left _ _ h) in has-plain (r-esnd k l d)
-    row-has ederefK k h = let (l, τ, d) = a-cell (opA rs i) (and-left _ _ h) in has-plain (r-ederef k l d)
-    row-has eassignK k h =
+    row-has (plainK epairK) k h = let (l, m, x, y, d, e) = plains h in has-plain (r-epair k l m d e)
+    row-has (plainK efstK) k h = let (l, x, d) = a-plain (opA rs i) (and-left _ _ h) in has-plain (r-efst k l d)
+    row-has (plainK esndK) k h = let (l, x, d) = a-plain (opA rs i) (and-left _ _ h) in has-plain (r-esnd k l d)
+    row-has (plainK ederefK) k h = let (l, τ, d) = a-cell (opA rs i) (and-left _ _ h) in has-plain (r-ederef k l d)
+    row-has (plainK eassignK) k h =
         let (l, τ, d) = a-cell (opA rs i) (and-left _ _ h) in
         let (m, y, e) = a-plain (opB rs i) (and-left _ _ (and-right (sameSort a cellS) _ h)) in has-plain (r-eassign k l m d e)
-    row-has letK k h = let-has k (and-left _ _ h) (and-left _ _ (and-right (sameSort a plainS) _ h))
-    row-has editK k h = let (l, x, d) = a-plain (opA rs i) (and-left _ _ h) in has-task (r-edit k l d)
-    row-has enterK k h = let (l, τ, d) = a-type (opA rs i) (and-left _ _ h) in has-task (r-enter k l d)
-    row-has updateK k h = let (l, τ, d) = a-cell (opA rs i) (and-left _ _ h) in has-task (r-update k l d)
-    row-has thenK k h = let (l, m, x, y, d, e) = tasks h in has-task (r-then k l m d e)
-    row-has nextK k h = let (l, m, x, y, d, e) = tasks h in has-task (r-next k l m d e)
-    row-has failK k h = let (l, τ, d) = a-type (opA rs i) (and-left _ _ h) in has-task (r-fail k l d)
-    row-has andK k h = let (l, m, x, y, d, e) = tasks h in has-task (r-and k l m d e)
-    row-has orK k h = let (l, m, x, y, d, e) = tasks h in has-task (r-or k l m d e)
-    row-has xorK k h = let (l, m, x, y, d, e) = tasks h in has-task (r-xor k l m d e)
-    row-has unknownK k h = no h
+    row-has (eitherK letK) k h = let-has k (and-left _ _ h) (and-left _ _ (and-right (sameSort a plainS) _ h))
+    row-has (taskK editK) k h = let (l, x, d) = a-plain (opA rs i) (and-left _ _ h) in has-task (r-edit k l d)
+    row-has (taskK enterK) k h = let (l, τ, d) = a-type (opA rs i) (and-left _ _ h) in has-task (r-enter k l d)
+    row-has (taskK updateK) k h = let (l, τ, d) = a-cell (opA rs i) (and-left _ _ h) in has-task (r-update k l d)
+    row-has (taskK thenK) k h = let (l, m, x, y, d, e) = tasks h in has-task (r-then k l m d e)
+    row-has (taskK nextK) k h = let (l, m, x, y, d, e) = tasks h in has-task (r-next k l m d e)
+    row-has (taskK failK) k h = let (l, τ, d) = a-type (opA rs i) (and-left _ _ h) in has-task (r-fail k l d)
+    row-has (taskK andK) k h = let (l, m, x, y, d, e) = tasks h in has-task (r-and k l m d e)
+    row-has (taskK orK) k h = let (l, m, x, y, d, e) = tasks h in has-task (r-or k l m d e)
+    row-has (taskK xorK) k h = let (l, m, x, y, d, e) = tasks h in has-task (r-xor k l m d e)
+
+    -- a row that is sorted is of some kind
+    some-row : (w : ℕ) → word rs i 0 ≡ w → sorted (asksOf w) a b c ≡ true → Has i (sortBy (asksOf w) b)
+    unfolding sorted
+    some-row = by-kind (λ w. word rs i 0 ≡ w → sorted (asksOf w) a b c ≡ true → Has i (sortBy (asksOf w) b))
+        (λ w e q h. no (subst (λ s. sorted s a b c ≡ true) (no-asks w e) h)) row-has
 
 -- ---- the theorem
 
@@ -196,7 +202,7 @@ module _ (rs : List ℕ) (n : ℕ) (q : Sorted rs n) where
   by-rows : (m i : ℕ) → i < m → m ≤ n → Has rs i (sortAt rs i)
   unfolding sortAt rowSorted
   by-rows zero i l h = absurd (omega arith)
-  by-rows (suc m) i l h = row-has rs i (λ w b. by-rows m w (omega arith) (omega arith)) (kindAt rs i) refl (q i (omega arith))
+  by-rows (suc m) i l h = some-row rs i (λ w b. by-rows m w (omega arith) (omega arith)) (word rs i 0) refl (q i (omega arith))
 
   -- each row reads as its sort
   pub exists : (i : ℕ) → i < n → Has rs i (sortAt rs i)
@@ -209,9 +215,9 @@ module _ (rs : List ℕ) (n : ℕ) (q : Sorted rs n) where
       by (has-task d) = (_, d)
 
   -- the cells
-  not-cell : (i : ℕ) (s : Sort) → sortAt rs i ≡ s → (s ≡ cellS → ⊥) → kindAt rs i ≡ cellK → ⊥
-  unfolding sortAt sortBy
-  not-cell i s e z k = z (sym e ∙ ap (λ κ. sortBy (shapeOf κ) (sortBelow rs i (opB rs i))) k)
+  not-cell : (i : ℕ) (s : Sort) → sortAt rs i ≡ s → (s ≡ cellS → ⊥) → OfKind rs i cellK → ⊥
+  unfolding sortAt sortBy asksOf
+  not-cell i s e z k = z (sym e ∙ ap (λ w. sortBy (asksOf w) (sortBelow rs i (opB rs i))) k)
 
   more-cells : (i : ℕ) {Σ : List Ty} {s : Store} → Cells rs i Σ s → {t : Sort} → sortAt rs i ≡ t → Has rs i t → (Σ₁ : List Ty) × (s₁ : Store) × Cells rs (suc i) Σ₁ s₁
   more-cells i d e (has-type h) = (_, _, c-other d (not-cell i typeS e (λ x. let z : _≡_ {A = ℕ} 0 1 = cc in omega arith)))

@@ -1,87 +1,73 @@
--- What is computed as a type or as a plain expression of rows that pass ground 4 is read as it. Rests on TreesAgree and Exists.
+-- What is computed as a type or as a plain expression of rows that pass ground 4 is read as it. Rests on TreesAgree, Groups and
+-- Exists.
 use mathlib.Core.Path.{_≡_, refl, sym, subst, _∙_}
-use mathlib.Core.Option.{none, some}
+use mathlib.Core.Option.{Option, none, some, bind}
 use mathlib.Core.List.{List}
 use Prim.Native.Nat.{ℕ, zero, suc, _<_}
 use Rattle.tophat.specs.Syntax.{Ty, Exp, Code}
 use Rattle.tophat.proofs.Basics.{some-is}
-use Rattle.tophat.proofs.ComputeTyping.{bind}
-use Rattle.rows.specs.Kinds.{Sort}
-use Rattle.rows.specs.Rows.{opA}
-use Rattle.rows.specs.Trees.{ReadsType, r-unit, r-truth, r-number, r-pair, ReadsCell, r-cell}
-use Rattle.rows.specs.Trees.{ReadsExp, r-eunit, r-etruth, r-enumber, r-ebinder, r-eop, r-eif, r-epair, r-efst, r-esnd, r-ederef, r-eassign, r-elet}
-use Rattle.rows.specs.Trees.{ReadsCode, r-edit, r-enter, r-update, r-then, r-next, r-fail, r-and, r-or, r-xor, r-if, r-let}
-use Rattle.rows.specs.ComputeTrees.{typeAt, expAt}
+use Rattle.rows.specs.Kinds.{EitherKind, ifK, letK, typeK, cellK, plainK, eitherK, taskK, Sort}
+use Rattle.rows.specs.Trees.{ReadsType, ReadsCell, r-cell, ReadsExp, ReadsCode}
+use Rattle.rows.specs.ComputeTrees.{expBy, typeAt, expAt}
+use Rattle.rows.proofs.KindNumbers.{kind-at}
 use Rattle.rows.proofs.TreesAgree.{type-is, exp-is}
+use Rattle.rows.proofs.Groups.{TypeRow, type-row, ExpRow, plain-row, plain-by, CodeRow, task-row, task-by, type-group, exp-group, code-group}
 use Rattle.rows.proofs.Exists.{Has, has-type, has-basic, has-cell, has-plain, has-task, Sorted, exists}
 use Rattle.rows.proofs.CodeRead.{bind-none, none-some}
+
+-- 25 and 31 are not plain where their B is not
+not-plain : (exp : ℕ → Option Exp) (a b c : ℕ) (k : EitherKind) → exp b ≡ none → expBy exp a b c (eitherK k) ≡ none
+unfolding bind
+not-plain exp a b c ifK e = rw e (bind-none (exp a))
+not-plain exp a b c letK e = rw e (bind-none (exp a))
 
 module _ {rs : List ℕ} where
   -- a cell, a plain expression or a task is no type
   cell-no-type : (n : ℕ) {i : ℕ} {τ : Ty} → ReadsCell rs i τ → typeAt rs n i ≡ none
   unfolding typeAt bind
   cell-no-type zero d = refl
-  cell-no-type (suc n) (r-cell k p d) = rw (k, typeAt)
+  cell-no-type (suc n) {i} (r-cell k p d) = rw (kind-at rs i cellK k)
 
   exp-no-type : (n : ℕ) {i : ℕ} {a : Exp} → ReadsExp rs i a → typeAt rs n i ≡ none
   unfolding typeAt bind
   exp-no-type zero d = refl
-  exp-no-type (suc n) (r-eunit k) = rw (k, typeAt)
-  exp-no-type (suc n) (r-etruth k) = rw (k, typeAt)
-  exp-no-type (suc n) (r-enumber k) = rw (k, typeAt)
-  exp-no-type (suc n) (r-ebinder k) = rw (k, typeAt)
-  exp-no-type (suc n) (r-eop k p q d e) = rw (k, typeAt)
-  exp-no-type (suc n) (r-eif k p q r d e f) = rw (k, typeAt)
-  exp-no-type (suc n) (r-epair k p q d e) = rw (k, typeAt)
-  exp-no-type (suc n) (r-efst k p d) = rw (k, typeAt)
-  exp-no-type (suc n) (r-esnd k p d) = rw (k, typeAt)
-  exp-no-type (suc n) (r-ederef k p c) = rw (k, typeAt)
-  exp-no-type (suc n) (r-eassign k p q c d) = rw (k, typeAt)
-  exp-no-type (suc n) (r-elet k p q d e) = rw (k, typeAt)
+  exp-no-type (suc n) {i} d = by (exp-group d)
+    where
+      by : ExpRow rs i → typeAt rs (suc n) i ≡ none
+      by (plain-row k e) = rw (kind-at rs i (plainK k) e)
+      by (plain-by k e d) = rw (kind-at rs i (eitherK k) e)
 
   code-no-type : (n : ℕ) {i : ℕ} {c : Code} → ReadsCode rs i c → typeAt rs n i ≡ none
   unfolding typeAt bind
   code-no-type zero d = refl
-  code-no-type (suc n) (r-edit k p d) = rw (k, typeAt)
-  code-no-type (suc n) (r-enter k p d) = rw (k, typeAt)
-  code-no-type (suc n) (r-update k p c) = rw (k, typeAt)
-  code-no-type (suc n) (r-then k p q d e) = rw (k, typeAt)
-  code-no-type (suc n) (r-next k p q d e) = rw (k, typeAt)
-  code-no-type (suc n) (r-fail k p d) = rw (k, typeAt)
-  code-no-type (suc n) (r-and k p q d e) = rw (k, typeAt)
-  code-no-type (suc n) (r-or k p q d e) = rw (k, typeAt)
-  code-no-type (suc n) (r-xor k p q d e) = rw (k, typeAt)
-  code-no-type (suc n) (r-if k p q r d e f) = rw (k, typeAt)
-  code-no-type (suc n) (r-let k p q d e) = rw (k, typeAt)
+  code-no-type (suc n) {i} d = by (code-group d)
+    where
+      by : CodeRow rs i → typeAt rs (suc n) i ≡ none
+      by (task-row k e) = rw (kind-at rs i (taskK k) e)
+      by (task-by k e d) = rw (kind-at rs i (eitherK k) e)
 
   -- a type, a cell or a task is no plain expression
   type-no-exp : (n : ℕ) {i : ℕ} {τ : Ty} → ReadsType rs i τ → expAt rs n i ≡ none
   unfolding expAt bind
   type-no-exp zero d = refl
-  type-no-exp (suc n) (r-unit k) = rw (k, expAt)
-  type-no-exp (suc n) (r-truth k) = rw (k, expAt)
-  type-no-exp (suc n) (r-number k) = rw (k, expAt)
-  type-no-exp (suc n) (r-pair k p q d e) = rw (k, expAt)
+  type-no-exp (suc n) {i} d = by (type-group d)
+    where
+      by : TypeRow rs i → expAt rs (suc n) i ≡ none
+      by (type-row k e) = rw (kind-at rs i (typeK k) e)
 
   cell-no-exp : (n : ℕ) {i : ℕ} {τ : Ty} → ReadsCell rs i τ → expAt rs n i ≡ none
   unfolding expAt bind
   cell-no-exp zero d = refl
-  cell-no-exp (suc n) (r-cell k p d) = rw (k, expAt)
+  cell-no-exp (suc n) {i} (r-cell k p d) = rw (kind-at rs i cellK k)
 
   code-no-exp : (n : ℕ) {i : ℕ} {c : Code} → ReadsCode rs i c → expAt rs n i ≡ none
   unfolding expAt bind
   code-no-exp zero d = refl
-  code-no-exp (suc n) (r-edit k p d) = rw (k, expAt)
-  code-no-exp (suc n) (r-enter k p d) = rw (k, expAt)
-  code-no-exp (suc n) (r-update k p c) = rw (k, expAt)
-  code-no-exp (suc n) (r-then k p q d e) = rw (k, expAt)
-  code-no-exp (suc n) (r-next k p q d e) = rw (k, expAt)
-  code-no-exp (suc n) (r-fail k p d) = rw (k, expAt)
-  code-no-exp (suc n) (r-and k p q d e) = rw (k, expAt)
-  code-no-exp (suc n) (r-or k p q d e) = rw (k, expAt)
-  code-no-exp (suc n) (r-xor k p q d e) = rw (k, expAt)
-  code-no-exp (suc n) {i} (r-if k p q r d e f) = let x = code-no-exp n e in rw (k, expAt, x) (bind-none (expAt rs n (opA rs i)))
-  code-no-exp (suc n) {i} (r-let k p q d e) = let x = code-no-exp n e in rw (k, expAt, x) (bind-none (expAt rs n (opA rs i)))
+  code-no-exp (suc n) {i} d = by (λ j b d. code-no-exp n d) (code-group d)
+    where
+      by : ((j : ℕ) (b : Code) → ReadsCode rs j b → expAt rs n j ≡ none) → CodeRow rs i → expAt rs (suc n) i ≡ none
+      by f (task-row k e) = rw (kind-at rs i (taskK k) e)
+      by f (task-by k e d) = rw (kind-at rs i (eitherK k) e) (not-plain _ _ _ _ k (f _ _ d))
 
 pub type-read : (rs : List ℕ) (n i m : ℕ) (τ : Ty) → Sorted rs n → i < n → i < m → typeAt rs m i ≡ some τ → ReadsType rs i τ
 type-read rs n i m τ q l k h = by (exists rs n q i l)

@@ -4,7 +4,7 @@ use mathlib.Core.Logic.{⊎-elim, _⊎_, inl, inr}
 use mathlib.Core.List.{List}
 use Prim.Native.Nat.{ℕ, _<_, _≤_}
 use native.Mathlib.Omega.{arith}
-use Rattle.rows.specs.Rows.{word}
+use Rattle.rows.specs.Rows.{FromKind, firstExpression}
 use Rattle.rows.specs.Enclosing.{Under, here}
 use Rattle.rows.proofs.Exists.{Sorted}
 use Rattle.rows.proofs.Places.{Place, opAt, Names, lower, above}
@@ -47,6 +47,6 @@ module _ (rs : List ℕ) (n : ℕ) (q : Sorted rs n) where
   foot-le l f = under-le rs n q l (f .under)
 
   -- a row with a row of kind 20 or more in its foot is of kind 20 or more
-  pub foot-high : {j i : ℕ} → j < n → Foot rs j i → 20 ≤ word rs i 0 → 20 ≤ word rs j 0
-  foot-high l f h = under-elim (λ j i b m. j < n → 20 ≤ word rs i 0 → 20 ≤ word rs j 0) (λ j l h. h)
+  pub foot-high : {j i : ℕ} → j < n → Foot rs j i → FromKind rs i firstExpression → FromKind rs j firstExpression
+  foot-high l f h = under-elim (λ j i b m. j < n → FromKind rs i firstExpression → FromKind rs j firstExpression) (λ j l h. h)
       (λ j i b m p g d r l h. let w = lower rs n q j l p g in above rs n q j l p g (r (omega arith) h)) (f .under) l h

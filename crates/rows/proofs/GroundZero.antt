@@ -1,25 +1,25 @@
--- Rows get 0 exactly when they pass grounds 3 to 6 and are a flow: their last row reads as a code that has a typing
--- derivation. They get 7 exactly when they pass grounds 3 to 6 and no code that their last row reads as has one. Code, cells,
--- first store and type are unique. Rests on TreesAgree, CodeRead, Ground and the calculus' typing.
+-- Which ground rows get, by the rules: the one computed is derived, and no other. A flow's code, cells, first store and type are unique.
+-- Rests on TreesAgree, CodeRead, Most and the calculus' typing.
 use mathlib.Core.Path.{_≡_, refl, sym, ap, subst, _∙_}
 use mathlib.Core.Bool.{Bool, true, false}
-use mathlib.Core.Option.{Option, none, some}
-use mathlib.Core.Logic.{_↔_}
+use mathlib.Core.Option.{Option, none, some, bind}
 use mathlib.Core.List.{List, []}
 use Prim.Native.Nat.{ℕ, _-_, _≤_}
 use native.Mathlib.Omega.{arith}
+use borrow.Table.Steps.{cases}
 use Rattle.tophat.specs.Syntax.{Ty, Code, Store}
-use Rattle.tophat.specs.Typing.{CodeType}
 use Rattle.tophat.proofs.Basics.{no-some}
-use Rattle.tophat.proofs.ComputeTyping.{bind, inferTask}
+use Rattle.tophat.proofs.ComputeTyping.{inferTask}
 use Rattle.tophat.proofs.TypingAgrees.{infer-task-is, infer-task-sound, one-task-type}
+use Rattle.rows.specs.GroundNumbers.{notTyped}
 use Rattle.rows.specs.Rows.{rowSorted}
-use Rattle.rows.specs.Trees.{ReadsCode, Cells, Flow}
+use Rattle.rows.specs.Trees.{Flow}
 use Rattle.rows.specs.ComputeTrees.{codeAt, cellTypes}
-use Rattle.rows.specs.Ground.{flowType, isSome, passes3, passes4, passes5, passes6, passes7, groundOfRows}
+use Rattle.rows.specs.Ground.{Formed, Small, IsFlow, Untyped, RowsGround, rows-3, rows-4, rows-5, rows-6, rows-7, rows-0, flowType, isSome, passes3, passes4, passes5, passes6, passes7, firstGround, groundOfRows}
 use Rattle.rows.proofs.Basics.{no, every-at}
 use Rattle.rows.proofs.TreesAgree.{code-is, one-code, cells-are, one-cells}
 use Rattle.rows.proofs.Exists.{Sorted, cells-exist}
+use Rattle.rows.proofs.Most.{small-of, of-small}
 use Rattle.rows.proofs.CodeRead.{none-some, code-read}
 
 -- ---- a flow is unique
@@ -63,54 +63,18 @@ is-none (some x) h = no (sym h)
 
 -- ---- the first ground that holds
 
-abbrev first : Bool → Bool → Bool → Bool → Bool → ℕ
-first a b c d e = elim a [ false ↦ 3 | true ↦ elim b [ false ↦ 4 | true ↦ elim c [ false ↦ 5 | true ↦ elim d [ false ↦ 6 | true ↦ elim e [ false ↦ 7 | true ↦ 0 ] ] ] ] ]
-
-pub record Pass (a b c d : Bool) : Type 0 where
-  pub three : a ≡ true
-  pub four : b ≡ true
-  pub five : c ≡ true
-  pub six : d ≡ true
-
-first-zero : (a b c d e : Bool) → first a b c d e ≡ 0 → Pass a b c d × (e ≡ true)
-first-zero false b c d e h = absurd (omega arith)
-first-zero true false c d e h = absurd (omega arith)
-first-zero true true false d e h = absurd (omega arith)
-first-zero true true true false e h = absurd (omega arith)
-first-zero true true true true false h = absurd (omega arith)
-first-zero true true true true true h = (record { three = refl; four = refl; five = refl; six = refl }, refl)
-
-first-seven : (a b c d e : Bool) → first a b c d e ≡ 7 → Pass a b c d × (e ≡ false)
-first-seven false b c d e h = absurd (omega arith)
-first-seven true false c d e h = absurd (omega arith)
-first-seven true true false d e h = absurd (omega arith)
-first-seven true true true false e h = absurd (omega arith)
-first-seven true true true true false h = (record { three = refl; four = refl; five = refl; six = refl }, refl)
-first-seven true true true true true h = absurd (omega arith)
-
-first-is : {a b c d e f : Bool} → Pass a b c d → e ≡ f → first a b c d e ≡ first true true true true f
-first-is {a} {b} {c} {d} {e} p q = rw (p .three, p .four, p .five, p .six, q)
-
 module _ (rs : List ℕ) (n : ℕ) where
-  -- grounds 3 to 6 do not hold
-  abbrev pub Passes : Type 0
-  Passes = Pass (passes3 rs n) (passes4 rs n) (passes5 rs n) (passes6 rs n)
-
   pub sorted-of : passes4 rs n ≡ true → Sorted rs n
   unfolding passes4
   sorted-of h = every-at n (λ i. rowSorted rs i) h
 
-  -- the rows are a flow, of some code, cells, store and type
-  pub record IsFlow : Type 0 where
-    pub code : Code
-    pub cells : List Ty
-    pub store : Store
-    pub type : Ty
-    pub flow : Flow rs n code cells store type
+  small-at : passes4 rs n ≡ true → passes6 rs n ≡ true → Small rs n
+  unfolding passes6
+  small-at f h = small-of rs n (sorted-of f) h
 
-  -- no code that the last row reads as has a typing derivation: it is no task, or there is no rule for it
-  abbrev pub Untyped : Type 0
-  Untyped = (c : Code) → ReadsCode rs (n - 1) c → (Σ : List Ty) (s : Store) → Cells rs n Σ s → (τ : Ty) → CodeType Σ [] c τ → ⊥
+  six-of : passes4 rs n ≡ true → Small rs n → passes6 rs n ≡ true
+  unfolding passes6
+  six-of f k = of-small rs n (sorted-of f) k
 
   module _ (l : 1 ≤ n) where
     pub flow-type-is : {c : Code} {Σ : List Ty} {s : Store} {τ : Ty} → Flow rs n c Σ s τ → flowType rs n ≡ some τ
@@ -128,33 +92,55 @@ module _ (rs : List ℕ) (n : ℕ) where
         let p = cells-are d .0 in
         (c, Σ, s, record { code = code-read rs n (n - 1) n c q (omega arith) (omega arith) x; cells = d; typed = infer-task-sound Σ [] c (rw p y) })
 
-    -- rows get 0 exactly when they pass grounds 3 to 6 and are a flow
-    pub zero-flow : groundOfRows rs n ≡ 0 → Passes × IsFlow
-    unfolding groundOfRows passes7
-    zero-flow h =
-        let (a, e) = first-zero (passes3 rs n) (passes4 rs n) (passes5 rs n) (passes6 rs n) (passes7 rs n) h in
-        let (τ, t) = some-of (flowType rs n) e in
-        let (c, Σ, s, f) = flow-of-type (a .four) t in
-        (a, record { code = c; cells = Σ; store = s; type = τ; flow = f })
+    -- the last row has a type exactly where the rows are a flow
+    seven-flow : passes4 rs n ≡ true → passes7 rs n ≡ true → IsFlow rs n
+    unfolding passes7
+    seven-flow f h =
+        let (τ, t) = some-of (flowType rs n) h in
+        let (c, Σ, s, k) = flow-of-type f t in
+        record { code = c; cells = Σ; store = s; type = τ; flow = k }
 
-    pub flow-zero : Passes → IsFlow → groundOfRows rs n ≡ 0
-    unfolding groundOfRows passes7 isSome
-    flow-zero p f = first-is p (ap isSome (flow-type-is (f .flow)))
+    flow-seven : IsFlow rs n → passes7 rs n ≡ true
+    unfolding passes7 isSome
+    flow-seven f = ap isSome (flow-type-is (f .flow))
 
-    pub ground-zero : (groundOfRows rs n ≡ 0) ↔ (Passes × IsFlow)
-    ground-zero = (zero-flow, (λ (p, f). flow-zero p f))
+    seven-untyped : passes7 rs n ≡ false → Untyped rs n
+    unfolding passes7
+    seven-untyped h c r Σ s d τ k = none-some (is-none (flowType rs n) h) (flow-type-is (record { code = r; cells = d; typed = k }))
 
-    -- and 7 exactly when they pass grounds 3 to 6 and have no typing
-    pub seven-untyped : groundOfRows rs n ≡ 7 → Passes × Untyped
-    unfolding groundOfRows passes7
-    seven-untyped h =
-        let (a, e) = first-seven (passes3 rs n) (passes4 rs n) (passes5 rs n) (passes6 rs n) (passes7 rs n) h in
-        (a, (λ c r Σ s d τ k. none-some (is-none (flowType rs n) e) (flow-type-is (record { code = r; cells = d; typed = k }))))
+    untyped-seven : passes4 rs n ≡ true → Untyped rs n → passes7 rs n ≡ false
+    unfolding passes7
+    untyped-seven f u = none-or-some (flowType rs n) (λ τ e. let (c, Σ, s, k) = flow-of-type f e in u c (k .code) Σ s (k .cells) τ (k .typed))
 
-    pub untyped-seven : Passes → Untyped → groundOfRows rs n ≡ 7
-    unfolding groundOfRows passes7
-    untyped-seven p f = first-is p (none-or-some (flowType rs n) (λ τ e.
-        let (c, Σ, s, k) = flow-of-type (p .four) e in f c (k .code) Σ s (k .cells) τ (k .typed)))
+    -- the rules derive the ground that is computed
+    pub ground-derived : RowsGround rs n (groundOfRows rs n)
+    unfolding groundOfRows
+    ground-derived = by (passes3 rs n) (passes4 rs n) (passes5 rs n) (passes6 rs n) (passes7 rs n) refl refl refl refl refl
+      where
+        by : (a b c d e : Bool) → passes3 rs n ≡ a → passes4 rs n ≡ b → passes5 rs n ≡ c → passes6 rs n ≡ d → passes7 rs n ≡ e → RowsGround rs n (firstGround a b c d e)
+        by false b c d e p q r t u = rows-3 p
+        by true false c d e p q r t u = rows-4 p q
+        by true true false d e p q r t u = rows-5 p q r
+        by true true true false e p q r t u = rows-6 (record { listed = p; sorted = q; named = r }) (λ k. no (sym t ∙ six-of q k))
+        by true true true true false p q r t u = rows-7 (record { listed = p; sorted = q; named = r }) (small-at q t) (seven-untyped u)
+        by true true true true true p q r t u = rows-0 (record { listed = p; sorted = q; named = r }) (small-at q t) (seven-flow q u)
 
-    pub ground-seven : (groundOfRows rs n ≡ 7) ↔ (Passes × Untyped)
-    ground-seven = (seven-untyped, (λ (p, f). untyped-seven p f))
+    firsts : {a b c d e : Bool} → passes3 rs n ≡ a → passes4 rs n ≡ b → passes5 rs n ≡ c → passes6 rs n ≡ d → passes7 rs n ≡ e → groundOfRows rs n ≡ firstGround a b c d e
+    unfolding groundOfRows
+    firsts p q r t u = λ j. firstGround (p j) (q j) (r j) (t j) (u j)
+
+    -- and no other
+    pub ground-only : {g : ℕ} → RowsGround rs n g → groundOfRows rs n ≡ g
+    ground-only (rows-3 p) = firsts p refl refl refl refl
+    ground-only (rows-4 p q) = firsts p q refl refl refl
+    ground-only (rows-5 p q r) = firsts p q r refl refl
+    ground-only (rows-6 f k) = cases (passes6 rs n) (λ t. absurd (k (small-at (f .sorted) t))) (λ t. firsts (f .listed) (f .sorted) (f .named) t refl)
+    ground-only (rows-7 f k u) = firsts (f .listed) (f .sorted) (f .named) (six-of (f .sorted) k) (untyped-seven (f .sorted) u)
+    ground-only (rows-0 f k i) = firsts (f .listed) (f .sorted) (f .named) (six-of (f .sorted) k) (flow-seven i)
+
+    -- what rows that get 0 are
+    pub zero-flow : groundOfRows rs n ≡ 0 → Formed rs n × Small rs n × IsFlow rs n
+    zero-flow h = by (subst (RowsGround rs n) h ground-derived)
+      where
+        by : RowsGround rs n 0 → Formed rs n × Small rs n × IsFlow rs n
+        by (rows-0 f k i) = (f, k, i)

@@ -1,25 +1,33 @@
+-- tests of Bool, and tests of each row
 pub mod Basics
-pub mod SameWords
-pub mod KindGaps
+-- the engine's own rows
+pub mod LentLaws
+-- the table of kinds, read both ways
 pub mod KindNumbers
+-- rows read as trees: what is read, what is computed, and that they are one
 pub mod TreesAgree
+pub mod Groups
 pub mod Exists
+pub mod CodeRead
+pub mod ExpRead
+pub mod CellsAt
+-- rows as a tree: places of operands, what stands under a row, the naming rule
 pub mod Places
 pub mod Steps
-pub mod Most
-pub mod Binders
 pub mod Named
 pub mod Foot
 pub mod UnderLast
 pub mod Disjoint
-pub mod CodeRead
-pub mod ExpRead
-pub mod GroundZero
-pub mod CellsAt
-pub mod Cases
 pub mod TaskFoot
+-- what the grounds give: lower operands, few binders and marks
+pub mod LowWords
+pub mod Most
+pub mod Binders
+-- sums over rows: how often a task can move
 pub mod TreeSum
 pub mod Totals
 pub mod Moves
-pub mod LowWords
+-- the ground of rows, and accepted rows
+pub mod GroundZero
 pub mod Accepted
+pub mod Cases

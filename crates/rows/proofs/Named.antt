@@ -7,18 +7,18 @@ use mathlib.Core.List.{List}
 use Prim.Native.Nat.{ℕ, zero, suc, _+_, _<_, _≤_}
 use native.Mathlib.Nat.{eq-or-lt-of-le, le-of-suc-le-suc}
 use native.Mathlib.Omega.{arith}
-use lib.Dec.{ltb, eqb}
+use lib.Dec.{eqb}
 use borrow.Author.Tests.{ltb-true, eqb-true, le-leb, lt-leb, eq-eqb}
-use Rattle.ranges.proofs.Ranges.{and-left, and-right}
-use Rattle.rows.specs.Kinds.{Shape, shape, noShape, shapeOf}
-use Rattle.rows.specs.Rows.{word, kindAt, opA, opB, opC, names, count, namesBy, namesIn, namings, namedOnce}
+use Rattle.match_laws.proofs.Ranges.{and-left, and-right}
+use Rattle.rows.specs.Kinds.{Asks, asks, noAsks, numberOf}
+use Rattle.rows.specs.Rows.{word, opA, opB, opC, names, count, namesBy, namesIn, namings, namedOnce, FromKind, BelowKind, belowKind, firstExpression, asksAt}
 use Rattle.rows.proofs.Basics.{both, or-cases, true-or-false, le-or-lt}
 use Rattle.rows.proofs.Exists.{Sorted}
 use Rattle.rows.proofs.Places.{Place, placeA, placeB, placeC, opAt, askAt, Names, lower, above}
 
 -- row j, of kind 20 or more, names row i at the place
 pub record NamesAt (rs : List ℕ) (j : ℕ) (p : Place) (i : ℕ) : Type 0 where
-  pub high : 20 ≤ word rs j 0
+  pub high : FromKind rs j firstExpression
   pub asks : Names rs j p
   pub is : opAt rs j p ≡ i
 
@@ -57,26 +57,26 @@ module _ (a b c : Bool) where
 module _ (rs : List ℕ) (i : ℕ) where
   -- the place of row j names row i
   abbrev pub hit : ℕ → Place → Bool
-  hit j p = names (askAt (shapeOf (kindAt rs j)) p) && eqb (opAt rs j p) i
+  hit j p = names (askAt (asksAt rs j) p) && eqb (opAt rs j p) i
 
-  hits : (s : Shape) (a b c : ℕ) → namesBy s a b c i ≡ count (names (askAt s placeA) && eqb a i) + count (names (askAt s placeB) && eqb b i) + count (names (askAt s placeC) && eqb c i)
+  hits : (s : Asks) (a b c : ℕ) → namesBy s a b c i ≡ count (names (askAt s placeA) && eqb a i) + count (names (askAt s placeB) && eqb b i) + count (names (askAt s placeC) && eqb c i)
   unfolding namesBy names
-  hits (shape p q r o x) a b c = refl
-  hits noShape a b c = refl
+  hits (asks p q r o x) a b c = refl
+  hits noAsks a b c = refl
 
-  pub names-in : (j : ℕ) → 20 ≤ word rs j 0 → namesIn rs i j ≡ count (hit j placeA) + count (hit j placeB) + count (hit j placeC)
+  pub names-in : (j : ℕ) → FromKind rs j firstExpression → namesIn rs i j ≡ count (hit j placeA) + count (hit j placeB) + count (hit j placeC)
   unfolding namesIn
-  names-in j l = rw (le-leb 20 (word rs j 0) l) (hits (shapeOf (kindAt rs j)) (opA rs j) (opB rs j) (opC rs j))
+  names-in j l = rw (le-leb (numberOf firstExpression) (word rs j 0) l) (hits (asksAt rs j) (opA rs j) (opB rs j) (opC rs j))
 
-  pub no-names-in : (j : ℕ) → word rs j 0 < 20 → namesIn rs i j ≡ 0
+  pub no-names-in : (j : ℕ) → BelowKind rs j firstExpression → namesIn rs i j ≡ 0
   unfolding namesIn
-  no-names-in j l = rw (lt-leb 20 (word rs j 0) l)
+  no-names-in j l = rw (lt-leb (numberOf firstExpression) (word rs j 0) l)
 
   hit-of : {j : ℕ} {p : Place} → NamesAt rs j p i → hit j p ≡ true
   hit-of {j} {p} k = both (k .asks) (eq-eqb (opAt rs j p) i (k .is))
 
-  of-hit : (j : ℕ) (p : Place) → 20 ≤ word rs j 0 → hit j p ≡ true → NamesAt rs j p i
-  of-hit j p l h = record { high = l; asks = and-left _ _ h; is = eqb-true (opAt rs j p) i (and-right (names (askAt (shapeOf (kindAt rs j)) p)) _ h) }
+  of-hit : (j : ℕ) (p : Place) → FromKind rs j firstExpression → hit j p ≡ true → NamesAt rs j p i
+  of-hit j p l h = record { high = l; asks = and-left _ _ h; is = eqb-true (opAt rs j p) i (and-right (names (askAt (asksAt rs j) p)) _ h) }
 
   part-is : (j : ℕ) (p : Place) → part (hit j placeA) (hit j placeB) (hit j placeC) p ≡ hit j p
   part-is j placeA = refl
@@ -106,7 +106,7 @@ module _ (rs : List ℕ) (i : ℕ) where
   some-naming : (j : ℕ) → 1 ≤ namesIn rs i j → (p : Place) × NamesAt rs j p i
   some-naming j h = ⊎-elim
       (λ l. let (p, t) = some-hit (hit j placeA) (hit j placeB) (hit j placeC) (omega (arith, names-in j l)) in (p, of-hit j p l (sym (part-is j p) ∙ t)))
-      (λ l. absurd (omega (arith, no-names-in j l))) (le-or-lt 20 (word rs j 0))
+      (λ l. absurd (omega (arith, no-names-in j l))) (le-or-lt (numberOf firstExpression) (word rs j 0))
 
   -- row i is named once: then some row names it
   pub named-by : (n : ℕ) → 1 ≤ namings rs i n → (j : ℕ) × (j < n) × (p : Place) × NamesAt rs j p i
@@ -129,17 +129,17 @@ abbrev pub NamedOnce : List ℕ → ℕ → Type 0
 NamedOnce rs n = (i : ℕ) → i < n → namedOnce rs n i ≡ true
 
 module _ (rs : List ℕ) (n : ℕ) (t : NamedOnce rs n) where
-  pub once : (i : ℕ) → suc i < n → 20 ≤ word rs i 0 → namings rs i n ≡ 1
+  pub once : (i : ℕ) → suc i < n → FromKind rs i firstExpression → namings rs i n ≡ 1
   unfolding namedOnce
-  once i l h = ⊎-elim (λ (e : ltb (word rs i 0) 20 ≡ true). absurd (omega (arith, ltb-true (word rs i 0) 20 e)))
+  once i l h = ⊎-elim (λ (e : belowKind rs i firstExpression ≡ true). absurd (omega (arith, ltb-true (word rs i 0) (numberOf firstExpression) e)))
       (λ e. ⊎-elim (λ (u : eqb (suc i) n ≡ true). absurd (omega (arith, eqb-true (suc i) n u))) (λ u. eqb-true (namings rs i n) 1 u) (or-cases _ _ e))
       (or-cases _ _ (t i (omega arith)))
 
   module _ (q : Sorted rs n) where
     -- two places of rows that name one row of kind 20 or more are one place of one row
-    pub one-place : (j k : ℕ) (p r : Place) → j < n → k < n → Names rs j p → Names rs k r → opAt rs j p ≡ opAt rs k r → 20 ≤ word rs (opAt rs j p) 0 → (j ≡ k) × (p ≡ r)
+    pub one-place : (j k : ℕ) (p r : Place) → j < n → k < n → Names rs j p → Names rs k r → opAt rs j p ≡ opAt rs k r → FromKind rs (opAt rs j p) firstExpression → (j ≡ k) × (p ≡ r)
     one-place j k p r l m g h e u =
         let i = opAt rs j p in let w = lower rs n q j l p g in
         named-alone rs i n (once i (omega arith) u) l m
         (record { high = above rs n q j l p g u; asks = g; is = refl })
-        (record { high = above rs n q k m r h (subst (λ i. 20 ≤ word rs i 0) e u); asks = h; is = sym e })
+        (record { high = above rs n q k m r h (subst (λ i. FromKind rs i firstExpression) e u); asks = h; is = sym e })

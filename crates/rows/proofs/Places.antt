@@ -4,20 +4,20 @@ use mathlib.Core.Path.{_≡_, refl, sym, subst, _∙_}
 use mathlib.Core.Bool.{Bool, true, false, _&&_, _||_}
 use mathlib.Core.Logic.{⊎-elim, _⊎_, inl, inr}
 use mathlib.Core.List.{List}
-use Prim.Native.Nat.{ℕ, _<_, _≤_}
+use Prim.Native.Nat.{ℕ, _<_}
 use native.Mathlib.Omega.{arith}
 use lib.Dec.{leb}
 use borrow.Author.Tests.{leb-true}
-use Rattle.ranges.proofs.Ranges.{and-left, and-right}
+use Rattle.match_laws.proofs.Ranges.{and-left, and-right}
 use Rattle.tophat.specs.Syntax.{Ty}
-use Rattle.rows.specs.Kinds.{Kind, kindOf, Ask, unused, operator, truth, anyWord, aType, aBasic, aCell, aPlain, aTask, aBranch, likeB}
-use Rattle.rows.specs.Kinds.{unitK, truthK, numberK, pairK, Sort, typeS, basicS, cellS, plainS, taskS, Shape, shape, noShape, shapeOf}
-use Rattle.rows.specs.Rows.{word, kindAt, opA, opB, opC, every, sortBelow, sameSort, sortedAs, sorted, rowSorted, names}
+use Rattle.rows.specs.Kinds.{Kind, Ask, unused, operator, truth, anyWord, aType, aBasic, aCell, aPlain, aTask, aBranch, likeB}
+use Rattle.rows.specs.Kinds.{Sort, typeS, basicS, cellS, plainS, taskS, Asks, asks, noAsks}
+use Rattle.rows.specs.Rows.{word, opA, opB, opC, sortBelow, sameSort, sortedAs, sorted, rowSorted, names, OfKind, FromKind, BelowKind, firstExpression, asksAt}
 use Rattle.rows.specs.Trees.{ReadsType, r-unit, r-truth, r-number, r-pair}
-use Rattle.rows.proofs.Basics.{no, or-cases, le-or-lt, every-at}
-use Rattle.rows.proofs.KindGaps.{kind-past}
-use Rattle.rows.proofs.KindNumbers.{kindNumber, kind-is}
+use Rattle.rows.proofs.Basics.{no, or-cases, le-or-lt}
+use Rattle.rows.specs.Kinds.{table, asksOf, numberOf}
 use Rattle.rows.proofs.Exists.{same-sort, Known, sortAt, sort-below, lower-of, Has, has-type, has-basic, Sorted, exists}
+use Rattle.rows.proofs.KindNumbers.{tabled, eachLine}
 
 pub data Place : Type 0 where
   placeA placeB placeC : Place
@@ -28,25 +28,22 @@ opAt rs j placeB = opB rs j
 opAt rs j placeC = opC rs j
 
 -- what a place must be
-abbrev pub askAt : Shape → Place → Ask
-askAt (shape p q r o x) placeA = p
-askAt (shape p q r o x) placeB = q
-askAt (shape p q r o x) placeC = r
-askAt noShape placeA = unused
-askAt noShape placeB = unused
-askAt noShape placeC = unused
+abbrev pub askAt : Asks → Place → Ask
+askAt (asks p q r o x) placeA = p
+askAt (asks p q r o x) placeB = q
+askAt (asks p q r o x) placeC = r
+askAt noAsks placeA = unused
+askAt noAsks placeB = unused
+askAt noAsks placeC = unused
 
 -- the operand of row j at that place names a row
 abbrev pub Names : List ℕ → ℕ → Place → Type 0
-Names rs j p = names (askAt (shapeOf (kindAt rs j)) p) ≡ true
+Names rs j p = names (askAt (asksAt rs j) p) ≡ true
 
-pub names-of : (rs : List ℕ) (j : ℕ) (k : Kind) → kindAt rs j ≡ k → (p : Place) → names (askAt (shapeOf k) p) ≡ true → Names rs j p
-names-of rs j k e p h = subst (λ k. names (askAt (shapeOf k) p) ≡ true) (sym e) h
+pub names-of : (rs : List ℕ) (j : ℕ) (k : Kind) → OfKind rs j k → (p : Place) → names (askAt (asksOf (numberOf k)) p) ≡ true → Names rs j p
+names-of rs j k e p h = subst (λ w. names (askAt (asksOf w) p) ≡ true) (sym e) h
 
--- ---- what holds of each line of the table, by one computed test
-
-pub tabled : (test : ℕ → Shape → Bool) → every 49 (λ k. test k (shapeOf (kindOf k))) ≡ true → ((k : ℕ) → test k noShape ≡ true) → (k : ℕ) → test k (shapeOf (kindOf k)) ≡ true
-tabled test t z k = ⊎-elim (λ (l : 49 ≤ k). subst (λ κ. test k (shapeOf κ) ≡ true) (sym (kind-past k l)) (z k)) (λ l. every-at 49 (λ k. test k (shapeOf (kindOf k))) t k l) (le-or-lt 49 k)
+-- ---- what holds of each line of the table, by a computed test of each
 
 -- an ask that stands alone, not as B is; one for types
 abbrev alone : Ask → Bool
@@ -75,16 +72,17 @@ typesOnly aTask = false
 typesOnly aBranch = false
 typesOnly likeB = false
 
-abbrev fair : ℕ → Shape → Bool
+abbrev fair : ℕ → Asks → Bool
 fair k s = (alone (askAt s placeA) && (alone (askAt s placeB) && (alone (askAt s placeC) || names (askAt s placeB))))
-    && ((typesOnly (askAt s placeA) && (typesOnly (askAt s placeB) && typesOnly (askAt s placeC))) || leb 20 k)
+    && ((typesOnly (askAt s placeA) && (typesOnly (askAt s placeB) && typesOnly (askAt s placeC))) || leb (numberOf firstExpression) k)
 
-tested : every 49 (λ k. fair k (shapeOf (kindOf k))) ≡ true
-unfolding every kindOf names
+tested : eachLine (λ n k s. fair n s) table ≡ true
+unfolding names
 tested = refl
 
-all-fair : (k : ℕ) → fair k (shapeOf (kindOf k)) ≡ true
-all-fair = tabled fair tested (λ k. refl)
+all-fair : (w : ℕ) → fair w (asksOf w) ≡ true
+unfolding names
+all-fair = tabled fair tested (λ w. refl)
 
 -- ---- an operand that names a row has a sort
 
@@ -122,14 +120,14 @@ known-like aTask s b h k e = known-alone aTask s b h refl e
 known-like aBranch s b h k e = known-alone aBranch s b h refl e
 known-like likeB s b h k e = known-same s b k e
 
-sorted-at : (s : Shape) (f : Place → Sort) → sorted s (f placeA) (f placeB) (f placeC) ≡ true → (p : Place) → sortedAs (askAt s p) (f p) (f placeB) ≡ true
+sorted-at : (s : Asks) (f : Place → Sort) → sorted s (f placeA) (f placeB) (f placeC) ≡ true → (p : Place) → sortedAs (askAt s p) (f p) (f placeB) ≡ true
 unfolding sorted sortedAs
-sorted-at (shape a b c o x) f h placeA = and-left _ _ h
-sorted-at (shape a b c o x) f h placeB = and-left _ _ (and-right (sortedAs a (f placeA) (f placeB)) _ h)
-sorted-at (shape a b c o x) f h placeC = and-right (sortedAs b (f placeB) (f placeB)) _ (and-right (sortedAs a (f placeA) (f placeB)) _ h)
-sorted-at noShape f h p = no h
+sorted-at (asks a b c o x) f h placeA = and-left _ _ h
+sorted-at (asks a b c o x) f h placeB = and-left _ _ (and-right (sortedAs a (f placeA) (f placeB)) _ h)
+sorted-at (asks a b c o x) f h placeC = and-right (sortedAs b (f placeB) (f placeB)) _ (and-right (sortedAs a (f placeA) (f placeB)) _ h)
+sorted-at noAsks f h p = no h
 
-module _ (k : ℕ) (s : Shape) (f : Place → Sort) (t : fair k s ≡ true) (h : sorted s (f placeA) (f placeB) (f placeC) ≡ true) where
+module _ (k : ℕ) (s : Asks) (f : Place → Sort) (t : fair k s ≡ true) (h : sorted s (f placeA) (f placeB) (f placeC) ≡ true) where
   known-b : names (askAt s placeB) ≡ true → Known (f placeB)
   known-b n = known-alone (askAt s placeB) _ _ n (and-left _ _ (and-right (alone (askAt s placeA)) _ (and-left _ _ t))) (sorted-at s f h placeB)
 
@@ -143,15 +141,14 @@ module _ (k : ℕ) (s : Shape) (f : Place → Sort) (t : fair k s ≡ true) (h :
 
 -- ---- types stand on kinds below 20
 
-pub type-low : {rs : List ℕ} {i : ℕ} {τ : Ty} → ReadsType rs i τ → word rs i 0 < 20
-unfolding kindNumber
-type-low (r-unit k) = let e = kind-is _ unitK k (omega arith) in omega arith
-type-low (r-truth k) = let e = kind-is _ truthK k (omega arith) in omega arith
-type-low (r-number k) = let e = kind-is _ numberK k (omega arith) in omega arith
-type-low (r-pair k p q d e) = let e = kind-is _ pairK k (omega arith) in omega arith
+pub type-low : {rs : List ℕ} {i : ℕ} {τ : Ty} → ReadsType rs i τ → BelowKind rs i firstExpression
+type-low (r-unit k) = omega arith
+type-low (r-truth k) = omega arith
+type-low (r-number k) = omega arith
+type-low (r-pair k p q d e) = omega arith
 
-types-at : (k : ℕ) (s : Shape) → fair k s ≡ true → k < 20 → (p : Place) → typesOnly (askAt s p) ≡ true
-types-at k s t l p = ⊎-elim (λ u. by u p) (λ u. absurd (omega (arith, leb-true 20 k u))) (or-cases _ _ (and-right (alone (askAt s placeA) && (alone (askAt s placeB) && (alone (askAt s placeC) || names (askAt s placeB)))) _ t))
+types-at : (k : ℕ) (s : Asks) → fair k s ≡ true → k < numberOf firstExpression → (p : Place) → typesOnly (askAt s p) ≡ true
+types-at k s t l p = ⊎-elim (λ u. by u p) (λ u. absurd (omega (arith, leb-true (numberOf firstExpression) k u))) (or-cases _ _ (and-right (alone (askAt s placeA) && (alone (askAt s placeB) && (alone (askAt s placeC) || names (askAt s placeB)))) _ t))
   where
     by : (typesOnly (askAt s placeA) && (typesOnly (askAt s placeB) && typesOnly (askAt s placeC))) ≡ true → (p : Place) → typesOnly (askAt s p) ≡ true
     by u placeA = and-left _ _ u
@@ -179,23 +176,23 @@ module _ (rs : List ℕ) (n : ℕ) (q : Sorted rs n) where
   -- an operand that names a row names a lower one
   pub lower : (j : ℕ) → j < n → (p : Place) → Names rs j p → opAt rs j p < j
   unfolding rowSorted
-  lower j l p h = lower-of rs j (opAt rs j p) (sortOf j p) (known-at (word rs j 0) (shapeOf (kindAt rs j)) (sortOf j) (all-fair (word rs j 0)) (q j l) p h) refl
+  lower j l p h = lower-of rs j (opAt rs j p) (sortOf j p) (known-at (word rs j 0) (asksAt rs j) (sortOf j) (all-fair (word rs j 0)) (q j l) p h) refl
 
-  type-row : (w : ℕ) → w < n → (sortAt rs w ≡ typeS) ⊎ (sortAt rs w ≡ basicS) → word rs w 0 < 20
+  type-row : (w : ℕ) → w < n → (sortAt rs w ≡ typeS) ⊎ (sortAt rs w ≡ basicS) → BelowKind rs w firstExpression
   type-row w l = ⊎-elim (λ e. by (subst (Has rs w) e (exists rs n q w l))) (λ e. by2 (subst (Has rs w) e (exists rs n q w l)))
     where
-      by : Has rs w typeS → word rs w 0 < 20
+      by : Has rs w typeS → BelowKind rs w firstExpression
       by (has-type d) = type-low d
 
-      by2 : Has rs w basicS → word rs w 0 < 20
+      by2 : Has rs w basicS → BelowKind rs w firstExpression
       by2 (has-basic b d) = type-low d
 
   -- a row of kind 20 or more is named by a row of kind 20 or more
-  pub above : (j : ℕ) → j < n → (p : Place) → Names rs j p → 20 ≤ word rs (opAt rs j p) 0 → 20 ≤ word rs j 0
+  pub above : (j : ℕ) → j < n → (p : Place) → Names rs j p → FromKind rs (opAt rs j p) firstExpression → FromKind rs j firstExpression
   unfolding rowSorted
-  above j l p h g = ⊎-elim (λ k. k) (λ (k : word rs j 0 < 20).
-      let s = shapeOf (kindAt rs j) in
+  above j l p h g = ⊎-elim (λ k. k) (λ (k : BelowKind rs j firstExpression).
+      let s = asksAt rs j in
       let m = lower j l p h in
       let t = a-type-sort (askAt s p) (sortOf j p) _ h (types-at (word rs j 0) s (all-fair (word rs j 0)) k p) (sorted-at s (sortOf j) (q j l) p) in
       let u = type-row (opAt rs j p) (omega arith) (⊎-elim (λ e. inl (sym (sort-below rs j _ m) ∙ e)) (λ e. inr (sym (sort-below rs j _ m) ∙ e)) t) in
-      absurd (omega arith)) (le-or-lt 20 (word rs j 0))
+      absurd (omega arith)) (le-or-lt (numberOf firstExpression) (word rs j 0))

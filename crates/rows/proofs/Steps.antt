@@ -6,56 +6,56 @@ use mathlib.Core.List.{List}
 use Prim.Native.Nat.{ℕ, _+_, _<_, _≤_}
 use native.Mathlib.Nat.{add-assoc, zero-add}
 use native.Mathlib.Omega.{arith}
-use Rattle.rows.specs.Kinds.{Shape, shape, noShape, shapeOf}
-use Rattle.rows.specs.Rows.{kindAt, names}
+use Rattle.rows.specs.Kinds.{Asks, asks, noAsks}
+use Rattle.rows.specs.Rows.{names, asksAt}
 use Rattle.rows.specs.Enclosing.{bindersBy, marksBy, Under, here, inA, inB, inC}
 use Rattle.rows.proofs.Basics.{no}
 use Rattle.rows.proofs.Exists.{Sorted}
 use Rattle.rows.proofs.Places.{Place, placeA, placeB, placeC, opAt, askAt, Names, lower}
 
 -- v binders or marks and those that a row puts around the row named at a place
-abbrev pub bindersAt : Shape → Place → ℕ → ℕ
-bindersAt (shape p q r o x) placeA v = v
-bindersAt (shape p q r o x) placeB v = bindersBy x + v
-bindersAt (shape p q r o x) placeC v = v
-bindersAt noShape p v = v
+abbrev pub bindersAt : Asks → Place → ℕ → ℕ
+bindersAt (asks p q r o x) placeA v = v
+bindersAt (asks p q r o x) placeB v = bindersBy x + v
+bindersAt (asks p q r o x) placeC v = v
+bindersAt noAsks p v = v
 
-abbrev pub marksAt : Shape → Place → ℕ → ℕ
-marksAt (shape p q r o x) placeA v = marksBy x + v
-marksAt (shape p q r o x) placeB v = marksBy x + v
-marksAt (shape p q r o x) placeC v = v
-marksAt noShape p v = v
+abbrev pub marksAt : Asks → Place → ℕ → ℕ
+marksAt (asks p q r o x) placeA v = marksBy x + v
+marksAt (asks p q r o x) placeB v = marksBy x + v
+marksAt (asks p q r o x) placeC v = v
+marksAt noAsks p v = v
 
-binders-plus : (s : Shape) (p : Place) (v w : ℕ) → bindersAt s p v + w ≡ bindersAt s p (v + w)
-binders-plus (shape a b c o x) placeA v w = refl
-binders-plus (shape a b c o x) placeB v w = add-assoc _ _ _
-binders-plus (shape a b c o x) placeC v w = refl
-binders-plus noShape p v w = refl
+binders-plus : (s : Asks) (p : Place) (v w : ℕ) → bindersAt s p v + w ≡ bindersAt s p (v + w)
+binders-plus (asks a b c o x) placeA v w = refl
+binders-plus (asks a b c o x) placeB v w = add-assoc _ _ _
+binders-plus (asks a b c o x) placeC v w = refl
+binders-plus noAsks p v w = refl
 
-marks-plus : (s : Shape) (p : Place) (v w : ℕ) → marksAt s p v + w ≡ marksAt s p (v + w)
-marks-plus (shape a b c o x) placeA v w = add-assoc _ _ _
-marks-plus (shape a b c o x) placeB v w = add-assoc _ _ _
-marks-plus (shape a b c o x) placeC v w = refl
-marks-plus noShape p v w = refl
+marks-plus : (s : Asks) (p : Place) (v w : ℕ) → marksAt s p v + w ≡ marksAt s p (v + w)
+marks-plus (asks a b c o x) placeA v w = add-assoc _ _ _
+marks-plus (asks a b c o x) placeB v w = add-assoc _ _ _
+marks-plus (asks a b c o x) placeC v w = refl
+marks-plus noAsks p v w = refl
 
 module _ {rs : List ℕ} where
-  step-by : (j : ℕ) {i b m : ℕ} (s : Shape) → shapeOf (kindAt rs j) ≡ s → (p : Place) → names (askAt s p) ≡ true → Under rs (opAt rs j p) i b m → Under rs j i (bindersAt s p b) (marksAt s p m)
+  step-by : (j : ℕ) {i b m : ℕ} (s : Asks) → asksAt rs j ≡ s → (p : Place) → names (askAt s p) ≡ true → Under rs (opAt rs j p) i b m → Under rs j i (bindersAt s p b) (marksAt s p m)
   unfolding names
-  step-by j (shape a b c o x) e placeA h d = inA e h d
-  step-by j (shape a b c o x) e placeB h d = inB e h d
-  step-by j (shape a b c o x) e placeC h d = inC e h d
-  step-by j noShape e placeA h d = no h
-  step-by j noShape e placeB h d = no h
-  step-by j noShape e placeC h d = no h
+  step-by j (asks a b c o x) e placeA h d = inA e h d
+  step-by j (asks a b c o x) e placeB h d = inB e h d
+  step-by j (asks a b c o x) e placeC h d = inC e h d
+  step-by j noAsks e placeA h d = no h
+  step-by j noAsks e placeB h d = no h
+  step-by j noAsks e placeC h d = no h
 
   -- what stands under a named row stands under the row that names it
-  pub under-step : (j : ℕ) {i b m : ℕ} (p : Place) → Names rs j p → Under rs (opAt rs j p) i b m → Under rs j i (bindersAt (shapeOf (kindAt rs j)) p b) (marksAt (shapeOf (kindAt rs j)) p m)
-  under-step j p h d = step-by j (shapeOf (kindAt rs j)) refl p h d
+  pub under-step : (j : ℕ) {i b m : ℕ} (p : Place) → Names rs j p → Under rs (opAt rs j p) i b m → Under rs j i (bindersAt (asksAt rs j) p b) (marksAt (asksAt rs j) p m)
+  under-step j p h d = step-by j (asksAt rs j) refl p h d
 
   -- and every row under a row is there by such steps
   module _ (P : ℕ → ℕ → ℕ → ℕ → Type 0) (z : (j : ℕ) → P j j 0 0)
-      (s : (j i b m : ℕ) (p : Place) → Names rs j p → Under rs (opAt rs j p) i b m → P (opAt rs j p) i b m → P j i (bindersAt (shapeOf (kindAt rs j)) p b) (marksAt (shapeOf (kindAt rs j)) p m)) where
-    at : (j i b m : ℕ) (t : Shape) → shapeOf (kindAt rs j) ≡ t → (p : Place) → names (askAt t p) ≡ true → Under rs (opAt rs j p) i b m → P (opAt rs j p) i b m → P j i (bindersAt t p b) (marksAt t p m)
+      (s : (j i b m : ℕ) (p : Place) → Names rs j p → Under rs (opAt rs j p) i b m → P (opAt rs j p) i b m → P j i (bindersAt (asksAt rs j) p b) (marksAt (asksAt rs j) p m)) where
+    at : (j i b m : ℕ) (t : Asks) → asksAt rs j ≡ t → (p : Place) → names (askAt t p) ≡ true → Under rs (opAt rs j p) i b m → P (opAt rs j p) i b m → P j i (bindersAt t p b) (marksAt t p m)
     at j i b m t e p h d k =
         subst (λ t. P j i (bindersAt t p b) (marksAt t p m)) e (s j i b m p (subst (λ t. names (askAt t p) ≡ true) (sym e) h) d k)
 

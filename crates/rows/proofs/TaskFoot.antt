@@ -7,10 +7,9 @@ use mathlib.Core.List.{List}
 use Prim.Native.Nat.{ℕ, _<_, _≤_}
 use native.Mathlib.Omega.{arith}
 use Rattle.tophat.specs.Syntax.{Code, edit, enter, update, then, next, fail, and, or, xor, if, let'}
-use Rattle.rows.specs.Kinds.{Kind, shapeOf, ifK, letK, editK, enterK, updateK, thenK, nextK, failK, andK, orK, xorK}
-use Rattle.rows.specs.Rows.{word, kindAt, opA, opB, opC, names}
+use Rattle.rows.specs.Kinds.{Kind, ifK, letK, editK, enterK, updateK, thenK, nextK, failK, andK, orK, xorK, eitherK, taskK, asksOf, numberOf}
+use Rattle.rows.specs.Rows.{opA, opB, opC, names, OfKind, FromKind, firstExpression}
 use Rattle.rows.specs.Trees.{ReadsCode, r-edit, r-enter, r-update, r-then, r-next, r-fail, r-and, r-or, r-xor, r-if, r-let}
-use Rattle.rows.proofs.KindNumbers.{kindNumber, kind-is}
 use Rattle.rows.proofs.Exists.{Sorted}
 use Rattle.rows.proofs.Places.{Place, placeA, placeB, placeC, opAt, askAt, names-of}
 use Rattle.rows.proofs.Foot.{Foot, foot-here, foot-up}
@@ -34,38 +33,38 @@ TaskFoot rs i (let' e b) j = (j ≡ i) ⊎ TaskFoot rs (opB rs i) b j
 -- a task row is in the foot, and of kind 20 or more
 pub record High (rs : List ℕ) (i j : ℕ) : Type 0 where
   pub foot : Foot rs i j
-  pub high : 20 ≤ word rs j 0
+  pub high : FromKind rs j firstExpression
 
 module _ {rs : List ℕ} where
-  self : (i : ℕ) (k : Kind) → kindAt rs i ≡ k → 20 ≤ kindNumber k → kindNumber k < 49 → (j : ℕ) → j ≡ i → High rs i j
-  self i k e g l j q = subst (High rs i) (sym q) (record { foot = foot-here; high = let u = kind-is (word rs i 0) k e l in omega arith })
+  self : (i : ℕ) (k : Kind) → OfKind rs i k → numberOf firstExpression ≤ numberOf k → (j : ℕ) → j ≡ i → High rs i j
+  self i k e g j q = subst (High rs i) (sym q) (record { foot = foot-here; high = omega (arith, e) })
 
-  sub : (i : ℕ) (k : Kind) → kindAt rs i ≡ k → (p : Place) → names (askAt (shapeOf k) p) ≡ true → (j : ℕ) → High rs (opAt rs i p) j → High rs i j
+  sub : (i : ℕ) (k : Kind) → OfKind rs i k → (p : Place) → names (askAt (asksOf (numberOf k)) p) ≡ true → (j : ℕ) → High rs (opAt rs i p) j → High rs i j
   sub i k e p g j h = record { foot = foot-up i p (names-of rs i k e p g) (h .foot); high = h .high }
 
-  module _ (i : ℕ) (k : Kind) (e : kindAt rs i ≡ k) (g : 20 ≤ kindNumber k) (l : kindNumber k < 49) (j : ℕ) where
-    one : {F : Type 0} (p : Place) → names (askAt (shapeOf k) p) ≡ true → (F → High rs (opAt rs i p) j) → (j ≡ i) ⊎ F → High rs i j
-    one p u f (inl q) = self i k e g l j q
+  module _ (i : ℕ) (k : Kind) (e : OfKind rs i k) (g : numberOf firstExpression ≤ numberOf k) (j : ℕ) where
+    one : {F : Type 0} (p : Place) → names (askAt (asksOf (numberOf k)) p) ≡ true → (F → High rs (opAt rs i p) j) → (j ≡ i) ⊎ F → High rs i j
+    one p u f (inl q) = self i k e g j q
     one p u f (inr x) = sub i k e p u j (f x)
 
-    two : {F G : Type 0} (p r : Place) → names (askAt (shapeOf k) p) ≡ true → names (askAt (shapeOf k) r) ≡ true → (F → High rs (opAt rs i p) j) → (G → High rs (opAt rs i r) j) → (j ≡ i) ⊎ (F ⊎ G) → High rs i j
-    two p r u v f h (inl q) = self i k e g l j q
+    two : {F G : Type 0} (p r : Place) → names (askAt (asksOf (numberOf k)) p) ≡ true → names (askAt (asksOf (numberOf k)) r) ≡ true → (F → High rs (opAt rs i p) j) → (G → High rs (opAt rs i r) j) → (j ≡ i) ⊎ (F ⊎ G) → High rs i j
+    two p r u v f h (inl q) = self i k e g j q
     two p r u v f h (inr (inl x)) = sub i k e p u j (f x)
     two p r u v f h (inr (inr x)) = sub i k e r v j (h x)
 
   pub task-foot : {i : ℕ} {c : Code} → ReadsCode rs i c → (j : ℕ) → TaskFoot rs i c j → High rs i j
-  unfolding kindNumber names
-  task-foot (r-edit k x d) j f = self _ editK k (omega arith) (omega arith) j f
-  task-foot (r-enter k x d) j f = self _ enterK k (omega arith) (omega arith) j f
-  task-foot (r-update k x d) j f = self _ updateK k (omega arith) (omega arith) j f
-  task-foot (r-then k x y d e) j f = two _ thenK k (omega arith) (omega arith) j placeA placeB refl refl (λ u. task-foot d j u) (λ u. task-foot e j u) f
-  task-foot (r-next k x y d e) j f = two _ nextK k (omega arith) (omega arith) j placeA placeB refl refl (λ u. task-foot d j u) (λ u. task-foot e j u) f
-  task-foot (r-fail k x d) j f = self _ failK k (omega arith) (omega arith) j f
-  task-foot (r-and k x y d e) j f = two _ andK k (omega arith) (omega arith) j placeA placeB refl refl (λ u. task-foot d j u) (λ u. task-foot e j u) f
-  task-foot (r-or k x y d e) j f = two _ orK k (omega arith) (omega arith) j placeA placeB refl refl (λ u. task-foot d j u) (λ u. task-foot e j u) f
-  task-foot (r-xor k x y d e) j f = two _ xorK k (omega arith) (omega arith) j placeA placeB refl refl (λ u. task-foot d j u) (λ u. task-foot e j u) f
-  task-foot (r-if k x y z c d e) j f = two _ ifK k (omega arith) (omega arith) j placeB placeC refl refl (λ u. task-foot d j u) (λ u. task-foot e j u) f
-  task-foot (r-let k x y c d) j f = one _ letK k (omega arith) (omega arith) j placeB refl (λ u. task-foot d j u) f
+  unfolding asksOf names
+  task-foot (r-edit k x d) j f = self _ (taskK editK) k (omega arith) j f
+  task-foot (r-enter k x d) j f = self _ (taskK enterK) k (omega arith) j f
+  task-foot (r-update k x d) j f = self _ (taskK updateK) k (omega arith) j f
+  task-foot (r-then k x y d e) j f = two _ (taskK thenK) k (omega arith) j placeA placeB refl refl (λ u. task-foot d j u) (λ u. task-foot e j u) f
+  task-foot (r-next k x y d e) j f = two _ (taskK nextK) k (omega arith) j placeA placeB refl refl (λ u. task-foot d j u) (λ u. task-foot e j u) f
+  task-foot (r-fail k x d) j f = self _ (taskK failK) k (omega arith) j f
+  task-foot (r-and k x y d e) j f = two _ (taskK andK) k (omega arith) j placeA placeB refl refl (λ u. task-foot d j u) (λ u. task-foot e j u) f
+  task-foot (r-or k x y d e) j f = two _ (taskK orK) k (omega arith) j placeA placeB refl refl (λ u. task-foot d j u) (λ u. task-foot e j u) f
+  task-foot (r-xor k x y d e) j f = two _ (taskK xorK) k (omega arith) j placeA placeB refl refl (λ u. task-foot d j u) (λ u. task-foot e j u) f
+  task-foot (r-if k x y z c d e) j f = two _ (eitherK ifK) k (omega arith) j placeB placeC refl refl (λ u. task-foot d j u) (λ u. task-foot e j u) f
+  task-foot (r-let k x y c d) j f = one _ (eitherK letK) k (omega arith) j placeB refl (λ u. task-foot d j u) f
 
 pub task-self : (rs : List ℕ) (i : ℕ) (c : Code) → TaskFoot rs i c i
 task-self rs i (edit e) = refl
@@ -80,7 +79,7 @@ task-self rs i (xor a b) = inl refl
 task-self rs i (if e a b) = inl refl
 task-self rs i (let' e b) = inl refl
 
-pub code-high : {rs : List ℕ} {i : ℕ} {c : Code} → ReadsCode rs i c → 20 ≤ word rs i 0
+pub code-high : {rs : List ℕ} {i : ℕ} {c : Code} → ReadsCode rs i c → FromKind rs i firstExpression
 code-high {rs} {i} {c} d = task-foot d i (task-self rs i c) .high
 
 -- ---- apart
@@ -115,11 +114,11 @@ bc : placeB ≡ placeC → ⊥
 bc e = let z : _≡_ {A = ℕ} 0 1 = cc in omega arith
 
 module _ (rs : List ℕ) (n : ℕ) (q : Sorted rs n) (t : NamedOnce rs n) where
-  module _ (i : ℕ) (l : i < n) (k : Kind) (e : kindAt rs i ≡ k) where
-    beside : (p : Place) → names (askAt (shapeOf k) p) ≡ true → {b : Code} → ReadsCode rs (opAt rs i p) b → Beside rs i (opAt rs i p) b
+  module _ (i : ℕ) (l : i < n) (k : Kind) (e : OfKind rs i k) where
+    beside : (p : Place) → names (askAt (asksOf (numberOf k)) p) ≡ true → {b : Code} → ReadsCode rs (opAt rs i p) b → Beside rs i (opAt rs i p) b
     beside p u d = record { below = λ j f x. not-self rs n q t i p l (names-of rs i k e p u) (subst (Foot rs (opAt rs i p)) x (task-foot d j f .foot)) }
 
-    split-of : (p r : Place) → (p ≡ r → ⊥) → names (askAt (shapeOf k) p) ≡ true → names (askAt (shapeOf k) r) ≡ true → {a b : Code} → ReadsCode rs (opAt rs i p) a → ReadsCode rs (opAt rs i r) b → Split rs i (opAt rs i p) (opAt rs i r) a b
+    split-of : (p r : Place) → (p ≡ r → ⊥) → names (askAt (asksOf (numberOf k)) p) ≡ true → names (askAt (asksOf (numberOf k)) r) ≡ true → {a b : Code} → ReadsCode rs (opAt rs i p) a → ReadsCode rs (opAt rs i r) b → Split rs i (opAt rs i p) (opAt rs i r) a b
     split-of p r z u v d f = record {
       left = beside p u d .below;
       right = beside r v f .below;
@@ -127,15 +126,15 @@ module _ (rs : List ℕ) (n : ℕ) (q : Sorted rs n) (t : NamedOnce rs n) where
     }
 
   pub splits : {i : ℕ} {c : Code} → i < n → ReadsCode rs i c → Splits rs i c
-  unfolding names
+  unfolding asksOf names
   splits l (r-edit k x d) = tt
   splits l (r-enter k x d) = tt
   splits l (r-update k x d) = tt
-  splits l (r-then k x y d e) = (split-of _ l _ k placeA placeB ab refl refl d e, splits (omega arith) d, splits (omega arith) e)
-  splits l (r-next k x y d e) = (split-of _ l _ k placeA placeB ab refl refl d e, splits (omega arith) d, splits (omega arith) e)
+  splits l (r-then k x y d e) = (split-of _ l (taskK thenK) k placeA placeB ab refl refl d e, splits (omega arith) d, splits (omega arith) e)
+  splits l (r-next k x y d e) = (split-of _ l (taskK nextK) k placeA placeB ab refl refl d e, splits (omega arith) d, splits (omega arith) e)
   splits l (r-fail k x d) = tt
-  splits l (r-and k x y d e) = (split-of _ l _ k placeA placeB ab refl refl d e, splits (omega arith) d, splits (omega arith) e)
-  splits l (r-or k x y d e) = (split-of _ l _ k placeA placeB ab refl refl d e, splits (omega arith) d, splits (omega arith) e)
-  splits l (r-xor k x y d e) = (split-of _ l _ k placeA placeB ab refl refl d e, splits (omega arith) d, splits (omega arith) e)
-  splits l (r-if k x y z c d e) = (split-of _ l _ k placeB placeC bc refl refl d e, splits (omega arith) d, splits (omega arith) e)
-  splits l (r-let k x y c d) = (beside _ l _ k placeB refl d, splits (omega arith) d)
+  splits l (r-and k x y d e) = (split-of _ l (taskK andK) k placeA placeB ab refl refl d e, splits (omega arith) d, splits (omega arith) e)
+  splits l (r-or k x y d e) = (split-of _ l (taskK orK) k placeA placeB ab refl refl d e, splits (omega arith) d, splits (omega arith) e)
+  splits l (r-xor k x y d e) = (split-of _ l (taskK xorK) k placeA placeB ab refl refl d e, splits (omega arith) d, splits (omega arith) e)
+  splits l (r-if k x y z c d e) = (split-of _ l (eitherK ifK) k placeB placeC bc refl refl d e, splits (omega arith) d, splits (omega arith) e)
+  splits l (r-let k x y c d) = (beside _ l (eitherK letK) k placeB refl d, splits (omega arith) d)

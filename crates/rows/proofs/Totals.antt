@@ -7,14 +7,13 @@ use mathlib.Core.List.{List}
 use Prim.Native.Nat.{ℕ, zero, suc, _+_, _-_, _<_, _≤_}
 use native.Mathlib.Omega.{arith}
 use Rattle.tophat.specs.Syntax.{Ty, Exp, Code, edit, enter, update, then, next, fail, and, or, xor, if, let'}
-use Rattle.rows.specs.Kinds.{Kind, shapeOf, cellK, eunitK, etruthK, enumberK, ebinderK, eopK, ifK, epairK, efstK, esndK, ederefK, eassignK, letK}
-use Rattle.rows.specs.Kinds.{editK, enterK, updateK, thenK, nextK, failK, andK, orK, xorK, Sort}
-use Rattle.rows.specs.Rows.{word, kindAt, opA, opB, opC, names}
+use Rattle.rows.specs.Kinds.{Kind, eunitK, etruthK, enumberK, ebinderK, eopK, ifK, epairK, efstK, esndK, ederefK, eassignK, letK}
+use Rattle.rows.specs.Kinds.{editK, enterK, updateK, thenK, nextK, failK, andK, orK, xorK, Sort, plainK, eitherK, taskK, asksOf, numberOf}
+use Rattle.rows.specs.Rows.{opA, opB, opC, names, OfKind, FromKind, BelowKind, firstExpression}
 use Rattle.rows.specs.Trees.{ReadsType, ReadsCell, r-cell}
 use Rattle.rows.specs.Trees.{ReadsExp, r-eunit, r-etruth, r-enumber, r-ebinder, r-eop, r-eif, r-epair, r-efst, r-esnd, r-ederef, r-eassign, r-elet}
 use Rattle.rows.specs.Trees.{ReadsCode, r-edit, r-enter, r-update, r-then, r-next, r-fail, r-and, r-or, r-xor, r-if, r-let}
 use Rattle.rows.specs.ComputeTrees.{codeAt}
-use Rattle.rows.proofs.KindNumbers.{kindNumber, kind-is}
 use Rattle.rows.proofs.TreesAgree.{code-is}
 use Rattle.rows.proofs.Exists.{Has, has-type, has-basic, has-cell, has-plain, has-task, Sorted, exists}
 use Rattle.rows.proofs.CodeRead.{type-none, cell-none, exp-none}
@@ -41,9 +40,9 @@ parts F (let' x b) = F b
 abbrev pub Adds : (Code → ℕ) → (Code → ℕ) → Type 0
 Adds F share = (c : Code) → F c ≡ share c + parts F c
 
--- what a row names, by its kind
-abbrev belowBy : Kind → ℕ → ℕ → ℕ → ℕ
-belowBy k a b c = cond (names (askAt (shapeOf k) placeA)) a 0 + cond (names (askAt (shapeOf k) placeB)) b 0 + cond (names (askAt (shapeOf k) placeC)) c 0
+-- what a row names, by the number of its kind
+abbrev belowBy : ℕ → ℕ → ℕ → ℕ → ℕ
+belowBy w a b c = cond (names (askAt (asksOf w) placeA)) a 0 + cond (names (askAt (asksOf w) placeB)) b 0 + cond (names (askAt (asksOf w) placeC)) c 0
 
 -- 0 where there is no code
 unfoldable pub of : (Code → ℕ) → Option Code → ℕ
@@ -75,48 +74,47 @@ module _ (F share : Code → ℕ) (m : Adds F share) (rs : List ℕ) (n : ℕ) w
   exp-total d = (ap (of F) (exp-none n d), ap (of share) (exp-none n d))
 
   -- what each row makes of its share and of the rows that it names
-  row : (i : ℕ) (k : Kind) → kindAt rs i ≡ k → totalAt i ≡ shareAt i + belowBy k (totalAt (opA rs i)) (totalAt (opB rs i)) (totalAt (opC rs i))
+  row : (i : ℕ) (k : Kind) → OfKind rs i k → totalAt i ≡ shareAt i + belowBy (numberOf k) (totalAt (opA rs i)) (totalAt (opB rs i)) (totalAt (opC rs i))
       → totalAt i ≡ shareAt i + sumBelow rs totalAt i
-  row i k e h = h ∙ sym (ap (λ x. shareAt i + x) (ap (λ k. belowBy k (totalAt (opA rs i)) (totalAt (opB rs i)) (totalAt (opC rs i))) e))
+  row i k e h = h ∙ sym (ap (λ x. shareAt i + x) (ap (λ w. belowBy w (totalAt (opA rs i)) (totalAt (opB rs i)) (totalAt (opC rs i))) e))
 
   exp-row : {i : ℕ} {a : Exp} → totalAt i ≡ 0 → shareAt i ≡ 0 → ReadsExp rs i a → totalAt i ≡ shareAt i + sumBelow rs totalAt i
-  unfolding names
-  exp-row {i} z o (r-eunit k) = row i eunitK k (omega arith)
-  exp-row {i} z o (r-etruth k) = row i etruthK k (omega arith)
-  exp-row {i} z o (r-enumber k) = row i enumberK k (omega arith)
-  exp-row {i} z o (r-ebinder k) = row i ebinderK k (omega arith)
-  exp-row {i} z o (r-eop k x y d e) = row i eopK k (omega (arith, exp-total d .0, exp-total e .0))
-  exp-row {i} z o (r-eif k x y w d e f) = row i ifK k (omega (arith, exp-total d .0, exp-total e .0, exp-total f .0))
-  exp-row {i} z o (r-epair k x y d e) = row i epairK k (omega (arith, exp-total d .0, exp-total e .0))
-  exp-row {i} z o (r-efst k x d) = row i efstK k (omega (arith, exp-total d .0))
-  exp-row {i} z o (r-esnd k x d) = row i esndK k (omega (arith, exp-total d .0))
-  exp-row {i} z o (r-ederef k x c) = row i ederefK k (omega (arith, cell-total c .0))
-  exp-row {i} z o (r-eassign k x y c d) = row i eassignK k (omega (arith, cell-total c .0, exp-total d .0))
-  exp-row {i} z o (r-elet k x y d e) = row i letK k (omega (arith, exp-total d .0, exp-total e .0))
+  unfolding asksOf names
+  exp-row {i} z o (r-eunit k) = row i (plainK eunitK) k (omega arith)
+  exp-row {i} z o (r-etruth k) = row i (plainK etruthK) k (omega arith)
+  exp-row {i} z o (r-enumber k) = row i (plainK enumberK) k (omega arith)
+  exp-row {i} z o (r-ebinder k) = row i (plainK ebinderK) k (omega arith)
+  exp-row {i} z o (r-eop k x y d e) = row i (plainK eopK) k (omega (arith, exp-total d .0, exp-total e .0))
+  exp-row {i} z o (r-eif k x y w d e f) = row i (eitherK ifK) k (omega (arith, exp-total d .0, exp-total e .0, exp-total f .0))
+  exp-row {i} z o (r-epair k x y d e) = row i (plainK epairK) k (omega (arith, exp-total d .0, exp-total e .0))
+  exp-row {i} z o (r-efst k x d) = row i (plainK efstK) k (omega (arith, exp-total d .0))
+  exp-row {i} z o (r-esnd k x d) = row i (plainK esndK) k (omega (arith, exp-total d .0))
+  exp-row {i} z o (r-ederef k x c) = row i (plainK ederefK) k (omega (arith, cell-total c .0))
+  exp-row {i} z o (r-eassign k x y c d) = row i (plainK eassignK) k (omega (arith, cell-total c .0, exp-total d .0))
+  exp-row {i} z o (r-elet k x y d e) = row i (eitherK letK) k (omega (arith, exp-total d .0, exp-total e .0))
 
   code-row : {i : ℕ} {c : Code} → i < n → totalAt i ≡ F c → shareAt i ≡ share c → F c ≡ share c + parts F c → ReadsCode rs i c → totalAt i ≡ shareAt i + sumBelow rs totalAt i
-  unfolding names parts
-  code-row {i} l z o h (r-edit k x d) = row i editK k (omega (arith, exp-total d .0))
-  code-row {i} l z o h (r-enter k x d) = row i enterK k (omega (arith, type-total d .0))
-  code-row {i} l z o h (r-update k x c) = row i updateK k (omega (arith, cell-total c .0))
-  code-row {i} l z o h (r-then k x y d e) = row i thenK k (omega (arith, code-total (omega arith) d .0, code-total (omega arith) e .0))
-  code-row {i} l z o h (r-next k x y d e) = row i nextK k (omega (arith, code-total (omega arith) d .0, code-total (omega arith) e .0))
-  code-row {i} l z o h (r-fail k x d) = row i failK k (omega (arith, type-total d .0))
-  code-row {i} l z o h (r-and k x y d e) = row i andK k (omega (arith, code-total (omega arith) d .0, code-total (omega arith) e .0))
-  code-row {i} l z o h (r-or k x y d e) = row i orK k (omega (arith, code-total (omega arith) d .0, code-total (omega arith) e .0))
-  code-row {i} l z o h (r-xor k x y d e) = row i xorK k (omega (arith, code-total (omega arith) d .0, code-total (omega arith) e .0))
-  code-row {i} l z o h (r-if k x y w d e f) = row i ifK k (omega (arith, exp-total d .0, code-total (omega arith) e .0, code-total (omega arith) f .0))
-  code-row {i} l z o h (r-let k x y d e) = row i letK k (omega (arith, exp-total d .0, code-total (omega arith) e .0))
+  unfolding asksOf names parts
+  code-row {i} l z o h (r-edit k x d) = row i (taskK editK) k (omega (arith, exp-total d .0))
+  code-row {i} l z o h (r-enter k x d) = row i (taskK enterK) k (omega (arith, type-total d .0))
+  code-row {i} l z o h (r-update k x c) = row i (taskK updateK) k (omega (arith, cell-total c .0))
+  code-row {i} l z o h (r-then k x y d e) = row i (taskK thenK) k (omega (arith, code-total (omega arith) d .0, code-total (omega arith) e .0))
+  code-row {i} l z o h (r-next k x y d e) = row i (taskK nextK) k (omega (arith, code-total (omega arith) d .0, code-total (omega arith) e .0))
+  code-row {i} l z o h (r-fail k x d) = row i (taskK failK) k (omega (arith, type-total d .0))
+  code-row {i} l z o h (r-and k x y d e) = row i (taskK andK) k (omega (arith, code-total (omega arith) d .0, code-total (omega arith) e .0))
+  code-row {i} l z o h (r-or k x y d e) = row i (taskK orK) k (omega (arith, code-total (omega arith) d .0, code-total (omega arith) e .0))
+  code-row {i} l z o h (r-xor k x y d e) = row i (taskK xorK) k (omega (arith, code-total (omega arith) d .0, code-total (omega arith) e .0))
+  code-row {i} l z o h (r-if k x y w d e f) = row i (eitherK ifK) k (omega (arith, exp-total d .0, code-total (omega arith) e .0, code-total (omega arith) f .0))
+  code-row {i} l z o h (r-let k x y d e) = row i (eitherK letK) k (omega (arith, exp-total d .0, code-total (omega arith) e .0))
 
-  high-row : (i : ℕ) → i < n → 20 ≤ word rs i 0 → {s : Sort} → Has rs i s → totalAt i ≡ shareAt i + sumBelow rs totalAt i
-  unfolding kindNumber
+  high-row : (i : ℕ) → i < n → FromKind rs i firstExpression → {s : Sort} → Has rs i s → totalAt i ≡ shareAt i + sumBelow rs totalAt i
   high-row i l h (has-type d) = absurd (omega (arith, type-low d))
   high-row i l h (has-basic b d) = absurd (omega (arith, type-low d))
-  high-row i l h (has-cell b (r-cell k x d)) = absurd (omega (arith, kind-is (word rs i 0) cellK k (omega arith)))
+  high-row i l h (has-cell b (r-cell k x d)) = absurd (omega arith)
   high-row i l h (has-plain d) = exp-row (exp-total d .0) (exp-total d .1) d
   high-row i l h (has-task d) = code-row l (code-total l d .0) (code-total l d .1) (m _) d
 
-  low-row : (i : ℕ) → i < n → word rs i 0 < 20 → {s : Sort} → Has rs i s → (totalAt i ≡ 0) × (shareAt i ≡ 0)
+  low-row : (i : ℕ) → i < n → BelowKind rs i firstExpression → {s : Sort} → Has rs i s → (totalAt i ≡ 0) × (shareAt i ≡ 0)
   low-row i l h (has-type d) = type-total d
   low-row i l h (has-basic b d) = type-total d
   low-row i l h (has-cell b d) = cell-total d

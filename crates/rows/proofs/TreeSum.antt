@@ -2,15 +2,15 @@
 -- at the last row of rows that keep the naming rule, the sum of all shares. Rests on Named.
 use mathlib.Core.Path.{_≡_, refl, sym, ap, ap₂, _∙_}
 use mathlib.Core.Bool.{Bool, true, false, _&&_, cond}
-use mathlib.Core.Logic.{⊎-elim, _⊎_}
+use mathlib.Core.Logic.{⊎-elim}
 use mathlib.Core.List.{List}
-use Prim.Native.Nat.{ℕ, zero, suc, _+_, _*_, _-_, _<_, _≤_}
+use Prim.Native.Nat.{ℕ, zero, suc, _+_, _*_, _<_, _≤_}
 use native.Mathlib.Nat.{eq-or-lt-of-le, le-of-suc-le-suc, add-mul, zero-mul, mul-zero, one-mul, add-zero}
 use native.Mathlib.Omega.{arith}
 use lib.Dec.{eqb}
 use borrow.Author.Tests.{eq-eqb, ne-eqb}
-use Rattle.rows.specs.Kinds.{shapeOf}
-use Rattle.rows.specs.Rows.{word, kindAt, opA, opB, opC, names, count, namesIn, namings}
+use Rattle.rows.specs.Kinds.{numberOf}
+use Rattle.rows.specs.Rows.{word, opA, opB, opC, names, count, namesIn, namings, FromKind, BelowKind, firstExpression, asksAt}
 use Rattle.rows.proofs.Basics.{le-or-lt}
 use Rattle.rows.proofs.Exists.{Sorted}
 use Rattle.rows.proofs.Places.{Place, placeA, placeB, placeC, opAt, askAt, lower}
@@ -68,8 +68,8 @@ sum-ask n false w m l = sum-same n (λ j. count false * m j) (λ j. 0) (λ j k. 
 -- the numbers of the rows that row i names, together
 abbrev pub sumBelow : List ℕ → (ℕ → ℕ) → ℕ → ℕ
 sumBelow rs m i =
-    cond (names (askAt (shapeOf (kindAt rs i)) placeA)) (m (opA rs i)) 0 + cond (names (askAt (shapeOf (kindAt rs i)) placeB)) (m (opB rs i)) 0
-    + cond (names (askAt (shapeOf (kindAt rs i)) placeC)) (m (opC rs i)) 0
+    cond (names (askAt (asksAt rs i) placeA)) (m (opA rs i)) 0 + cond (names (askAt (asksAt rs i) placeB)) (m (opB rs i)) 0
+    + cond (names (askAt (asksAt rs i) placeC)) (m (opC rs i)) 0
 
 module _ (rs : List ℕ) (m : ℕ → ℕ) where
   -- by the rows that name row j
@@ -80,28 +80,28 @@ module _ (rs : List ℕ) (m : ℕ → ℕ) where
 
   module _ (n : ℕ) (q : Sorted rs n) where
     -- by the rows that row i names
-    row-sum : (i : ℕ) → i < n → 20 ≤ word rs i 0 → sumTo n (λ j. namesIn rs j i * m j) ≡ sumBelow rs m i
+    row-sum : (i : ℕ) → i < n → FromKind rs i firstExpression → sumTo n (λ j. namesIn rs j i * m j) ≡ sumBelow rs m i
     row-sum i l h =
         let x : Place → ℕ → ℕ = λ p j. count (hit rs j i p) * m j in
         sum-same n (λ j. namesIn rs j i * m j) (λ j. x placeA j + x placeB j + x placeC j) (λ j k. rw (names-in rs j i h, add-mul, add-mul))
         ∙ sum-add n (λ j. x placeA j + x placeB j) (x placeC) ∙ ap₂ _+_ (sum-add n (x placeA) (x placeB) ∙ ap₂ _+_ (at placeA) (at placeB)) (at placeC)
       where
-        at : (p : Place) → sumTo n (λ j. count (hit rs j i p) * m j) ≡ cond (names (askAt (shapeOf (kindAt rs i)) p)) (m (opAt rs i p)) 0
-        at p = sum-ask n (names (askAt (shapeOf (kindAt rs i)) p)) (opAt rs i p) m (λ u. let w = lower rs n q i l p u in omega arith)
+        at : (p : Place) → sumTo n (λ j. count (hit rs j i p) * m j) ≡ cond (names (askAt (asksAt rs i) p)) (m (opAt rs i p)) 0
+        at p = sum-ask n (names (askAt (asksAt rs i) p)) (opAt rs i p) m (λ u. let w = lower rs n q i l p u in omega arith)
 
-    no-sum : (i : ℕ) → word rs i 0 < 20 → sumTo n (λ j. namesIn rs j i * m j) ≡ 0
+    no-sum : (i : ℕ) → BelowKind rs i firstExpression → sumTo n (λ j. namesIn rs j i * m j) ≡ 0
     no-sum i h = sum-same n (λ j. namesIn rs j i * m j) (λ j. 0) (λ j k. rw (no-names-in rs j i h, zero-mul)) ∙ sum-zero n
 
 module _ (rs : List ℕ) (k : ℕ) (q : Sorted rs (suc k)) (t : NamedOnce rs (suc k)) (m f : ℕ → ℕ)
-    (high : (i : ℕ) → i < suc k → 20 ≤ word rs i 0 → m i ≡ f i + sumBelow rs m i) (low : (i : ℕ) → i < suc k → word rs i 0 < 20 → (m i ≡ 0) × (f i ≡ 0)) where
+    (high : (i : ℕ) → i < suc k → FromKind rs i firstExpression → m i ≡ f i + sumBelow rs m i) (low : (i : ℕ) → i < suc k → BelowKind rs i firstExpression → (m i ≡ 0) × (f i ≡ 0)) where
   by-names : (i : ℕ) → i < suc k → m i ≡ f i + sumTo (suc k) (λ j. namesIn rs j i * m j)
-  by-names i l = ⊎-elim (λ h. omega (arith, high i l h, row-sum rs m (suc k) q i l h)) (λ h. let (x, y) = low i l h in omega (arith, no-sum rs m (suc k) q i h)) (le-or-lt 20 (word rs i 0))
+  by-names i l = ⊎-elim (λ h. omega (arith, high i l h, row-sum rs m (suc k) q i l h)) (λ h. let (x, y) = low i l h in omega (arith, no-sum rs m (suc k) q i h)) (le-or-lt (numberOf firstExpression) (word rs i 0))
 
   last-unnamed : namings rs k (suc k) ≡ 0
   last-unnamed = ⊎-elim (λ h. let (j, l, p, d) = named-by rs k (suc k) h in let w = lower rs (suc k) q j l p (d .asks) in let e = d .is in absurd (omega arith)) (λ h. omega arith) (le-or-lt 1 (namings rs k (suc k)))
 
   other : (j : ℕ) → j < k → namings rs j (suc k) * m j ≡ m j
-  other j l = ⊎-elim (λ h. rw (once rs (suc k) t j (omega arith) h, one-mul)) (λ h. let (x, y) = low j (omega arith) h in rw (x, mul-zero)) (le-or-lt 20 (word rs j 0))
+  other j l = ⊎-elim (λ h. rw (once rs (suc k) t j (omega arith) h, one-mul)) (λ h. let (x, y) = low j (omega arith) h in rw (x, mul-zero)) (le-or-lt (numberOf firstExpression) (word rs j 0))
 
   named-all : sumTo (suc k) (λ j. namings rs j (suc k) * m j) ≡ sumTo k m
   unfolding sumTo

@@ -6,7 +6,7 @@ use mathlib.Core.List.{List}
 use Prim.Native.Nat.{ℕ, zero, suc, _+_, _-_, _<_, _≤_}
 use native.Mathlib.Nat.{eq-or-lt-of-le}
 use native.Mathlib.Omega.{arith}
-use Rattle.rows.specs.Rows.{word}
+use Rattle.rows.specs.Rows.{FromKind, firstExpression}
 use Rattle.rows.proofs.Exists.{Sorted}
 use Rattle.rows.proofs.Places.{lower}
 use Rattle.rows.proofs.Foot.{Foot, foot-here, foot-up, foot-trans}
@@ -14,7 +14,7 @@ use Rattle.rows.proofs.Named.{NamedOnce, once, named-by}
 
 module _ (rs : List ℕ) (n : ℕ) (q : Sorted rs n) (t : NamedOnce rs n) where
   -- by the rows above row i, at most f of them
-  by-above : (f i : ℕ) → n ≤ i + f → i < n → 20 ≤ word rs i 0 → Foot rs (n - 1) i
+  by-above : (f i : ℕ) → n ≤ i + f → i < n → FromKind rs i firstExpression → Foot rs (n - 1) i
   by-above zero i g l h = absurd (omega arith)
   by-above (suc f) i g l h = ⊎-elim
       (λ (e : suc i ≡ n). let z : n - 1 ≡ i = omega arith in subst (λ j. Foot rs j i) (sym z) foot-here)
@@ -25,5 +25,5 @@ module _ (rs : List ℕ) (n : ℕ) (q : Sorted rs n) (t : NamedOnce rs n) where
       (eq-or-lt-of-le l)
 
   -- so the rows of kind 20 or more are the last row's foot
-  pub under-last : (i : ℕ) → i < n → 20 ≤ word rs i 0 → Foot rs (n - 1) i
+  pub under-last : (i : ℕ) → i < n → FromKind rs i firstExpression → Foot rs (n - 1) i
   under-last i l h = by-above n i (omega arith) l h

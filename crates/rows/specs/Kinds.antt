@@ -1,28 +1,43 @@
--- The kinds of rows (01, "The sheet"): one table that says, for each kind, what its operands must be, its own sort, and
--- whether it binds or marks. Grounds 3, 4, 5 and 6 are readings of it. Rests on nothing.
+-- The kinds of rows (01, "The sheet") and the one table of them. A kind belongs to the group of what its rows read as. Its line
+-- in the table says its number, what its operands must be, its own sort, and what it puts around the rows below it. Number to
+-- kind, kind to number, and grounds 3 to 6 are readings of the table: a new kind is a constructor and a line. Rests on nothing.
+use mathlib.Core.Bool.{cond}
+use mathlib.Core.Option.{Option, none, some}
 use mathlib.Core.List.{List, [], _∷_}
-use Prim.Native.Nat.{ℕ}
-use lib.ListN.{getD}
+use Prim.Native.Nat.{ℕ, suc, max}
+use lib.Dec.{eqb}
+
+-- ---- the kinds
+
+-- types
+pub data TypeKind : Type 0 where
+  unitK truthK numberK pairK : TypeKind
+  deriving Discrete as TypeKind-discrete
+
+-- plain expressions
+pub data PlainKind : Type 0 where
+  eunitK etruthK enumberK ebinderK eopK epairK efstK esndK ederefK eassignK : PlainKind
+  deriving Discrete as PlainKind-discrete
+
+-- the two that are plain or a task, as their B is
+pub data EitherKind : Type 0 where
+  ifK letK : EitherKind
+  deriving Discrete as EitherKind-discrete
+
+-- tasks
+pub data TaskKind : Type 0 where
+  editK enterK updateK thenK nextK failK andK orK xorK : TaskKind
+  deriving Discrete as TaskKind-discrete
 
 pub data Kind : Type 0 where
-  unitK truthK numberK pairK : Kind  -- 1 to 4, types
-  cellK : Kind  -- 10
-  eunitK etruthK enumberK ebinderK eopK ifK : Kind  -- 20 to 25
-  epairK efstK esndK ederefK eassignK letK : Kind  -- 26 to 31
-  editK enterK updateK thenK nextK failK andK orK xorK : Kind  -- 40 to 48
-  unknownK : Kind
+  typeK : TypeKind → Kind
+  cellK : Kind
+  plainK : PlainKind → Kind
+  eitherK : EitherKind → Kind
+  taskK : TaskKind → Kind
+  deriving Discrete as Kind-discrete
 
--- by number, ten to a line
-abbrev pub kinds : List Kind
-kinds =
-    unknownK ∷ unitK ∷ truthK ∷ numberK ∷ pairK ∷ unknownK ∷ unknownK ∷ unknownK ∷ unknownK ∷ unknownK ∷
-    cellK ∷ unknownK ∷ unknownK ∷ unknownK ∷ unknownK ∷ unknownK ∷ unknownK ∷ unknownK ∷ unknownK ∷ unknownK ∷
-    eunitK ∷ etruthK ∷ enumberK ∷ ebinderK ∷ eopK ∷ ifK ∷ epairK ∷ efstK ∷ esndK ∷ ederefK ∷
-    eassignK ∷ letK ∷ unknownK ∷ unknownK ∷ unknownK ∷ unknownK ∷ unknownK ∷ unknownK ∷ unknownK ∷ unknownK ∷
-    editK ∷ enterK ∷ updateK ∷ thenK ∷ nextK ∷ failK ∷ andK ∷ orK ∷ xorK ∷ []
-
-unfoldable pub kindOf : ℕ → Kind
-kindOf k = getD kinds k unknownK
+-- ---- what a kind asks
 
 -- what an operand must be
 pub data Ask : Type 0 where
@@ -45,38 +60,84 @@ pub data Own : Type 0 where
 
 -- what a kind puts around the rows below it: nothing, a binder around B, or a mark around A and B
 pub data Around : Type 0 where
-  plain binder mark : Around
+  nothing binder mark : Around
 
-pub data Shape : Type 0 where
-  shape : Ask → Ask → Ask → Own → Around → Shape
-  noShape : Shape
+-- operands A, B, C, own sort, what it puts around; a number that is no kind asks nothing
+pub data Asks : Type 0 where
+  asks : Ask → Ask → Ask → Own → Around → Asks
+  noAsks : Asks
 
--- The table: operands A, B, C, own sort, what it puts around.
-abbrev pub shapeOf : Kind → Shape
-shapeOf unitK = shape unused unused unused (is typeS) plain
-shapeOf truthK = shape unused unused unused (is basicS) plain
-shapeOf numberK = shape unused unused unused (is basicS) plain
-shapeOf pairK = shape aType aType unused (is typeS) plain
-shapeOf cellK = shape aBasic anyWord unused (is cellS) plain
-shapeOf eunitK = shape unused unused unused (is plainS) plain
-shapeOf etruthK = shape truth unused unused (is plainS) plain
-shapeOf enumberK = shape anyWord unused unused (is plainS) plain
-shapeOf ebinderK = shape anyWord unused unused (is plainS) plain
-shapeOf eopK = shape operator aPlain aPlain (is plainS) plain
-shapeOf ifK = shape aPlain aBranch likeB asB plain
-shapeOf epairK = shape aPlain aPlain unused (is plainS) plain
-shapeOf efstK = shape aPlain unused unused (is plainS) plain
-shapeOf esndK = shape aPlain unused unused (is plainS) plain
-shapeOf ederefK = shape aCell unused unused (is plainS) plain
-shapeOf eassignK = shape aCell aPlain unused (is plainS) plain
-shapeOf letK = shape aPlain aBranch unused asB binder
-shapeOf editK = shape aPlain unused unused (is taskS) plain
-shapeOf enterK = shape aType unused unused (is taskS) plain
-shapeOf updateK = shape aCell unused unused (is taskS) plain
-shapeOf thenK = shape aTask aTask unused (is taskS) binder
-shapeOf nextK = shape aTask aTask unused (is taskS) binder
-shapeOf failK = shape aType unused unused (is taskS) plain
-shapeOf andK = shape aTask aTask unused (is taskS) mark
-shapeOf orK = shape aTask aTask unused (is taskS) mark
-shapeOf xorK = shape aTask aTask unused (is taskS) plain
-shapeOf unknownK = noShape
+-- ---- the table (01, "Types", "Cell (the store)", "Plain expressions", "Tasks")
+
+-- a number, its kind, and what the kind asks
+pub data Line : Type 0 where
+  line : ℕ → Kind → Asks → Line
+
+abbrev pub table : List Line
+table =
+    line 1 (typeK unitK) (asks unused unused unused (is typeS) nothing) ∷
+    line 2 (typeK truthK) (asks unused unused unused (is basicS) nothing) ∷
+    line 3 (typeK numberK) (asks unused unused unused (is basicS) nothing) ∷
+    line 4 (typeK pairK) (asks aType aType unused (is typeS) nothing) ∷
+    line 10 cellK (asks aBasic anyWord unused (is cellS) nothing) ∷
+    line 20 (plainK eunitK) (asks unused unused unused (is plainS) nothing) ∷
+    line 21 (plainK etruthK) (asks truth unused unused (is plainS) nothing) ∷
+    line 22 (plainK enumberK) (asks anyWord unused unused (is plainS) nothing) ∷
+    line 23 (plainK ebinderK) (asks anyWord unused unused (is plainS) nothing) ∷
+    line 24 (plainK eopK) (asks operator aPlain aPlain (is plainS) nothing) ∷
+    line 25 (eitherK ifK) (asks aPlain aBranch likeB asB nothing) ∷
+    line 26 (plainK epairK) (asks aPlain aPlain unused (is plainS) nothing) ∷
+    line 27 (plainK efstK) (asks aPlain unused unused (is plainS) nothing) ∷
+    line 28 (plainK esndK) (asks aPlain unused unused (is plainS) nothing) ∷
+    line 29 (plainK ederefK) (asks aCell unused unused (is plainS) nothing) ∷
+    line 30 (plainK eassignK) (asks aCell aPlain unused (is plainS) nothing) ∷
+    line 31 (eitherK letK) (asks aPlain aBranch unused asB binder) ∷
+    line 40 (taskK editK) (asks aPlain unused unused (is taskS) nothing) ∷
+    line 41 (taskK enterK) (asks aType unused unused (is taskS) nothing) ∷
+    line 42 (taskK updateK) (asks aCell unused unused (is taskS) nothing) ∷
+    line 43 (taskK thenK) (asks aTask aTask unused (is taskS) binder) ∷
+    line 44 (taskK nextK) (asks aTask aTask unused (is taskS) binder) ∷
+    line 45 (taskK failK) (asks aType unused unused (is taskS) nothing) ∷
+    line 46 (taskK andK) (asks aTask aTask unused (is taskS) mark) ∷
+    line 47 (taskK orK) (asks aTask aTask unused (is taskS) mark) ∷
+    line 48 (taskK xorK) (asks aTask aTask unused (is taskS) nothing) ∷
+    []
+
+-- ---- its readings
+
+-- by number: what f makes of the line of that number, d where there is none
+abbrev pub lookUp : {A : Type 0} → (Kind → Asks → A) → A → List Line → ℕ → A
+lookUp f d [] w = d
+lookUp f d (line n k s ∷ ls) w = cond (eqb w n) (f k s) (lookUp f d ls w)
+
+-- the kind of a number; a number that is no kind has none
+unfoldable pub kindOf : ℕ → Option Kind
+kindOf w = lookUp (λ k s. some k) none table w
+
+-- what the kind of a number asks
+unfoldable pub asksOf : ℕ → Asks
+asksOf w = lookUp (λ k s. s) noAsks table w
+
+-- two kinds are the same or not
+abbrev pub sameKind : Discrete Kind
+sameKind = Kind-discrete TypeKind-discrete PlainKind-discrete EitherKind-discrete TaskKind-discrete
+
+abbrev byTest : {P : Type 0} → Dec P → ℕ → ℕ → ℕ
+byTest (yes p) n m = n
+byTest (no p) n m = m
+
+-- by kind: its number. Each kind has a line (proofs/KindNumbers)
+abbrev pub numberIn : List Line → Kind → ℕ
+numberIn [] k = 0
+numberIn (line n j s ∷ ls) k = byTest (sameKind k j) n (numberIn ls k)
+
+abbrev pub numberOf : Kind → ℕ
+numberOf k = numberIn table k
+
+-- the numbers of kinds are below this
+abbrev pub limitOf : List Line → ℕ
+limitOf [] = 0
+limitOf (line n k s ∷ ls) = max (suc n) (limitOf ls)
+
+abbrev pub kindLimit : ℕ
+kindLimit = limitOf table

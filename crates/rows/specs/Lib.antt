@@ -1,6 +1,10 @@
 pub mod Kinds
+pub mod GroundNumbers
 pub mod Rows
+pub mod Lent
 pub mod Enclosing
+pub mod Fits
 pub mod Trees
 pub mod ComputeTrees
 pub mod Ground
+pub mod Accepted

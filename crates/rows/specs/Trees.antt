@@ -1,6 +1,5 @@
 -- Rows read as trees: `ReadsCode rs i c` says that row i is the task c, `ReadsExp` and `ReadsType` likewise. A cell is named
 -- by its row. Rests on Rows and on the calculus' syntax and typing.
-use mathlib.Core.Path.{_≡_}
 use mathlib.Core.List.{List, [], _∷_, _++_}
 use Prim.Native.Nat.{ℕ, zero, suc, _-_, _<_}
 use lib.Dec.{eqb}
@@ -11,9 +10,9 @@ use Rattle.tophat.specs.Syntax.{Ty, unit, truth, number, pair, Op, sum, differe
 use Rattle.tophat.specs.Syntax.{Exp, eunit, etruth, enumber, ebinder, eop, eif, epair, efst, esnd, ederef, eassign, elet}
 use Rattle.tophat.specs.Syntax.{Code, edit, enter, update, then, next, fail, and, or, xor, if, let', vunit, vtruth, vnumber, Store}
 use Rattle.tophat.specs.Typing.{CodeType}
-use Rattle.rows.specs.Kinds.{unitK, truthK, numberK, pairK, cellK, eunitK, etruthK, enumberK, ebinderK, eopK, ifK, epairK, efstK, esndK, ederefK, eassignK, letK}
-use Rattle.rows.specs.Kinds.{editK, enterK, updateK, thenK, nextK, failK, andK, orK, xorK}
-use Rattle.rows.specs.Rows.{kindAt, opA, opB, opC}
+use Rattle.rows.specs.Kinds.{typeK, unitK, truthK, numberK, pairK, cellK, plainK, eunitK, etruthK, enumberK, ebinderK, eopK, epairK, efstK, esndK, ederefK, eassignK}
+use Rattle.rows.specs.Kinds.{eitherK, ifK, letK, taskK, editK, enterK, updateK, thenK, nextK, failK, andK, orK, xorK}
+use Rattle.rows.specs.Rows.{OfKind, opA, opB, opC}
 
 -- operators by number
 abbrev pub operators : List Op
@@ -24,53 +23,53 @@ operatorOf o = getD operators o sum
 
 module _ (rs : List ℕ) where
   pub data ReadsType : ℕ → Ty → Type 0 where
-    r-unit : {i : ℕ} → kindAt rs i ≡ unitK → ReadsType i unit
-    r-truth : {i : ℕ} → kindAt rs i ≡ truthK → ReadsType i truth
-    r-number : {i : ℕ} → kindAt rs i ≡ numberK → ReadsType i number
-    r-pair : {i : ℕ} {τ υ : Ty} → kindAt rs i ≡ pairK → opA rs i < i → opB rs i < i
+    r-unit : {i : ℕ} → OfKind rs i (typeK unitK) → ReadsType i unit
+    r-truth : {i : ℕ} → OfKind rs i (typeK truthK) → ReadsType i truth
+    r-number : {i : ℕ} → OfKind rs i (typeK numberK) → ReadsType i number
+    r-pair : {i : ℕ} {τ υ : Ty} → OfKind rs i (typeK pairK) → opA rs i < i → opB rs i < i
         → ReadsType (opA rs i) τ → ReadsType (opB rs i) υ → ReadsType i (pair τ υ)
 
   -- row i is a cell of the type
   pub data ReadsCell : ℕ → Ty → Type 0 where
-    r-cell : {i : ℕ} {τ : Ty} → kindAt rs i ≡ cellK → opA rs i < i → ReadsType (opA rs i) τ → ReadsCell i τ
+    r-cell : {i : ℕ} {τ : Ty} → OfKind rs i cellK → opA rs i < i → ReadsType (opA rs i) τ → ReadsCell i τ
 
   pub data ReadsExp : ℕ → Exp → Type 0 where
-    r-eunit : {i : ℕ} → kindAt rs i ≡ eunitK → ReadsExp i eunit
-    r-etruth : {i : ℕ} → kindAt rs i ≡ etruthK → ReadsExp i (etruth (eqb (opA rs i) 1))
-    r-enumber : {i : ℕ} → kindAt rs i ≡ enumberK → ReadsExp i (enumber (toZ w32 (opA rs i)))
-    r-ebinder : {i : ℕ} → kindAt rs i ≡ ebinderK → ReadsExp i (ebinder (opA rs i))
-    r-eop : {i : ℕ} {b c : Exp} → kindAt rs i ≡ eopK → opB rs i < i → opC rs i < i
+    r-eunit : {i : ℕ} → OfKind rs i (plainK eunitK) → ReadsExp i eunit
+    r-etruth : {i : ℕ} → OfKind rs i (plainK etruthK) → ReadsExp i (etruth (eqb (opA rs i) 1))
+    r-enumber : {i : ℕ} → OfKind rs i (plainK enumberK) → ReadsExp i (enumber (toZ w32 (opA rs i)))
+    r-ebinder : {i : ℕ} → OfKind rs i (plainK ebinderK) → ReadsExp i (ebinder (opA rs i))
+    r-eop : {i : ℕ} {b c : Exp} → OfKind rs i (plainK eopK) → opB rs i < i → opC rs i < i
         → ReadsExp (opB rs i) b → ReadsExp (opC rs i) c → ReadsExp i (eop (operatorOf (opA rs i)) b c)
-    r-eif : {i : ℕ} {a b c : Exp} → kindAt rs i ≡ ifK → opA rs i < i → opB rs i < i → opC rs i < i
+    r-eif : {i : ℕ} {a b c : Exp} → OfKind rs i (eitherK ifK) → opA rs i < i → opB rs i < i → opC rs i < i
         → ReadsExp (opA rs i) a → ReadsExp (opB rs i) b → ReadsExp (opC rs i) c → ReadsExp i (eif a b c)
-    r-epair : {i : ℕ} {a b : Exp} → kindAt rs i ≡ epairK → opA rs i < i → opB rs i < i
+    r-epair : {i : ℕ} {a b : Exp} → OfKind rs i (plainK epairK) → opA rs i < i → opB rs i < i
         → ReadsExp (opA rs i) a → ReadsExp (opB rs i) b → ReadsExp i (epair a b)
-    r-efst : {i : ℕ} {a : Exp} → kindAt rs i ≡ efstK → opA rs i < i → ReadsExp (opA rs i) a → ReadsExp i (efst a)
-    r-esnd : {i : ℕ} {a : Exp} → kindAt rs i ≡ esndK → opA rs i < i → ReadsExp (opA rs i) a → ReadsExp i (esnd a)
-    r-ederef : {i : ℕ} {τ : Ty} → kindAt rs i ≡ ederefK → opA rs i < i → ReadsCell (opA rs i) τ → ReadsExp i (ederef (opA rs i))
-    r-eassign : {i : ℕ} {b : Exp} {τ : Ty} → kindAt rs i ≡ eassignK → opA rs i < i → opB rs i < i
+    r-efst : {i : ℕ} {a : Exp} → OfKind rs i (plainK efstK) → opA rs i < i → ReadsExp (opA rs i) a → ReadsExp i (efst a)
+    r-esnd : {i : ℕ} {a : Exp} → OfKind rs i (plainK esndK) → opA rs i < i → ReadsExp (opA rs i) a → ReadsExp i (esnd a)
+    r-ederef : {i : ℕ} {τ : Ty} → OfKind rs i (plainK ederefK) → opA rs i < i → ReadsCell (opA rs i) τ → ReadsExp i (ederef (opA rs i))
+    r-eassign : {i : ℕ} {b : Exp} {τ : Ty} → OfKind rs i (plainK eassignK) → opA rs i < i → opB rs i < i
         → ReadsCell (opA rs i) τ → ReadsExp (opB rs i) b → ReadsExp i (eassign (opA rs i) b)
-    r-elet : {i : ℕ} {a b : Exp} → kindAt rs i ≡ letK → opA rs i < i → opB rs i < i
+    r-elet : {i : ℕ} {a b : Exp} → OfKind rs i (eitherK letK) → opA rs i < i → opB rs i < i
         → ReadsExp (opA rs i) a → ReadsExp (opB rs i) b → ReadsExp i (elet a b)
 
   pub data ReadsCode : ℕ → Code → Type 0 where
-    r-edit : {i : ℕ} {a : Exp} → kindAt rs i ≡ editK → opA rs i < i → ReadsExp (opA rs i) a → ReadsCode i (edit a)
-    r-enter : {i : ℕ} {τ : Ty} → kindAt rs i ≡ enterK → opA rs i < i → ReadsType (opA rs i) τ → ReadsCode i (enter τ)
-    r-update : {i : ℕ} {τ : Ty} → kindAt rs i ≡ updateK → opA rs i < i → ReadsCell (opA rs i) τ → ReadsCode i (update (opA rs i))
-    r-then : {i : ℕ} {a b : Code} → kindAt rs i ≡ thenK → opA rs i < i → opB rs i < i
+    r-edit : {i : ℕ} {a : Exp} → OfKind rs i (taskK editK) → opA rs i < i → ReadsExp (opA rs i) a → ReadsCode i (edit a)
+    r-enter : {i : ℕ} {τ : Ty} → OfKind rs i (taskK enterK) → opA rs i < i → ReadsType (opA rs i) τ → ReadsCode i (enter τ)
+    r-update : {i : ℕ} {τ : Ty} → OfKind rs i (taskK updateK) → opA rs i < i → ReadsCell (opA rs i) τ → ReadsCode i (update (opA rs i))
+    r-then : {i : ℕ} {a b : Code} → OfKind rs i (taskK thenK) → opA rs i < i → opB rs i < i
         → ReadsCode (opA rs i) a → ReadsCode (opB rs i) b → ReadsCode i (then a b)
-    r-next : {i : ℕ} {a b : Code} → kindAt rs i ≡ nextK → opA rs i < i → opB rs i < i
+    r-next : {i : ℕ} {a b : Code} → OfKind rs i (taskK nextK) → opA rs i < i → opB rs i < i
         → ReadsCode (opA rs i) a → ReadsCode (opB rs i) b → ReadsCode i (next a b)
-    r-fail : {i : ℕ} {τ : Ty} → kindAt rs i ≡ failK → opA rs i < i → ReadsType (opA rs i) τ → ReadsCode i (fail τ)
-    r-and : {i : ℕ} {a b : Code} → kindAt rs i ≡ andK → opA rs i < i → opB rs i < i
+    r-fail : {i : ℕ} {τ : Ty} → OfKind rs i (taskK failK) → opA rs i < i → ReadsType (opA rs i) τ → ReadsCode i (fail τ)
+    r-and : {i : ℕ} {a b : Code} → OfKind rs i (taskK andK) → opA rs i < i → opB rs i < i
         → ReadsCode (opA rs i) a → ReadsCode (opB rs i) b → ReadsCode i (and a b)
-    r-or : {i : ℕ} {a b : Code} → kindAt rs i ≡ orK → opA rs i < i → opB rs i < i
+    r-or : {i : ℕ} {a b : Code} → OfKind rs i (taskK orK) → opA rs i < i → opB rs i < i
         → ReadsCode (opA rs i) a → ReadsCode (opB rs i) b → ReadsCode i (or a b)
-    r-xor : {i : ℕ} {a b : Code} → kindAt rs i ≡ xorK → opA rs i < i → opB rs i < i
+    r-xor : {i : ℕ} {a b : Code} → OfKind rs i (taskK xorK) → opA rs i < i → opB rs i < i
         → ReadsCode (opA rs i) a → ReadsCode (opB rs i) b → ReadsCode i (xor a b)
-    r-if : {i : ℕ} {a : Exp} {b c : Code} → kindAt rs i ≡ ifK → opA rs i < i → opB rs i < i → opC rs i < i
+    r-if : {i : ℕ} {a : Exp} {b c : Code} → OfKind rs i (eitherK ifK) → opA rs i < i → opB rs i < i → opC rs i < i
         → ReadsExp (opA rs i) a → ReadsCode (opB rs i) b → ReadsCode (opC rs i) c → ReadsCode i (if a b c)
-    r-let : {i : ℕ} {a : Exp} {b : Code} → kindAt rs i ≡ letK → opA rs i < i → opB rs i < i
+    r-let : {i : ℕ} {a : Exp} {b : Code} → OfKind rs i (eitherK letK) → opA rs i < i → opB rs i < i
         → ReadsExp (opA rs i) a → ReadsCode (opB rs i) b → ReadsCode i (let' a b)
 
 -- the cells of n rows: at a cell's row its type and its first content, at any other row unit
@@ -78,7 +77,7 @@ pub data Cells (rs : List ℕ) : ℕ → List Ty → Store → Type 0 where
   c-none : Cells rs zero [] []
   c-truth : {i : ℕ} {Σ : List Ty} {s : Store} → Cells rs i Σ s → ReadsCell rs i truth → Cells rs (suc i) (Σ ++ truth ∷ []) (s ++ vtruth (eqb (opB rs i) 1) ∷ [])
   c-number : {i : ℕ} {Σ : List Ty} {s : Store} → Cells rs i Σ s → ReadsCell rs i number → Cells rs (suc i) (Σ ++ number ∷ []) (s ++ vnumber (toZ w32 (opB rs i)) ∷ [])
-  c-other : {i : ℕ} {Σ : List Ty} {s : Store} → Cells rs i Σ s → (kindAt rs i ≡ cellK → ⊥) → Cells rs (suc i) (Σ ++ unit ∷ []) (s ++ vunit ∷ [])
+  c-other : {i : ℕ} {Σ : List Ty} {s : Store} → Cells rs i Σ s → (OfKind rs i cellK → ⊥) → Cells rs (suc i) (Σ ++ unit ∷ []) (s ++ vunit ∷ [])
 
 -- the n rows are a flow: its code, its cells, and its own type, which typing gives the last row (01)
 pub record Flow (rs : List ℕ) (n : ℕ) (c : Code) (Σ : List Ty) (s : Store) (τ : Ty) : Type 0 where

@@ -1,6 +1,13 @@
-// Rows of words: which of them an accepted sheet loads to. There is no function here; the numbers that 01 gives to rows have their
-// names in code here.
+// Rows of words: how a word of a row is read, and the numbers that 01 gives to rows, each under one name: sizes here, kinds in
+// `kinds`, grounds in `grounds`.
 use decimal::path::PATH_COLUMNS;
+ghost use mathlib.Core.Path.{_≡_};
+ghost use Prim.Native.Nat.{_*_, _<_};
+ghost use lib.ListN.{length};
+ghost use Rattle.rows.specs.Rows.{maxRows, rowWords, word};
+
+pub mod grounds;
+pub mod kinds;
 
 // 01: "1 to 256 lines", "4 words a row"
 pub const MAX_ROWS: usize = 256;
@@ -14,5 +21,35 @@ pub const MAX_BINDERS: usize = 16;
 
 pub const MAX_MARKS: usize = PATH_COLUMNS;
 
-// The kind of a cell.
-pub const CELL: u32 = 10;
+// Word k of a row: its kind and operands A, B, C.
+pub fn get(rows: &[u32; ROWS_WORDS], row: usize, k: usize) -> u32
+    requires { ⌜ (row < maxRows) × (k < rowWords) ⌝ }
+    ensures { λ r. ⌜ r ≡ word (now (rows .entry)) row k ⌝ }
+{
+    rows[row * ROW_WORDS + k]
+}
+
+fn wide(x: u32) -> usize
+    ensures { λ r. ⌜ r ≡ x ⌝ }
+{
+    x as usize
+}
+
+// An operand that names a row, a binder or a cell.
+pub fn operand(rows: &[u32; ROWS_WORDS], row: usize, k: usize) -> usize
+    requires { ⌜ (row < maxRows) × (k < rowWords) ⌝ }
+    ensures { λ r. ⌜ r ≡ word (now (rows .entry)) row k ⌝ }
+{
+    wide(rows[row * ROW_WORDS + k])
+}
+
+// The kind of a row; past the last row 0, which is no kind.
+pub fn kind(rows: &[u32], row: usize) -> u32
+    requires { ⌜ length (now rows) ≡ maxRows * rowWords ⌝ }
+    ensures { λ r. ⌜ r ≡ word (now (rows .entry)) row 0 ⌝ }
+{
+    if row < MAX_ROWS {
+        return rows[row * ROW_WORDS];
+    }
+    0
+}

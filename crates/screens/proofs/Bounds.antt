@@ -1,41 +1,57 @@
 -- The numbers on a screen have at most 4 digits: grounds are at most 24, and strides at most 1 more than the rows. Rests on the
 -- definitions of the calls.
 use mathlib.Core.Path.{_≡_, subst, sym, _∙_}
-use mathlib.Core.Logic.{⊎-elim}
-use mathlib.Core.Bool.{Bool, true, false, not, _&&_, _||_, cond}
+use mathlib.Core.Bool.{Bool, true, false, _&&_, cond}
 use mathlib.Core.Option.{Option, none, some}
 use mathlib.Core.List.{List, []}
-use Prim.Native.Nat.{ℕ, zero, suc, _*_, _%_, _<_, _≤_}
+use Prim.Native.Nat.{ℕ, _*_, _<_}
 use native.Mathlib.Omega.{arith}
-use borrow.Author.Tests.{leb-true}
 use borrow.Table.Steps.{cases}
-use lib.Dec.{eqb, leb}
+use lib.Dec.{eqb}
 use lib.IntN.{ℤ}
 use lib.ListN.{length}
-use Rattle.tophat.specs.Syntax.{Code, TaskOf, Store}
-use Rattle.ranges.proofs.Ranges.{and-left, and-right}
-use Rattle.rows.specs.Ground.{groundOfRows}
-use Rattle.grounds.specs.Accepted.{acceptedRows}
 use Rattle.decimal.specs.Path.{Path}
+use Rattle.tophat.specs.Syntax.{Code, TaskOf, Store}
 use Rattle.tophat.specs.Handling.{Action}
 use Rattle.tophat.proofs.ComputeNormalising.{stride}
-use Rattle.rows.specs.Rows.{maxRows, rowWords, word, count, movers}
-use Rattle.sheet.specs.Sheet.{lineBytes}
-use Rattle.sheet.specs.Load.{loaded}
-use Rattle.sheet.proofs.TextGround.{load-number}
-use Rattle.sheet.specs.Accepted.{acceptsRows, rowCount}
+use Rattle.formats.specs.Lines.{lineBytes}
+use Rattle.formats.specs.Touches.{eventOf}
+use Rattle.rows.specs.Lent.{ownRows, rowCount}
+use Rattle.rows.specs.Ground.{RowsGround, rows-3, rows-4, rows-5, rows-6, rows-7, rows-0}
+use Rattle.rows.proofs.Moves.{movers-few}
+use Rattle.sheet.specs.Sheet.{loaded}
+use Rattle.sheet.specs.Accepted.{acceptsRows}
+use Rattle.sheet.proofs.AcceptedRows.{passed-of}
 use Rattle.state.specs.Layout.{stateWords}
-use Rattle.flow.specs.declared.start.Answer.{Answer}
-use Rattle.calls.specs.Calls as calls
-use Rattle.flow.specs.Starts.{Answered, Bounded}
+use Rattle.call_definitions.specs.Memory.{CallAnswer}
+use Rattle.call_definitions.specs.Answers.{LoadAnswers, load-1, load-21, load-2, load-rows, load-0}
+use Rattle.call_definitions.specs.Calls as calls
+use Rattle.call_definitions.specs.Touches.{Bounded}
+use Rattle.call_definitions.proofs.LoadAnswered.{load-derived}
+use Rattle.flow.specs.declared.answer.Answer.{Answer}
+use Rattle.flow.specs.Starts.{Answered}
 use Rattle.screens.specs.Heads.{fourDigits}
 use Rattle.screens.specs.Screens.{loadedCounted}
 
 -- ---- load
 
+rows-few : {rs : List ℕ} {n g : ℕ} → RowsGround rs n g → g < fourDigits
+rows-few (rows-3 a) = omega arith
+rows-few (rows-4 a b) = omega arith
+rows-few (rows-5 a b c) = omega arith
+rows-few (rows-6 f k) = omega arith
+rows-few (rows-7 f k u) = omega arith
+rows-few (rows-0 f k i) = omega arith
+
+answers-few : {text : List ℕ} {memory rows : List ℤ} {g : ℕ} → LoadAnswers text memory g rows → g < fourDigits
+answers-few (load-1 n) = omega arith
+answers-few (load-21 l n) = omega arith
+answers-few (load-2 l m n) = omega arith
+answers-few (load-rows r d) = rows-few d
+answers-few (load-0 r f k i) = omega arith
+
 load-few : (text : List ℕ) (rows : List ℤ) → loaded text rows .0 < fourDigits
-unfolding loaded
-load-few text rows = ⊎-elim (λ h. omega (arith, h)) (λ h. omega (arith, h)) (load-number text (length rows))
+load-few text rows = answers-few (load-derived text rows)
 
 pub counted-few : (n : ℕ) (text : List ℕ) (rows : List ℤ) → loadedCounted n text rows .0 < fourDigits
 unfolding loadedCounted
@@ -43,25 +59,8 @@ counted-few n text rows = cases (eqb (length text) (n * lineBytes)) (λ e. rw e 
 
 -- ---- strides
 
-count-few : (b : Bool) → count b ≤ 1
-count-few true = omega arith
-count-few false = omega arith
-
-movers-few : (rs : List ℕ) (n : ℕ) → movers rs n ≤ n
-unfolding movers
-movers-few rs zero = omega arith
-movers-few rs (suc n) = let a = movers-few rs n in let b = count-few (eqb (word rs n 0) 43 || eqb (word rs n 0) 47) in omega (arith, a, b)
-
-accepted-few : (rows : List ℤ) → acceptsRows rows ≡ true → rowCount rows ≤ maxRows
-unfolding acceptsRows acceptedRows
-accepted-few rows h =
-    let a = eqb (length rows) 0 in let b = leb (length rows) (maxRows * rowWords) in
-    let rest = eqb (length rows % rowWords) 0 && eqb (groundOfRows (calls.bits rows) (rowCount rows)) 0 in
-    let l = leb-true (length rows) (maxRows * rowWords) (and-left b rest (and-right (not a) (b && rest) h)) in
-    omega (arith, l)
-
 strides-few : (rows : List ℤ) (n : ℕ) → acceptsRows rows ≡ true → Bounded rows n → n < fourDigits
-strides-few rows n h b = let m = movers-few (calls.bits rows) (rowCount rows) in let k = accepted-few rows h in omega (arith, k, b, m)
+strides-few rows n h b = let m = movers-few (ownRows rows) (rowCount rows) in let k = passed-of rows h .few in omega (arith, k, b, m)
 
 -- ---- start
 
@@ -69,7 +68,7 @@ either : {A : Type 0} (P : A → Type 0) (b : Bool) (x y : A) → P x → P y �
 either P true x y p q = p
 either P false x y p q = q
 
-abbrev Low : calls.Answer → Type 0
+abbrev Low : CallAnswer → Type 0
 Low a = a .number < fourDigits
 
 started-low : (rows ws : List ℤ) (o : Option Code) → Low (calls.startWith rows ws o)
@@ -91,8 +90,8 @@ start-few rows ws a ws₁ q b = (
 -- ---- handle
 
 abbrev LowGround : calls.Opened → Type 0
-LowGround (calls.shut g) = g < fourDigits
-LowGround (calls.ready c t s) = Unit {0}
+LowGround (calls.refusedBy g) = g < fourDigits
+LowGround (calls.restOf c t s) = Unit {0}
 
 rest-low : (c : Code) (t : TaskOf c) (s : Store) → LowGround (calls.atRest c t s)
 unfolding calls.atRest
@@ -119,15 +118,15 @@ unfolding calls.handled
 handled-low rows ws c none = omega arith
 handled-low rows ws c (some r) = omega arith
 
-heard-low : (rows ws : List ℤ) (c : Code) (t : TaskOf c) (s : Store) (o : Option (Path × Action)) → Low (calls.heard rows ws c t s o)
-unfolding calls.heard
-heard-low rows ws c t s none = omega arith
-heard-low rows ws c t s (some e) = handled-low rows ws c _
+read-event-low : (rows ws : List ℤ) (c : Code) (t : TaskOf c) (s : Store) (o : Option (Path × Action)) → Low (calls.handleRead rows ws c t s o)
+unfolding calls.handleRead
+read-event-low rows ws c t s none = omega arith
+read-event-low rows ws c t s (some e) = handled-low rows ws c _
 
-handle-in-low : (rows ws : List ℤ) (event : List ℕ) (o : calls.Opened) → LowGround o → Low (calls.handleIn rows ws event o)
+handle-in-low : (rows ws : List ℤ) (e : Option (Path × Action)) (o : calls.Opened) → LowGround o → Low (calls.handleIn rows ws e o)
 unfolding calls.handleIn
-handle-in-low rows ws event (calls.shut g) l = l
-handle-in-low rows ws event (calls.ready c t s) l = heard-low rows ws c t s _
+handle-in-low rows ws e (calls.refusedBy g) l = l
+handle-in-low rows ws e (calls.restOf c t s) l = read-event-low rows ws c t s e
 
 -- rows that are not accepted count no stride
 shut-strides : (rows ws : List ℤ) (event : List ℕ) → acceptsRows rows ≡ false → calls.handleCall rows ws event .strides ≡ 0
@@ -138,6 +137,6 @@ pub handle-few : (rows ws : List ℤ) (event : List ℕ) (a : Answer) (ws₁ : L
     → (a .number < fourDigits) × (a .strides < fourDigits)
 unfolding calls.handleCall
 handle-few rows ws event a ws₁ q b = (
-  subst (λ n. n < fourDigits) (sym (q .0)) (handle-in-low rows ws event (calls.opened rows ws true) (opened-low rows ws true)),
+  subst (λ n. n < fourDigits) (sym (q .0)) (handle-in-low rows ws (eventOf event) (calls.opened rows ws true) (opened-low rows ws true)),
   cases (acceptsRows rows) (λ e. strides-few rows (a .strides) e b) (λ e. let z = q .1 ∙ shut-strides rows ws event e in omega (arith, z)),
 )

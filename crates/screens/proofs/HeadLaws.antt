@@ -1,31 +1,37 @@
--- A head line, field by field. Rests on specs/Heads.
-use mathlib.Core.Path.{_≡_, ap, _∙_}
-use mathlib.Core.List.{List}
-use Prim.Native.Nat.{ℕ}
-use lib.ListN.{getD, set}
+-- A head line, field by field. Rests on specs/Heads and on formats' laws of fields.
+use mathlib.Core.Path.{_≡_, sym, ap, _∙_}
+use mathlib.Core.List.{List, [], _∷_, _++_}
+use Prim.Native.Nat.{ℕ, _+_, _*_}
+use native.Mathlib.Omega.{arith}
+use lib.ListN.{length, set}
 use mir.Syntax.{w32}
 use mir.Val.{toZ}
-use Rattle.decimal.specs.Field.{rowColumns, wordColumns, actionColumns, written, putAt}
+use Rattle.decimal.specs.Field.{rowColumns, wordColumns, actionColumns, newline, written, putAt}
+use Rattle.tophat.specs.Syntax.{maxLeaves}
+use Rattle.formats.specs.Records.{total, Item, putItems, itemsOf}
+use Rattle.formats.specs.Heads.{headColumns, headLeaves}
+use Rattle.formats.proofs.Records.{widths, put-more}
+use Rattle.formats.proofs.Loops.{widths-total}
 use Rattle.screens.specs.declared.head.Head.{Head}
-use Rattle.screens.specs.Heads.{putCells, leafCells, leavesPlace, endPlace, headOver}
+use Rattle.screens.specs.Heads.{headItems, headOver}
 
 -- one field written
 abbrev pub put : List ℕ → ℕ → ℕ → ℕ → List ℕ
 put s at w n = putAt s at w (written w (toZ w32 n)) .1
 
-module _ (s l₁ l₂ l₃ l₄ : List ℕ) where
-  pub leaves-written : (ls : List ℕ) → l₁ ≡ put s 12 wordColumns (getD ls 0 0) → l₂ ≡ put l₁ 24 wordColumns (getD ls 1 0)
-      → l₃ ≡ put l₂ 36 wordColumns (getD ls 2 0) → l₄ ≡ put l₃ 48 wordColumns (getD ls 3 0) → l₄ ≡ putCells s leavesPlace (leafCells ls)
-  unfolding putCells
-  leaves-written ls e₁ e₂ e₃ e₄ =
-      e₄ ∙ ap (λ l. put l 48 wordColumns (getD ls 3 0)) (e₃ ∙ ap (λ l. put l 36 wordColumns (getD ls 2 0)) (e₂ ∙ ap (λ l. put l 24 wordColumns (getD ls 1 0)) e₁))
+-- the leaves' fields, and one after them
+leaves-more : (s : List ℕ) (at : ℕ) (ls : List ℕ) (n : ℕ) → length ls ≡ maxLeaves
+    → putItems s at (itemsOf wordColumns ls ++ (rowColumns, toZ w32 n) ∷ []) ≡ put (putItems s at (itemsOf wordColumns ls)) (at + maxLeaves * wordColumns) rowColumns n
+leaves-more s at ls n l =
+    put-more (itemsOf wordColumns ls) (rowColumns, toZ w32 n) s at
+    ∙ ap (λ k. put (putItems s at (itemsOf wordColumns ls)) (at + k) rowColumns n) (widths-total wordColumns ls ∙ ap (λ k. k * wordColumns) l)
 
-  pub head-written : (l₅ l₆ l₇ : List ℕ) (h : Head) → l₁ ≡ put s 0 rowColumns (h .answer) → l₂ ≡ put l₁ 4 rowColumns (h .strides)
-      → l₃ ≡ put l₂ 8 actionColumns (h .fails) → l₄ ≡ put l₃ 10 actionColumns (h .valued) → l₅ ≡ putCells l₄ leavesPlace (leafCells (h .leaves))
-      → l₆ ≡ put l₅ 60 rowColumns (h .entries) → l₇ ≡ set l₆ endPlace 10 → l₇ ≡ headOver s h
-  unfolding putCells headOver
-  head-written l₅ l₆ l₇ h e₁ e₂ e₃ e₄ e₅ e₆ e₇ =
-      let f₂ = e₂ ∙ ap (λ l. put l 4 rowColumns (h .strides)) e₁ in
-      let f₄ = e₄ ∙ ap (λ l. put l 10 actionColumns (h .valued)) (e₃ ∙ ap (λ l. put l 8 actionColumns (h .fails)) f₂) in
-      let f₅ = e₅ ∙ ap (λ l. putCells l leavesPlace (leafCells (h .leaves))) f₄ in
-      e₇ ∙ ap (λ l. set l endPlace 10) (e₆ ∙ ap (λ l. put l 60 rowColumns (h .entries)) f₅)
+pub head-written : (s l₁ l₂ l₃ l₄ l₅ l₆ l₇ : List ℕ) (h : Head) → length (h .leaves) ≡ maxLeaves → l₁ ≡ put s 0 rowColumns (h .answer) → l₂ ≡ put l₁ rowColumns rowColumns (h .strides)
+    → l₃ ≡ put l₂ (2 * rowColumns) actionColumns (h .fails) → l₄ ≡ put l₃ (2 * rowColumns + actionColumns) actionColumns (h .valued) → l₅ ≡ putItems l₄ headLeaves (itemsOf wordColumns (h .leaves))
+    → l₆ ≡ put l₅ (headLeaves + maxLeaves * wordColumns) rowColumns (h .entries) → l₇ ≡ set l₆ (total headColumns) newline → l₇ ≡ headOver s h
+unfolding putItems headOver
+head-written s l₁ l₂ l₃ l₄ l₅ l₆ l₇ h l e₁ e₂ e₃ e₄ e₅ e₆ e₇ =
+    let f₂ = e₂ ∙ ap (λ l. put l rowColumns rowColumns (h .strides)) e₁ in
+    let f₄ = e₄ ∙ ap (λ l. put l (2 * rowColumns + actionColumns) actionColumns (h .valued)) (e₃ ∙ ap (λ l. put l (2 * rowColumns) actionColumns (h .fails)) f₂) in
+    let f₅ = e₅ ∙ ap (λ l. putItems l headLeaves (itemsOf wordColumns (h .leaves))) f₄ in
+    e₇ ∙ ap (λ l. set l (total headColumns) newline) (e₆ ∙ ap (λ l. put l (headLeaves + maxLeaves * wordColumns) rowColumns (h .entries)) f₅ ∙ sym (leaves-more _ headLeaves (h .leaves) (h .entries) l))

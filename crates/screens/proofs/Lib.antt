@@ -3,4 +3,5 @@ pub mod HeadLaws
 pub mod HeadText
 pub mod ScreenLaws
 pub mod Bounds
+mod Sessions
 mod Cases

@@ -11,7 +11,7 @@ use borrow.Table.Steps.{cases}
 use borrow.Rule.Slice.PartMut.{putMid}
 use lib.Dec.{leb}
 use lib.IntN.{ℤ, pos}
-use lib.ListN.{length, take, drop, replicate, length-append, length-drop, drop-of-length-le}
+use lib.ListN.{length, take, drop, replicate, length-append, length-drop, length-map, drop-of-length-le}
 use lib.Seq.{length-take-le, take-at, drop-at, take-add}
 use mir.Syntax.{w32}
 use mir.Val.{ofZ}
@@ -24,19 +24,24 @@ use Rattle.tophat.specs.Normalising.{value}
 use Rattle.tophat.proofs.ComputeNormalising.{failing}
 use Rattle.tophat.proofs.ComputeEntries.{entries}
 use Rattle.rows.specs.Rows.{maxRows}
-use Rattle.sheet.specs.Sheet.{lineBytes}
-use Rattle.sheet.specs.Load.{loaded}
-use Rattle.entries.specs.Entries.{entryBytes, listText}
+use Rattle.rows.specs.GroundNumbers.{notSized}
+use Rattle.formats.specs.Lines.{lineBytes}
+use Rattle.formats.specs.Touches.{entryBytes}
+use Rattle.formats.specs.Lists.{listText}
+use Rattle.formats.specs.Heads.{headBytes}
+use Rattle.formats.proofs.Records.{AllFit}
+use Rattle.sheet.specs.Sheet.{loaded}
 use Rattle.entries.proofs.Fronts.{tail-part, tail-put}
 use Rattle.flow.specs.declared.look.Looked.{Looked}
-use Rattle.flow.specs.declared.start.Answer.{Answer}
-use Rattle.calls.specs.Calls as calls
-use Rattle.flow.specs.Looks.{Shown}
+use Rattle.flow.specs.declared.answer.Answer.{Answer}
+use Rattle.call_definitions.specs.Memory.{CallAnswer, LookAnswer, flag, hasOne}
+use Rattle.call_definitions.specs.Calls as calls
+use Rattle.flow.specs.Looks.{Filled}
 use Rattle.flow.specs.Starts.{Answered}
 use Rattle.screens.specs.declared.head.Head.{Head}
 use Rattle.screens.specs.declared.turn.Begun.{Begun}
-use Rattle.screens.specs.Heads.{fourDigits, headCells, headBytes, headOver, headText}
-use Rattle.screens.proofs.HeadText.{AllFit, all-fit, head-text, head-length}
+use Rattle.screens.specs.Heads.{fourDigits, headItems, headOver, headText}
+use Rattle.screens.proofs.HeadText.{all-fit, head-text, head-length}
 use Rattle.screens.specs.Screens.{screenBytes, Drawn, Beginning, headOf, refusedHead, refusedScreen, shownAfter, loadedCounted, startedBy, begunBy, begins, touched}
 
 -- a front of a list
@@ -52,8 +57,8 @@ take-after xs ys n m e = take-add n m (xs ++ ys) ∙ ap₂ (λ a b. a ++ take m 
 -- the part stands in the list
 in-list : (vs : List ℤ) (list : List ℕ) (o : calls.Opened) → let a = calls.lookIn vs list o in length (a .part) ≤ length (a .list)
 unfolding calls.lookIn
-in-list vs list (calls.shut g) = omega arith
-in-list vs list (calls.ready c t s) =
+in-list vs list (calls.refusedBy g) = omega arith
+in-list vs list (calls.restOf c t s) =
     let es = entries c [] s t in
     cases (leb (length es * entryBytes) (length list))
     (λ e. rw e (let f = length-append (listText es) (drop (length (listText es)) list) in omega arith))
@@ -64,24 +69,24 @@ unfolding calls.lookCall
 part-within rows ws vs list = in-list vs list _
 
 -- and is its front; the flags are 0 or 1
-flag-small : (b : Bool) → calls.flag b ≤ 1
+flag-small : (b : Bool) → flag b ≤ 1
 flag-small true = omega arith
 flag-small false = omega arith
 
-one-small : (o : Option Val) → calls.hasOne o ≤ 1
-unfolding calls.hasOne
+one-small : (o : Option Val) → hasOne o ≤ 1
+unfolding hasOne
 one-small none = omega arith
 one-small (some v) = omega arith
 
-pub record Plain (a : calls.Looked) : Type 0 where
+pub record Plain (a : LookAnswer) : Type 0 where
   pub fronts : take (length (a .part)) (a .list) ≡ a .part
   pub fails : a .fails ≤ 1
   pub valued : a .hasValue ≤ 1
 
 plain-in : (vs : List ℤ) (list : List ℕ) (o : calls.Opened) → Plain (calls.lookIn vs list o)
 unfolding calls.lookIn
-plain-in vs list (calls.shut g) = record { fronts = refl; fails = omega arith; valued = omega arith }
-plain-in vs list (calls.ready c t s) =
+plain-in vs list (calls.refusedBy g) = record { fronts = refl; fails = omega arith; valued = omega arith }
+plain-in vs list (calls.restOf c t s) =
     let es = entries c [] s t in
     cases (leb (length es * entryBytes) (length list))
     (λ e. rw e (record { fronts = take-at (listText es) (drop (length (listText es)) list) (length (listText es)) refl; fails = flag-small (failing c [] s t); valued = one-small (value c t s) }))
@@ -101,13 +106,13 @@ bits-whole vs own e =
 
 module _ (rows ws : List ℤ) (answer strides : ℕ) (out : List ℕ) (long : length out ≡ screenBytes) (r : Looked) (vs : List ℤ) (list : List ℕ)
     (kept : length list ≡ length (take (length out - headBytes) (drop headBytes out)))
-    (e : Shown (calls.lookCall rows ws (replicate maxLeaves (pos 0)) (take (length out - headBytes) (drop headBytes out))) r vs list) where
-  seen : calls.Looked
+    (e : Filled (calls.lookCall rows ws (replicate maxLeaves (pos 0)) (take (length out - headBytes) (drop headBytes out))) r vs list) where
+  seen : LookAnswer
   seen = calls.lookCall rows ws (replicate maxLeaves (pos 0)) (drop headBytes out)
 
-  shown : Shown seen r vs list
+  shown : Filled seen r vs list
   unfolding seen
-  shown = subst (λ b. Shown (calls.lookCall rows ws (replicate maxLeaves (pos 0)) b) r vs list) (tail-part headBytes out) e
+  shown = subst (λ b. Filled (calls.lookCall rows ws (replicate maxLeaves (pos 0)) b) r vs list) (tail-part headBytes out) e
 
   list-length : length list ≡ maxRows * entryBytes
   list-length = kept ∙ ap length (tail-part headBytes out) ∙ length-drop headBytes out ∙ omega (arith, long)
@@ -135,7 +140,7 @@ module _ (rows ws : List ℤ) (answer strides : ℕ) (out : List ℕ) (long : le
   head : Head
   head = headOf answer strides seen
 
-  fits : length vs ≡ maxLeaves → AllWords (take maxLeaves vs) → answer < fourDigits → strides < fourDigits → AllFit (headCells head)
+  fits : length vs ≡ maxLeaves → AllWords (take maxLeaves vs) → answer < fourDigits → strides < fourDigits → AllFit (headItems head)
   unfolding seen head
   fits four w a b =
       let f = plain rows ws (replicate maxLeaves (pos 0)) (drop headBytes out) in
@@ -143,15 +148,16 @@ module _ (rows ws : List ℤ) (answer strides : ℕ) (out : List ℕ) (long : le
       all-fit head a b (f .fails) (f .valued) l (let k = bytes-few in let e = shown .bytes in omega (arith, k, e))
 
   -- the head line, and the part after it
-  text-printed : AllFit (headCells head) → take (headBytes + length (seen .part)) (headOver (take headBytes out ++ seen .list) head) ≡ headText head ++ seen .part
-  unfolding seen
-  text-printed k =
+  text-printed : AllFit (headItems head) → length vs ≡ maxLeaves → take (headBytes + length (seen .part)) (headOver (take headBytes out ++ seen .list) head) ≡ headText head ++ seen .part
+  unfolding seen head
+  text-printed k four =
+      let n = length-map (seen .value) (ofZ w32) ∙ sym (ap length (shown .value)) ∙ four in
       let m = take headBytes out ++ seen .list in
       let e = length-take-le headBytes out (omega (arith, long)) in
       let g = length-append (take headBytes out) (seen .list) in
       let f = plain rows ws (replicate maxLeaves (pos 0)) (drop headBytes out) in
-      ap (take (headBytes + length (seen .part))) (head-text m head k (omega (arith, e, g)) ∙ ap (λ l. headText head ++ l) (drop-at (take headBytes out) (seen .list) headBytes e))
-      ∙ take-after (headText head) (seen .list) headBytes (length (seen .part)) (head-length head k)
+      ap (take (headBytes + length (seen .part))) (head-text head k n m (omega (arith, e, g)) ∙ ap (λ l. headText head ++ l) (drop-at (take headBytes out) (seen .list) headBytes e))
+      ∙ take-after (headText head) (seen .list) headBytes (length (seen .part)) (head-length head k n)
       ∙ ap (λ l. headText head ++ l) (f .fronts)
 
   pub drawn : answer < fourDigits → strides < fourDigits → length vs ≡ maxLeaves → AllWords (take maxLeaves vs) → (leaves out₁ : List ℕ) → leaves ≡ laid (ofZ w32) vs (replicate maxLeaves 0)
@@ -170,7 +176,7 @@ module _ (rows ws : List ℤ) (answer strides : ℕ) (out : List ℕ) (long : le
         bytes = c;
         memory = m;
         within = front (headBytes + r .bytes) out₁ (omega (arith, g, b));
-        printed = (λ i. take (c i) (m i)) ∙ text-printed (fits four w x y);
+        printed = (λ i. take (c i) (m i)) ∙ text-printed (fits four w x y) four;
       }
 
 -- the one line of a sheet that is refused
@@ -182,13 +188,13 @@ drawn-refused g out out₁ x long k e =
       bytes = refl;
       memory = e;
       within = front headBytes out₁ (omega (arith, long, k));
-      printed = ap (take headBytes) (e ∙ head-text out h f (omega (arith, long))) ∙ take-at (headText h) (drop headBytes out) headBytes (head-length h f);
+      printed = ap (take headBytes) (e ∙ head-text h f refl out (omega (arith, long))) ∙ take-at (headText h) (drop headBytes out) headBytes (head-length h f refl);
     }
 
 -- ---- a sheet of n counted lines
 
 module _ (n : ℕ) (text : List ℕ) (rows : List ℤ) where
-  pub not-met : (length text ≡ n * lineBytes → ⊥) → loadedCounted n text rows ≡ (1, rows)
+  pub not-met : (length text ≡ n * lineBytes → ⊥) → loadedCounted n text rows ≡ (notSized, rows)
   unfolding loadedCounted
   not-met h = rw (ne-eqb (length text) (n * lineBytes) h)
 
@@ -202,11 +208,11 @@ refused-by : (g : ℕ) (rows ws : List ℤ) (out : List ℕ) → (g ≡ 0 → �
 refused-by zero rows ws out h = absurd (h refl)
 refused-by (suc g) rows ws out h = refl
 
-unstarted-by : (g : ℕ) (rows : List ℤ) (out : List ℕ) (a : calls.Answer) → (g ≡ 0 → ⊥) → startedBy g rows out a ≡ record { started = false; rows = rows; state = a .state; screen = refusedScreen g out }
+unstarted-by : (g : ℕ) (rows : List ℤ) (out : List ℕ) (a : CallAnswer) → (g ≡ 0 → ⊥) → startedBy g rows out a ≡ record { started = false; rows = rows; state = a .state; screen = refusedScreen g out }
 unstarted-by zero rows out a h = absurd (h refl)
 unstarted-by (suc g) rows out a h = refl
 
-started-by : (g : ℕ) (rows : List ℤ) (out : List ℕ) (a : calls.Answer) → g ≡ 0
+started-by : (g : ℕ) (rows : List ℤ) (out : List ℕ) (a : CallAnswer) → g ≡ 0
     → startedBy g rows out a ≡ record { started = true; rows = rows; state = a .state; screen = shownAfter rows (a .state) (a .number) (a .strides) out }
 started-by zero rows out a h = refl
 started-by (suc g) rows out a h = absurd (omega (arith, h))

@@ -1,5 +1,5 @@
 -- What a session prints (01, "A session in full"): after a sheet, and after an event, the answer's head line and the entries, in memory
--- that is lent for it. Rests on the definitions of the calls (crates sheet and calls) and on Heads.
+-- that is lent for it. Rests on the definitions of the calls (crates sheet and call_definitions) and on Heads.
 use mathlib.Core.Path.{_≡_}
 use mathlib.Core.Bool.{Bool, true, false, cond}
 use mathlib.Core.List.{List, _++_, map}
@@ -11,13 +11,16 @@ use mir.Syntax.{w32}
 use mir.Val.{ofZ}
 use Rattle.tophat.specs.Syntax.{maxLeaves}
 use Rattle.rows.specs.Rows.{maxRows}
-use Rattle.sheet.specs.Sheet.{lineBytes}
-use Rattle.sheet.specs.Load.{loaded}
-use Rattle.entries.specs.Entries.{entryBytes}
-use Rattle.calls.specs.Calls.{Answer, Looked, startCall, lookCall, handleCall}
+use Rattle.rows.specs.GroundNumbers.{notSized}
+use Rattle.formats.specs.Lines.{lineBytes}
+use Rattle.formats.specs.Touches.{entryBytes}
+use Rattle.formats.specs.Heads.{headBytes}
+use Rattle.sheet.specs.Sheet.{loaded}
+use Rattle.call_definitions.specs.Memory.{CallAnswer, LookAnswer}
+use Rattle.call_definitions.specs.Calls.{startCall, lookCall, handleCall}
 use Rattle.screens.specs.declared.head.Head.{Head}
 use Rattle.screens.specs.declared.turn.Begun.{Begun}
-use Rattle.screens.specs.Heads.{headBytes, headOver, headText}
+use Rattle.screens.specs.Heads.{headOver, headText}
 
 -- a head line, and one entry a row
 abbrev pub screenBytes : ℕ
@@ -30,7 +33,7 @@ pub record Screen : Type 0 where
   pub memory : List ℕ
 
 -- the head line of an answer and of what look shows
-abbrev pub headOf : ℕ → ℕ → Looked → Head
+abbrev pub headOf : ℕ → ℕ → LookAnswer → Head
 headOf answer strides l = record {
   answer = answer;
   strides = strides;
@@ -48,7 +51,7 @@ abbrev pub refusedScreen : ℕ → List ℕ → Screen
 refusedScreen ground out = record { text = headText (refusedHead ground); bytes = headBytes; memory = headOver out (refusedHead ground) }
 
 -- "it prints: answer .. entry count (4), then the entries": look is lent the memory after the head line for its list
-abbrev pub shownWith : ℕ → ℕ → List ℕ → Looked → Screen
+abbrev pub shownWith : ℕ → ℕ → List ℕ → LookAnswer → Screen
 shownWith answer strides out l = record {
   text = headText (headOf answer strides l) ++ l .part;
   bytes = headBytes + length (l .part);
@@ -69,7 +72,7 @@ pub record Drawn (a : Screen) (n : ℕ) (out : List ℕ) : Type 0 where
 
 -- "a row count .. not met" is ground 1; else what load answers and leaves
 unfoldable pub loadedCounted : ℕ → List ℕ → List ℤ → ℕ × List ℤ
-loadedCounted n text rows = cond (eqb (length text) (n * lineBytes)) (loaded text rows) (1, rows)
+loadedCounted n text rows = cond (eqb (length text) (n * lineBytes)) (loaded text rows) (notSized, rows)
 
 -- whether a flow is started; its rows and its state, and the screen
 pub record Begins : Type 0 where
@@ -78,7 +81,7 @@ pub record Begins : Type 0 where
   pub state : List ℤ
   pub screen : Screen
 
-abbrev pub startedBy : ℕ → List ℤ → List ℕ → Answer → Begins
+abbrev pub startedBy : ℕ → List ℤ → List ℕ → CallAnswer → Begins
 startedBy zero rows out a = record { started = true; rows = rows; state = a .state; screen = shownAfter rows (a .state) (a .number) (a .strides) out }
 startedBy (suc g) rows out a = record { started = false; rows = rows; state = a .state; screen = refusedScreen (suc g) out }
 

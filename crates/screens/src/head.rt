@@ -1,12 +1,19 @@
-// The head line of a screen (01, "A session in full"): answer, strides, failing, value flag, four leaves, entry count, byte 10.
+// The head line of a screen (01, "A session in full"): answer, strides, failing, value flag, a number for each leaf, entry count, byte 10.
 ghost use mathlib.Core.Path.{_≡_};
 ghost use lib.ListN.{set};
-ghost use Rattle.screens.specs.Heads.{putCells, leafCells, leavesPlace, endPlace, headOver};
+ghost use Rattle.decimal.specs.Field.{newline};
+ghost use Rattle.formats.specs.Records.{total};
+ghost use Rattle.formats.specs.Heads.{headColumns};
+ghost use Rattle.screens.specs.Heads.{headOver};
 use decimal::field;
 use decimal::field::ACTION_COLUMNS;
 use decimal::field::NEWLINE;
 use decimal::field::ROW_COLUMNS;
 use decimal::field::WORD_COLUMNS;
+use formats::HEAD_BYTES;
+use formats::HEAD_ENTRIES_AT;
+use formats::HEAD_LEAVES_AT;
+use formats::write_numbers;
 use tophat::MAX_LEAVES;
 
 // What a head line says: numbers below 2^31, and the bits of the leaves.
@@ -19,31 +26,15 @@ pub struct Head {
     pub entries: u32,
 }
 
-// Where the leaves, the entry count and byte 10 stand.
-const LEAVES_AT: usize = 2 * ROW_COLUMNS + 2 * ACTION_COLUMNS;
-
-const ENTRIES_AT: usize = LEAVES_AT + MAX_LEAVES * WORD_COLUMNS;
-
-const LAST: usize = ENTRIES_AT + ROW_COLUMNS;
-
-pub const HEAD_BYTES: usize = LAST + 1;
-
-// The leaves, each in its field.
-fn write_leaves(s: &mut [u8], leaves: [u32; MAX_LEAVES])
-    ensures { λ _. ⌜ now (s .exit) ≡ putCells (now (s .entry)) leavesPlace (leafCells leaves) ⌝ }
-{
-    field::write(s, LEAVES_AT, WORD_COLUMNS, leaves[0]);
-    field::write(s, LEAVES_AT + WORD_COLUMNS, WORD_COLUMNS, leaves[1]);
-    field::write(s, LEAVES_AT + 2 * WORD_COLUMNS, WORD_COLUMNS, leaves[2]);
-    field::write(s, LEAVES_AT + 3 * WORD_COLUMNS, WORD_COLUMNS, leaves[3]);
-}
+// Where byte 10 stands.
+const END_AT: usize = HEAD_BYTES - 1;
 
 // Byte 10 at the line's end, where there is room for it.
 fn write_end(s: &mut [u8])
-    ensures { λ _. ⌜ now (s .exit) ≡ set (now (s .entry)) endPlace 10 ⌝ }
+    ensures { λ _. ⌜ now (s .exit) ≡ set (now (s .entry)) (total headColumns) newline ⌝ }
 {
-    if LAST < s.len() {
-        s[LAST] = NEWLINE;
+    if END_AT < s.len() {
+        s[END_AT] = NEWLINE;
     }
 }
 
@@ -61,7 +52,7 @@ pub fn write(s: &mut [u8], h: Head)
         h.valued,
     );
     let leaves = h.leaves;
-    write_leaves(s, leaves);
-    field::write(s, ENTRIES_AT, ROW_COLUMNS, h.entries);
+    write_numbers(s, HEAD_LEAVES_AT, WORD_COLUMNS, leaves);
+    field::write(s, HEAD_ENTRIES_AT, ROW_COLUMNS, h.entries);
     write_end(s);
 }

@@ -6,14 +6,15 @@ ghost use lib.ListN.{length};
 ghost use Rattle.screens.specs.Heads.{fourDigits};
 ghost use Rattle.screens.specs.Screens.{screenBytes, Drawn, Beginning, refusedScreen, loadedCounted, shownAfter, begins, touched};
 use super::head;
-use super::head::HEAD_BYTES;
 use super::head::Head;
-use entries::ENTRY_BYTES;
 use entries::LIST_BYTES;
 use flow::look::fill;
 use flow::start::start;
 use flow::touch::handle;
-use sheet::LINE_BYTES;
+use formats::ENTRY_BYTES;
+use formats::HEAD_BYTES;
+use formats::LINE_BYTES;
+use rows::grounds::NOT_SIZED;
 use sheet::load;
 use tophat::MAX_LEAVES;
 use word::copy_in;
@@ -75,10 +76,10 @@ fn load_counted(n: usize, text: &[u8], rows: &mut [i32]) -> u32
     ensures { λ _. ⌜ now (rows .exit) ≡ loadedCounted n (now (text .entry)) (now (rows .entry)) .1 ⌝ }
 {
     if text.len() % LINE_BYTES != 0 {
-        return 1;
+        return NOT_SIZED;
     }
     if text.len() / LINE_BYTES != n {
-        return 1;
+        return NOT_SIZED;
     }
     load(text, rows)
 }

@@ -11,10 +11,10 @@ use lib.Dec.{eqb}
 use lib.ListN.{length}
 use borrow.Author.Tests.{ne-eqb, eqb-true, eqb-false}
 use Rattle.tophat.specs.Syntax.{maxLeaves, Ty, unit, truth, number, pair, leaves}
-use Rattle.shape.specs.Shape.{put, asShape, leafOf, asType, leavesIn, leavesOf}
+use Rattle.shape.specs.Shape.{put, asShape, leafOf, asType, leavesIn, shapeLeaves}
 use Rattle.shape.specs.Digits.{maxDigits, count, width}
 use Rattle.shape.proofs.Puts.{by-test, leaf-back, put-split, shape-range, as-type, as-shape}
-use Rattle.ranges.proofs.Ranges.{nothing, in-range}
+use Rattle.match_laws.proofs.Ranges.{in-range}
 
 -- ---- the leaves of a type are counted
 
@@ -91,7 +91,7 @@ no-types c = record { types = []; rest = c; as-many = refl; stand = refl; have =
 
 leaf-one : (j : ℕ) → 1 ≤ j → j < 4 → leaves (leafOf j) ≡ 1
 unfolding leaves leafOf
-leaf-one j p q = in-range (λ j. leaves (leafOf j) ≡ 1) 1 3 (refl, (refl, (refl, nothing))) p (omega arith)
+leaf-one j p q = in-range (λ j. leaves (leafOf j) ≡ 1) 1 3 (refl, (refl, (refl, tt))) p (omega arith)
 
 leaf-more : (k c n : ℕ) → (c % 4 ≡ 0 → ⊥) → Types k (c / 4) n → Types (suc k) c (1 + n)
 unfolding puts total
@@ -134,7 +134,7 @@ counted-shape c h g = let t = counted maxDigits 1 c h in let (τ, e, l) = only-t
         let w = ap width l in
         absurd (omega arith)
 
--- ---- leavesOf
+-- ---- shapeLeaves
 
 -- a number is read as no type, or is the shape of one
 pub by-type : (c : ℕ) (P : Option Ty → Type 0) → P none → ((τ : Ty) → c ≡ asShape τ → leaves τ ≤ maxLeaves → P (some τ)) → P (asType c)
@@ -144,24 +144,24 @@ by-type c P p q = go (asType c) refl
     go none e = p
     go (some τ) e = let (a, b) = as-shape c τ e in q τ a b
 
-pub shape-leaves : (τ : Ty) → leaves τ ≤ maxLeaves → leavesOf (asShape τ) ≡ leaves τ
-unfolding leavesOf leavesIn
+pub shape-leaves : (τ : Ty) → leaves τ ≤ maxLeaves → shapeLeaves (asShape τ) ≡ leaves τ
+unfolding shapeLeaves leavesIn
 shape-leaves τ h = ap leavesIn (as-type τ h)
 
-pub leaves-is : (c : ℕ) → count maxDigits 1 c ≤ maxLeaves → c < width (count maxDigits 1 c) → leavesOf c ≡ count maxDigits 1 c
-leaves-is c h g = let (τ, e, l) = counted-shape c h g in ap leavesOf e ∙ shape-leaves τ (omega arith) ∙ l
+pub leaves-is : (c : ℕ) → count maxDigits 1 c ≤ maxLeaves → c < width (count maxDigits 1 c) → shapeLeaves c ≡ count maxDigits 1 c
+leaves-is c h g = let (τ, e, l) = counted-shape c h g in ap shapeLeaves e ∙ shape-leaves τ (omega arith) ∙ l
 
-pub leaves-not : (c : ℕ) → (count maxDigits 1 c ≤ maxLeaves → c < width (count maxDigits 1 c) → ⊥) → leavesOf c ≡ 0
-unfolding leavesOf leavesIn asShape
+pub leaves-not : (c : ℕ) → (count maxDigits 1 c ≤ maxLeaves → c < width (count maxDigits 1 c) → ⊥) → shapeLeaves c ≡ 0
+unfolding shapeLeaves leavesIn asShape
 leaves-not c h =
     by-type c (λ o. leavesIn o ≡ 0) refl
     (λ τ e l. let n = ap (count maxDigits 1) e ∙ count-first τ 0 l in let w = ap width n in absurd (h (omega arith) (omega (arith, shape-range τ .0))))
 
 -- a number with leaves is a shape, and one without is none
-pub of-leaves : (c : ℕ) → (leavesOf c ≡ 0 → ⊥) → (τ : Ty) × (c ≡ asShape τ) × (leaves τ ≤ maxLeaves) × (leaves τ ≡ leavesOf c)
-unfolding leavesOf leavesIn
+pub of-leaves : (c : ℕ) → (shapeLeaves c ≡ 0 → ⊥) → (τ : Ty) × (c ≡ asShape τ) × (leaves τ ≤ maxLeaves) × (leaves τ ≡ shapeLeaves c)
+unfolding shapeLeaves leavesIn
 of-leaves c h = go (asType c) refl
   where
-    go : (o : Option Ty) → asType c ≡ o → (τ : Ty) × (c ≡ asShape τ) × (leaves τ ≤ maxLeaves) × (leaves τ ≡ leavesOf c)
+    go : (o : Option Ty) → asType c ≡ o → (τ : Ty) × (c ≡ asShape τ) × (leaves τ ≤ maxLeaves) × (leaves τ ≡ shapeLeaves c)
     go none e = absurd (h (ap leavesIn e))
-    go (some τ) e = let (a, b) = as-shape c τ e in (τ, a, b, sym (ap leavesOf a ∙ shape-leaves τ b))
+    go (some τ) e = let (a, b) = as-shape c τ e in (τ, a, b, sym (ap shapeLeaves a ∙ shape-leaves τ b))

@@ -1,14 +1,14 @@
 -- What the code of this crate does at each way, against its definitions. Rests on Puts and Counts.
 use mathlib.Core.Path.{_≡_, refl, sym, ap, subst, _∙_}
-use mathlib.Core.Option.{Option, none, some}
+use mathlib.Core.Option.{Option, none, some, bind}
 use Prim.Native.Nat.{ℕ, zero, suc, _+_, _-_, _*_, _/_, _%_, _^_, _<_, _≤_}
 use native.Mathlib.Nat.{mod-eq-of-lt, div-eq-of-lt, add-mul-div-left, add-mul-mod-self-left}
 use native.Mathlib.Numerals.{sub-one}
 use native.Mathlib.Omega.{arith}
 use borrow.Author.Tests.{eq-eqb, ne-eqb}
 use Rattle.tophat.specs.Syntax.{maxLeaves, Ty, unit, truth, number, pair, leaves}
-use Rattle.tophat.proofs.ComputeTyping.{bind, firstTo, secondTo}
-use Rattle.shape.specs.Shape.{put, asShape, maybeShape, asType, pairShape, firstShape, secondShape, leavesIn, leavesOf}
+use Rattle.tophat.proofs.ComputeTyping.{firstTo, secondTo}
+use Rattle.shape.specs.Shape.{put, asShape, maybeShape, asType, pairShape, firstShape, secondShape, leavesIn, shapeLeaves}
 use Rattle.shape.specs.Digits.{maxDigits, count, width}
 use Rattle.shape.proofs.Puts.{leaves-pos, put-split, shape-pair, shape-range, fits, too-big, as-type}
 use Rattle.shape.proofs.Counts.{count-first, by-type, leaves-is, leaves-not, of-leaves}
@@ -72,31 +72,31 @@ width-fits n h = let e : width maxLeaves < 2 ^ 32 = omega arith in omega (arith,
 -- ---- leaves_of
 
 module _ (c n : ℕ) (e : n ≡ count maxDigits 1 c) where
-  pub leaves-yes : n ≤ maxLeaves → c < width n → n ≡ leavesOf c
+  pub leaves-yes : n ≤ maxLeaves → c < width n → n ≡ shapeLeaves c
   leaves-yes h g = let w = ap width e in e ∙ sym (leaves-is c (omega arith) (omega arith))
 
-  pub leaves-over : maxLeaves < n → 0 ≡ leavesOf c
+  pub leaves-over : maxLeaves < n → 0 ≡ shapeLeaves c
   leaves-over h = sym (leaves-not c (λ p q. omega arith))
 
-  pub leaves-wide : width n ≤ c → 0 ≡ leavesOf c
+  pub leaves-wide : width n ≤ c → 0 ≡ shapeLeaves c
   leaves-wide h = let w = ap width e in sym (leaves-not c (λ p q. omega arith))
 
 -- ---- pair_shape
 
 -- what a number with leaves, or without, is read as
-pub read-none : (c : ℕ) → leavesOf c ≡ 0 → asType c ≡ none
-unfolding leavesOf leavesIn
+pub read-none : (c : ℕ) → shapeLeaves c ≡ 0 → asType c ≡ none
+unfolding shapeLeaves leavesIn
 read-none c = by-type c (λ o. leavesIn o ≡ 0 → o ≡ none) (λ h. refl) (λ τ e l h. absurd (omega (arith, leaves-pos τ)))
 
-pub read-some : (c : ℕ) → (leavesOf c ≡ 0 → ⊥) → (τ : Ty) × (c ≡ asShape τ) × (leaves τ ≤ maxLeaves) × (leaves τ ≡ leavesOf c) × (asType c ≡ some τ)
+pub read-some : (c : ℕ) → (shapeLeaves c ≡ 0 → ⊥) → (τ : Ty) × (c ≡ asShape τ) × (leaves τ ≤ maxLeaves) × (leaves τ ≡ shapeLeaves c) × (asType c ≡ some τ)
 read-some c h = let (τ, e, l, n) = of-leaves c h in (τ, e, l, n, ap asType e ∙ as-type τ l)
 
 module _ (a b : ℕ) where
-  pub pair-left : leavesOf a ≡ 0 → 0 ≡ pairShape a b
+  pub pair-left : shapeLeaves a ≡ 0 → 0 ≡ pairShape a b
   unfolding pairShape bind maybeShape
   pair-left h = let e = read-none a h in sym (rw e)
 
-  pub pair-right : leavesOf b ≡ 0 → 0 ≡ pairShape a b
+  pub pair-right : shapeLeaves b ≡ 0 → 0 ≡ pairShape a b
   unfolding pairShape bind maybeShape
   pair-right h = let e = read-none b h in sym (rw e (go (asType a)))
     where
@@ -104,7 +104,7 @@ module _ (a b : ℕ) where
       go none = refl
       go (some τ) = refl
 
-module _ (a b m n : ℕ) (h : m ≡ leavesOf a) (g : n ≡ leavesOf b) (y : m ≡ 0 → ⊥) (z : n ≡ 0 → ⊥) where
+module _ (a b m n : ℕ) (h : m ≡ shapeLeaves a) (g : n ≡ shapeLeaves b) (y : m ≡ 0 → ⊥) (z : n ≡ 0 → ⊥) where
   pub pair-over : maxLeaves < m + n → 0 ≡ pairShape a b
   unfolding pairShape bind maybeShape leaves
   pair-over l =
@@ -133,21 +133,21 @@ module _ (a b m n : ℕ) (h : m ≡ leavesOf a) (g : n ≡ leavesOf b) (y : m �
 -- ---- components
 
 -- a shape of two leaves or more is a pair's
-pair-of : (c : ℕ) → 2 ≤ leavesOf c → (τ : Ty) × (υ : Ty) × (leaves τ + leaves υ ≤ maxLeaves) × (c / 4 ≡ put τ (asShape υ)) × (asType c ≡ some (pair τ υ))
+pair-of : (c : ℕ) → 2 ≤ shapeLeaves c → (τ : Ty) × (υ : Ty) × (leaves τ + leaves υ ≤ maxLeaves) × (c / 4 ≡ put τ (asShape υ)) × (asType c ≡ some (pair τ υ))
 unfolding asShape put leaves
 pair-of c h = let (τ, e, l, n, q) = read-some c (λ z. omega arith) in go τ e l n q
   where
-    go : (τ : Ty) → c ≡ asShape τ → leaves τ ≤ maxLeaves → leaves τ ≡ leavesOf c → asType c ≡ some τ → (τ : Ty) × (υ : Ty) × (leaves τ + leaves υ ≤ maxLeaves) × (c / 4 ≡ put τ (asShape υ)) × (asType c ≡ some (pair τ υ))
+    go : (τ : Ty) → c ≡ asShape τ → leaves τ ≤ maxLeaves → leaves τ ≡ shapeLeaves c → asType c ≡ some τ → (τ : Ty) × (υ : Ty) × (leaves τ + leaves υ ≤ maxLeaves) × (c / 4 ≡ put τ (asShape υ)) × (asType c ≡ some (pair τ υ))
     go unit e l n q = absurd (omega arith)
     go truth e l n q = absurd (omega arith)
     go number e l n q = absurd (omega arith)
     go (pair τ υ) e l n q = (τ, υ, l, ap (λ x. x / 4) e ∙ omega arith, q)
 
-pub first-leaves : (c : ℕ) → 2 ≤ leavesOf c → count maxDigits 1 (c / 4) ≤ maxLeaves
+pub first-leaves : (c : ℕ) → 2 ≤ shapeLeaves c → count maxDigits 1 (c / 4) ≤ maxLeaves
 first-leaves c h = let (τ, υ, l, e, _) = pair-of c h in let k = ap (count maxDigits 1) e ∙ count-first τ (asShape υ) (omega arith) in omega arith
 
-one-leaf : (f : Ty → Option Ty) → f unit ≡ none → f truth ≡ none → f number ≡ none → (c : ℕ) → leavesOf c < 2 → maybeShape (bind (asType c) f) ≡ 0
-unfolding leavesOf leavesIn bind maybeShape leaves
+one-leaf : (f : Ty → Option Ty) → f unit ≡ none → f truth ≡ none → f number ≡ none → (c : ℕ) → shapeLeaves c < 2 → maybeShape (bind (asType c) f) ≡ 0
+unfolding shapeLeaves leavesIn bind maybeShape leaves
 one-leaf f x y z c = by-type c (λ o. leavesIn o < 2 → maybeShape (bind o f) ≡ 0) (λ h. refl) (λ τ e l h. go τ h)
   where
     go : (τ : Ty) → leaves τ < 2 → maybeShape (f τ) ≡ 0
@@ -156,15 +156,15 @@ one-leaf f x y z c = by-type c (λ o. leavesIn o < 2 → maybeShape (bind o f) �
     go number h = ap maybeShape z
     go (pair τ υ) h = absurd (omega (arith, leaves-pos τ, leaves-pos υ))
 
-pub first-no : (c : ℕ) → leavesOf c < 2 → 0 ≡ firstShape c
+pub first-no : (c : ℕ) → shapeLeaves c < 2 → 0 ≡ firstShape c
 unfolding firstShape firstTo
 first-no c h = sym (one-leaf firstTo refl refl refl c h)
 
-pub second-no : (c : ℕ) → leavesOf c < 2 → 0 ≡ secondShape c
+pub second-no : (c : ℕ) → shapeLeaves c < 2 → 0 ≡ secondShape c
 unfolding secondShape secondTo
 second-no c h = sym (one-leaf secondTo refl refl refl c h)
 
-module _ (c w : ℕ) (h : 2 ≤ leavesOf c) (e : w ≡ width (count maxDigits 1 (c / 4))) where
+module _ (c w : ℕ) (h : 2 ≤ shapeLeaves c) (e : w ≡ width (count maxDigits 1 (c / 4))) where
   split : (τ : Ty) × (υ : Ty) × (c / 4 ≡ asShape τ + w * asShape υ) × (asShape τ < w) × (asType c ≡ some (pair τ υ))
   split =
       let (τ, υ, l, p, q) = pair-of c h in

@@ -1,16 +1,15 @@
 -- The leaf kinds of a shape are its digits but the pairs' ones, in their order. Rests on Puts, Counts and Laws.
 use mathlib.Core.Path.{_≡_, refl, sym, ap, ap₂, _∙_}
-use mathlib.Core.List.{List, [], _∷_, _++_, map}
+use mathlib.Core.List.{List, [], _∷_, _++_, map, map-append, append-assoc, append-nil}
 use Prim.Native.Nat.{ℕ, zero, suc, _+_, _-_, _*_, _/_, _%_, _<_, _≤_}
 use native.Mathlib.Numerals.{sub-one, add-one}
 use native.Mathlib.Omega.{arith}
-use lib.ListN.{length, set, replicate}
+use lib.ListN.{length, set, replicate, length-append}
 use lib.Seq.{set-append-seam}
 use borrow.Author.Tests.{eq-eqb, ne-eqb}
 use Rattle.tophat.specs.Syntax.{maxLeaves, Ty, unit, truth, number, pair, leaves}
-use Rattle.tophat.specs.Handling.{padded}
-use Rattle.tophat.specs.Showing.{Leaf, leafKinds}
-use Rattle.shape.specs.Shape.{put, asShape, leavesOf, leafNumber, kindsIn, kindsOf}
+use Rattle.tophat.specs.Leaves.{padded, leafKinds, leafNumber}
+use Rattle.shape.specs.Shape.{put, asShape, shapeLeaves, kindsIn, kindsOf}
 use Rattle.shape.specs.Digits.{maxDigits, leafDigits, storedFrom}
 use Rattle.shape.proofs.Counts.{digits, digits-are}
 use Rattle.shape.proofs.Laws.{read-none, read-some}
@@ -65,43 +64,27 @@ pair-digit d p =
 abbrev numbers : Ty → List ℕ
 numbers τ = map leafNumber (leafKinds τ)
 
-append-assoc : (xs ys zs : List ℕ) → (xs ++ ys) ++ zs ≡ xs ++ (ys ++ zs)
-append-assoc [] ys zs = refl
-append-assoc (x ∷ xs) ys zs = ap (λ l. x ∷ l) (append-assoc xs ys zs)
-
-map-append : (xs ys : List Leaf) → map leafNumber (xs ++ ys) ≡ map leafNumber xs ++ map leafNumber ys
-map-append [] ys = refl
-map-append (x ∷ xs) ys = ap (λ l. leafNumber x ∷ l) (map-append xs ys)
-
 digits-put : (τ : Ty) (d c : ℕ) → leafDigits (digits τ + d) (put τ c) ≡ numbers τ ++ leafDigits d c
-unfolding digits put leafKinds leafNumber
+unfolding digits put leafKinds
 digits-put unit d c = let e : 1 + d ≡ suc d = omega arith in ap (λ x. leafDigits x (c * 4 + 1)) e ∙ leaf-digit d c 1 (omega arith) (omega arith)
 digits-put truth d c = let e : 1 + d ≡ suc d = omega arith in ap (λ x. leafDigits x (c * 4 + 2)) e ∙ leaf-digit d c 2 (omega arith) (omega arith)
 digits-put number d c = let e : 1 + d ≡ suc d = omega arith in ap (λ x. leafDigits x (c * 4 + 3)) e ∙ leaf-digit d c 3 (omega arith) (omega arith)
 digits-put (pair τ υ) d c =
     let e : suc (digits τ + digits υ) + d ≡ suc (digits τ + (digits υ + d)) = omega arith in
     ap (λ x. leafDigits x (put τ (put υ c) * 4)) e ∙ pair-digit (digits τ + (digits υ + d)) (put τ (put υ c)) ∙ digits-put τ (digits υ + d) (put υ c)
-    ∙ ap (λ l. numbers τ ++ l) (digits-put υ d c) ∙ sym (append-assoc (numbers τ) (numbers υ) (leafDigits d c)) ∙ ap (λ l. l ++ leafDigits d c) (sym (map-append (leafKinds τ) (leafKinds υ)))
+    ∙ ap (λ l. numbers τ ++ l) (digits-put υ d c) ∙ sym (append-assoc (numbers τ) (numbers υ) (leafDigits d c)) ∙ ap (λ l. l ++ leafDigits d c) (sym (map-append leafNumber (leafKinds τ) (leafKinds υ)))
 
 no-digits : (d : ℕ) → leafDigits d 0 ≡ []
 unfolding leafDigits
 no-digits zero = refl
 no-digits (suc d) = no-digits d
 
-append-nil : (xs : List ℕ) → xs ++ [] ≡ xs
-append-nil [] = refl
-append-nil (x ∷ xs) = ap (λ l. x ∷ l) (append-nil xs)
-
-length-append : (xs ys : List ℕ) → length (xs ++ ys) ≡ length xs + length ys
-length-append [] ys = omega arith
-length-append (x ∷ xs) ys = omega (arith, length-append xs ys)
-
 numbers-length : (τ : Ty) → length (numbers τ) ≡ leaves τ
 unfolding leafKinds leaves
 numbers-length unit = refl
 numbers-length truth = refl
 numbers-length number = refl
-numbers-length (pair τ υ) = ap length (map-append (leafKinds τ) (leafKinds υ)) ∙ length-append (numbers τ) (numbers υ) ∙ ap₂ _+_ (numbers-length τ) (numbers-length υ)
+numbers-length (pair τ υ) = ap length (map-append leafNumber (leafKinds τ) (leafKinds υ)) ∙ length-append (numbers τ) (numbers υ) ∙ ap₂ _+_ (numbers-length τ) (numbers-length υ)
 
 shape-digits : (τ : Ty) → leaves τ ≤ maxLeaves → leafDigits maxDigits (asShape τ) ≡ numbers τ
 unfolding asShape
@@ -122,14 +105,14 @@ stored ys (suc n) (x ∷ xs) h =
     let m : n - length xs ≡ suc n - suc (length xs) = omega arith in
     ap₂ (λ l j. storedFrom l j xs) e k ∙ stored (ys ++ x ∷ []) n xs (omega arith) ∙ append-assoc ys (x ∷ []) (xs ++ replicate (n - length xs) 0) ∙ ap (λ j. ys ++ x ∷ (xs ++ replicate j 0)) m
 
-pub kinds-none : (c : ℕ) → leavesOf c ≡ 0 → replicate maxLeaves 0 ≡ kindsOf c
+pub kinds-none : (c : ℕ) → shapeLeaves c ≡ 0 → replicate maxLeaves 0 ≡ kindsOf c
 unfolding kindsOf kindsIn padded
 kinds-none c h = sym (ap kindsIn (read-none c h))
 
-pub kinds-room : (c : ℕ) → (leavesOf c ≡ 0 → ⊥) → length (leafDigits maxDigits c) ≤ maxLeaves
+pub kinds-room : (c : ℕ) → (shapeLeaves c ≡ 0 → ⊥) → length (leafDigits maxDigits c) ≤ maxLeaves
 kinds-room c h = let (τ, e, l, n, q) = read-some c h in omega (arith, ap length (ap (leafDigits maxDigits) e ∙ shape-digits τ l), numbers-length τ)
 
-pub kinds-yes : (c : ℕ) → (leavesOf c ≡ 0 → ⊥) → storedFrom (replicate maxLeaves 0) 0 (leafDigits maxDigits c) ≡ kindsOf c
+pub kinds-yes : (c : ℕ) → (shapeLeaves c ≡ 0 → ⊥) → storedFrom (replicate maxLeaves 0) 0 (leafDigits maxDigits c) ≡ kindsOf c
 unfolding kindsOf kindsIn padded
 kinds-yes c h =
     let (τ, e, l, n, q) = read-some c h in

@@ -2,17 +2,17 @@
 -- is read back as the type whose shape it is, and as no other. Rests on Shape and Digits.
 use mathlib.Core.Path.{_≡_, refl, ap, ap₂, subst, _∙_}
 use mathlib.Core.Bool.{Bool, true, false, cond}
-use mathlib.Core.Option.{Option, none, some}
-use Prim.Native.Nat.{ℕ, zero, suc, _+_, _-_, _*_, _/_, _%_, _<_, _≤_}
+use mathlib.Core.Option.{Option, none, some, bind}
+use Prim.Native.Nat.{ℕ, zero, suc, _+_, _*_, _/_, _%_, _<_, _≤_}
 use native.Mathlib.Nat.{mul-add, mul-assoc, mul-suc, mul-left-comm, mul-le-mul-left}
 use native.Mathlib.Omega.{arith}
 use lib.Dec.{eqb}
 use borrow.Author.Tests.{ne-eqb, eqb-true, eqb-false}
 use Rattle.tophat.specs.Syntax.{maxLeaves, Ty, unit, truth, number, pair, leaves}
-use Rattle.tophat.proofs.ComputeTyping.{bind, ask, typeTo}
+use Rattle.tophat.proofs.ComputeTyping.{ask, typeTo}
 use Rattle.shape.specs.Shape.{put, asShape, leafOf, front, asType}
 use Rattle.shape.specs.Digits.{width}
-use Rattle.ranges.proofs.Ranges.{Nothing, nothing, in-range}
+use Rattle.match_laws.proofs.Ranges.{in-range}
 
 pub by-test : {A : Type 0} (P : A → Type 0) (b : Bool) {x y : A} → (b ≡ true → P x) → (b ≡ false → P y) → P (cond b x y)
 by-test P true p q = p refl
@@ -140,26 +140,26 @@ front-put (pair τ υ) (suc d) c h =
 
 -- and what is read is what was put
 abbrev Back : Option (Ty × ℕ) → ℕ → Type 0
-Back none c = Nothing
+Back none c = Unit {0}
 Back (some x) c = c ≡ put (x .0) (x .1)
 
 pub leaf-back : (c k : ℕ) → 1 ≤ k → k < 4 → c ≡ c / 4 * 4 + k → c ≡ put (leafOf k) (c / 4)
 unfolding put leafOf
-leaf-back c k p q = in-range (λ k. c ≡ c / 4 * 4 + k → c ≡ put (leafOf k) (c / 4)) 1 3 (λ e. e, (λ e. e, (λ e. e, nothing))) p (omega arith)
+leaf-back c k p q = in-range (λ k. c ≡ c / 4 * 4 + k → c ≡ put (leafOf k) (c / 4)) 1 3 (λ e. e, (λ e. e, (λ e. e, tt))) p (omega arith)
 
 second-back : (c p : ℕ) (τ : Ty) (o : Option (Ty × ℕ)) (r : ℕ) → c ≡ p * 4 → p ≡ put τ r → Back o r → Back (bind o λ y. some (pair τ (y .0), y .1)) c
 unfolding bind put
-second-back c p τ none r e f h = nothing
+second-back c p τ none r e f h = tt
 second-back c p τ (some y) r e f h = e ∙ ap (λ x. x * 4) (f ∙ ap (put τ) h)
 
 first-back : (d c p : ℕ) (o : Option (Ty × ℕ)) → c ≡ p * 4 → Back o p → ((r : ℕ) → Back (front d r) r) → Back (bind o λ x. bind (front d (x .1)) λ y. some (pair (x .0) (y .0), y .1)) c
 unfolding bind
-first-back d c p none e h k = nothing
+first-back d c p none e h k = tt
 first-back d c p (some x) e h k = second-back c p (x .0) (front d (x .1)) (x .1) e h (k (x .1))
 
 front-back : (d c : ℕ) → Back (front d c) c
 unfolding front
-front-back zero c = nothing
+front-back zero c = tt
 front-back (suc d) c =
     by-test (λ o. Back o c) (eqb (c % 4) 0)
     (λ t. first-back d c (c / 4) (front d (c / 4)) (omega (arith, eqb-true (c % 4) 0 t)) (front-back d (c / 4)) (λ r. front-back d r))
@@ -191,19 +191,19 @@ as-type τ h = let e = front-put τ maxLeaves 0 h in rw e (fits τ h)
 
 -- a number that is read as a type is its shape
 abbrev IsShape : Option Ty → ℕ → Type 0
-IsShape none c = Nothing
+IsShape none c = Unit {0}
 IsShape (some τ) c = (c ≡ asShape τ) × (leaves τ ≤ maxLeaves)
 
 type-shape : (τ : Ty) (c : ℕ) (d : Dec (leaves τ ≤ maxLeaves)) → c ≡ asShape τ → IsShape (ask d (some τ)) c
 unfolding ask
 type-shape τ c (yes p) e = (e, p)
-type-shape τ c (no p) e = nothing
+type-shape τ c (no p) e = tt
 
 whole-shape : (c : ℕ) (o : Option (Ty × ℕ)) → Back o c → IsShape (bind o λ x. cond (eqb (x .1) 0) (typeTo (x .0)) none) c
 unfolding bind typeTo asShape
-whole-shape c none h = nothing
+whole-shape c none h = tt
 whole-shape c (some x) h =
-    by-test (λ o. IsShape o c) (eqb (x .1) 0) (λ t. type-shape (x .0) c _ (h ∙ ap (put (x .0)) (eqb-true (x .1) 0 t))) (λ f. nothing)
+    by-test (λ o. IsShape o c) (eqb (x .1) 0) (λ t. type-shape (x .0) c _ (h ∙ ap (put (x .0)) (eqb-true (x .1) 0 t))) (λ f. tt)
 
 is-shape : (c : ℕ) → IsShape (asType c) c
 unfolding asType

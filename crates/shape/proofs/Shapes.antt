@@ -1,21 +1,19 @@
 -- What the functions of this crate give at the shapes of types of at most maxLeaves leaves, and at 0, which is the shape
 -- of none. Rests on Puts and Counts.
 use mathlib.Core.Path.{_≡_, refl, sym, ap, ap₂}
-use mathlib.Core.Option.{Option, none, some}
+use mathlib.Core.Option.{Option, none, some, bind}
 use mathlib.Core.List.{map}
 use Prim.Native.Nat.{_≤_}
 use Rattle.tophat.specs.Syntax.{maxLeaves, Ty, pair, leaves}
-use Rattle.tophat.specs.Handling.{padded}
-use Rattle.tophat.specs.Showing.{leafKinds}
-use Rattle.tophat.proofs.ComputeTyping.{bind, typeTo, firstTo, secondTo}
-use Rattle.shape.specs.Shape.{asShape, maybeShape, asType, pairShape, firstShape, secondShape, leafNumber, kindsIn, kindsOf}
+use Rattle.tophat.specs.Leaves.{padded, leafKinds, leafNumber}
+use Rattle.tophat.proofs.ComputeTyping.{typeTo, firstTo, secondTo}
+use Rattle.shape.specs.Shape.{asShape, maybeShape, asType, pairShape, firstShape, secondShape, kindsIn, kindsOf}
 use Rattle.shape.proofs.Puts.{shape-pos, as-type}
 use Rattle.shape.proofs.Counts.{by-type}
-use Rattle.ranges.proofs.Ranges.{Nothing}
 
 -- a type of at most maxLeaves leaves, or none
 abbrev pub SmallO : Option Ty → Type 0
-SmallO none = Nothing
+SmallO none = Unit {0}
 SmallO (some τ) = leaves τ ≤ maxLeaves
 
 pub no-type : asType 0 ≡ none

@@ -1,21 +1,25 @@
 -- A type as one number, its shape: what code carries for a type (01: "Types are equal when their shapes are"). What the
 -- functions of this crate give is said by the types that the numbers are shapes of. Rests on the calculus.
 use mathlib.Core.Bool.{cond}
-use mathlib.Core.Option.{Option, none, some}
+use mathlib.Core.Option.{Option, none, some, bind}
 use mathlib.Core.List.{List, [], map}
 use Prim.Native.Nat.{ℕ, zero, suc, _+_, _*_, _/_, _%_}
 use lib.Dec.{eqb}
+use lib.ListN.{length}
 use Rattle.tophat.specs.Syntax.{maxLeaves, Ty, unit, truth, number, pair, leaves}
-use Rattle.tophat.specs.Handling.{padded}
-use Rattle.tophat.specs.Showing.{Leaf, noLeaf, unitLeaf, truthLeaf, numberLeaf, leafKinds}
-use Rattle.tophat.proofs.ComputeTyping.{bind, typeTo, firstTo, secondTo}
+use Rattle.tophat.specs.Leaves.{unitLeaf, truthLeaf, numberLeaf, leafNumber, leafTable, padded, leafKinds}
+use Rattle.tophat.proofs.ComputeTyping.{typeTo, firstTo, secondTo}
 
--- the nodes of a type in order, a digit of base 4 each, the first the lowest: pair 0, unit 1, truth 2, number 3; c stands after
+-- how many digits there are: as many as leaf kinds
+abbrev pub base : ℕ
+base = length leafTable
+
+-- the nodes of a type in order, a digit each, the first the lowest: a leaf's kind, and 0 for a pair; c stands after
 unfoldable pub put : Ty → ℕ → ℕ
-put unit c = c * 4 + 1
-put truth c = c * 4 + 2
-put number c = c * 4 + 3
-put (pair τ υ) c = put τ (put υ c) * 4
+put unit c = c * base + leafNumber unitLeaf
+put truth c = c * base + leafNumber truthLeaf
+put number c = c * base + leafNumber numberLeaf
+put (pair τ υ) c = put τ (put υ c) * base
 
 -- a type's shape, which is never 0
 unfoldable pub asShape : Ty → ℕ
@@ -29,13 +33,13 @@ maybeShape (some τ) = asShape τ
 -- ---- a number as a type
 
 unfoldable pub leafOf : ℕ → Ty
-leafOf digit = cond (eqb digit 1) unit (cond (eqb digit 2) truth number)
+leafOf digit = cond (eqb digit (leafNumber unitLeaf)) unit (cond (eqb digit (leafNumber truthLeaf)) truth number)
 
 -- the type that stands first in c, at most d nodes deep, and what stands after it
 unfoldable pub front : ℕ → ℕ → Option (Ty × ℕ)
 front zero c = none
 front (suc d) c =
-    cond (eqb (c % 4) 0) (bind (front d (c / 4)) λ x. bind (front d (x .1)) λ y. some (pair (x .0) (y .0), y .1)) (some (leafOf (c % 4), c / 4))
+    cond (eqb (c % base) 0) (bind (front d (c / base)) λ x. bind (front d (x .1)) λ y. some (pair (x .0) (y .0), y .1)) (some (leafOf (c % base), c / base))
 
 -- the type of at most maxLeaves leaves that has this shape
 unfoldable pub asType : ℕ → Option Ty
@@ -57,15 +61,8 @@ unfoldable pub leavesIn : Option Ty → ℕ
 leavesIn none = 0
 leavesIn (some τ) = leaves τ
 
-unfoldable pub leavesOf : ℕ → ℕ
-leavesOf c = leavesIn (asType c)
-
--- 01: leaf kinds "1, 2, 3; 0 unused"
-unfoldable pub leafNumber : Leaf → ℕ
-leafNumber noLeaf = 0
-leafNumber unitLeaf = 1
-leafNumber truthLeaf = 2
-leafNumber numberLeaf = 3
+unfoldable pub shapeLeaves : ℕ → ℕ
+shapeLeaves c = leavesIn (asType c)
 
 unfoldable pub kindsIn : Option Ty → List ℕ
 kindsIn none = padded 0 []

@@ -1,20 +1,23 @@
 // Types as numbers: pair, components, leaves and leaf kinds of a shape.
 
-use ranges;
+use match_laws;
 use tophat::MAX_LEAVES;
 ghost use mathlib.Core.Path.{_≡_};
 ghost use Prim.Native.Nat.{_+_, _*_, _/_, _^_, _<_, _≤_};
 ghost use lib.ListN.{length};
 ghost use Rattle.tophat.specs.Syntax.{maxLeaves};
-ghost use Rattle.shape.specs.Shape.{pairShape, firstShape, secondShape, leavesOf, kindsOf};
+ghost use Rattle.shape.specs.Shape.{base, pairShape, firstShape, secondShape, shapeLeaves, kindsOf};
 ghost use Rattle.shape.specs.Digits.{maxDigits, count, width, leafDigits, storedFrom};
 
-// the shapes of one leaf
-pub const UNIT: u32 = 1;
+// the shapes of one leaf are its kind
+pub use tophat::NUMBER;
+pub use tophat::TRUTH;
+pub use tophat::UNIT;
 
-pub const TRUTH: u32 = 2;
+// a type's number has a digit for each of its nodes: a leaf's kind, or 0 for a pair
+const BASE: u32 = 4;
 
-pub const NUMBER: u32 = 3;
+const TWO_DIGITS: u32 = BASE * BASE;
 
 const MAX_DIGITS: usize = 2 * MAX_LEAVES - 1;
 
@@ -29,26 +32,26 @@ fn count_leaves(c: u32, k: usize, d: usize) -> usize
     if d == 0 {
         return MAX_LEAVES + 1;
     }
-    if c % 4 == 0 {
-        return count_leaves(c / 4, k + 1, d - 1);
+    if c % BASE == 0 {
+        return count_leaves(c / BASE, k + 1, d - 1);
     }
-    1 + count_leaves(c / 4, k - 1, d - 1)
+    1 + count_leaves(c / BASE, k - 1, d - 1)
 }
 
-// 4 to the number of digits of a type of n leaves
+// BASE to the number of digits of a type of n leaves
 fn width_of(n: usize) -> u32
     requires { ⌜ n ≤ maxLeaves ⌝ }
-    ensures { λ r. ⌜ (r ≡ width n) × (4 ≤ r) ⌝ }
+    ensures { λ r. ⌜ (r ≡ width n) × (base ≤ r) ⌝ }
 {
     if n < 2 {
-        return 4;
+        return BASE;
     }
-    16 * width_of(n - 1)
+    TWO_DIGITS * width_of(n - 1)
 }
 
 // the leaves of a shape, 0 of any other number
 pub fn leaves_of(shape: u32) -> usize
-    ensures { λ r. ⌜ (r ≡ leavesOf shape) × (r ≤ maxLeaves) ⌝ }
+    ensures { λ r. ⌜ (r ≡ shapeLeaves shape) × (r ≤ maxLeaves) ⌝ }
 {
     let n = count_leaves(shape, 1, MAX_DIGITS);
     if MAX_LEAVES < n {
@@ -61,10 +64,10 @@ pub fn leaves_of(shape: u32) -> usize
 }
 
 fn joined(a: u32, w: u32, b: u32) -> u32
-    requires { ⌜ (a + w * b) * 4 < 2 ^ 32 ⌝ }
-    ensures { λ r. ⌜ r ≡ (a + w * b) * 4 ⌝ }
+    requires { ⌜ (a + w * b) * base < 2 ^ 32 ⌝ }
+    ensures { λ r. ⌜ r ≡ (a + w * b) * base ⌝ }
 {
-    (a + w * b) * 4
+    (a + w * b) * BASE
 }
 
 // the shape of the pair of two types; 0 past MAX_LEAVES, or where a or b is no shape
@@ -87,10 +90,10 @@ pub fn pair_shape(a: u32, b: u32) -> u32
 
 // the width of the first component of a pair
 fn first_width(c: u32) -> u32
-    requires { ⌜ 2 ≤ leavesOf c ⌝ }
-    ensures { λ r. ⌜ (r ≡ width (count maxDigits 1 (c / 4))) × (4 ≤ r) ⌝ }
+    requires { ⌜ 2 ≤ shapeLeaves c ⌝ }
+    ensures { λ r. ⌜ (r ≡ width (count maxDigits 1 (c / base))) × (base ≤ r) ⌝ }
 {
-    width_of(count_leaves(c / 4, 1, MAX_DIGITS))
+    width_of(count_leaves(c / BASE, 1, MAX_DIGITS))
 }
 
 // the shape of a pair's first component, 0 of any other number
@@ -101,7 +104,7 @@ pub fn first_shape(shape: u32) -> u32
         return 0;
     }
     let w = first_width(shape);
-    shape / 4 % w
+    shape / BASE % w
 }
 
 // the shape of a pair's second component, 0 of any other number
@@ -112,7 +115,7 @@ pub fn second_shape(shape: u32) -> u32
         return 0;
     }
     let w = first_width(shape);
-    shape / 4 / w
+    shape / BASE / w
 }
 
 fn store_leaves(kinds: [u32; MAX_LEAVES], i: usize, c: u32, d: usize) -> [u32; MAX_LEAVES]
@@ -122,12 +125,12 @@ fn store_leaves(kinds: [u32; MAX_LEAVES], i: usize, c: u32, d: usize) -> [u32; M
     if d == 0 {
         return kinds;
     }
-    if c % 4 == 0 {
-        return store_leaves(kinds, i, c / 4, d - 1);
+    if c % BASE == 0 {
+        return store_leaves(kinds, i, c / BASE, d - 1);
     }
     let mut more = kinds;
-    more[i] = c % 4;
-    store_leaves(more, i + 1, c / 4, d - 1)
+    more[i] = c % BASE;
+    store_leaves(more, i + 1, c / BASE, d - 1)
 }
 
 // the leaf kinds of a shape, in order, then 0; all 0 of any other number

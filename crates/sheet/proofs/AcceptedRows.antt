@@ -1,132 +1,148 @@
--- THE THEOREM of ground 20: rows memory of words passes its test exactly when some accepted sheet loads to it. Rests on
--- WrittenSheet, RowsBits, LoadLaws and the rows that get 0.
+-- THE THEOREM of ground 20: rows memory of words passes its test exactly when some accepted sheet loads to it. Rests on WrittenSheet,
+-- LoadLaws and the rows that get 0.
 use mathlib.Core.Path.{_≡_, refl, sym, ap, subst, _∙_}
-use mathlib.Core.Bool.{true, false, not, _&&_}
+use mathlib.Core.Bool.{Bool, true, false, not, _&&_, cond}
+use mathlib.Core.Option.{Option, none, some}
 use mathlib.Core.List.{List, map}
-use mathlib.Core.Logic.{_↔_, ⊎-elim}
-use Prim.Native.Nat.{ℕ, zero, suc, _*_, _%_, _<_, _≤_}
+use mathlib.Core.Logic.{⊎-elim}
+use Prim.Native.Nat.{ℕ, zero, suc, _+_, _*_, _/_, _%_, _<_, _≤_}
 use native.Mathlib.Omega.{arith}
 use borrow.Author.Tests.{le-leb, leb-true, eq-eqb, ne-eqb, eqb-true, eqb-false, not-true}
 use lib.Dec.{leb, eqb}
-use lib.IntN.{ℤ}
-use lib.ListN.{length, length-map}
+use lib.IntN.{ℤ, pos}
+use lib.ListN.{length, getD, length-map, List·getD-append}
 use mir.Syntax.{w32}
-use mir.Val.{toZ, ofZ}
-use Rattle.ranges.proofs.Ranges.{and-left, and-right}
+use mir.Val.{ofZ}
+use Rattle.match_laws.proofs.Ranges.{and-left, and-right}
 use Rattle.word.specs.Word.{AllWords}
-use Rattle.word.proofs.Lists.{AllBits, bits-bits, bits-numbers, numbers-bits}
-use Rattle.rows.specs.Kinds.{shapeOf}
+use Rattle.word.proofs.TwosComplement.{number-bits, number-low}
+use Rattle.word.proofs.Lists.{bits-at}
+use Rattle.decimal.specs.Field.{rowColumns}
+use Rattle.formats.specs.Lines.{lineBytes, linesSay}
+use Rattle.formats.proofs.Items.{Fits, number-fits}
+use Rattle.rows.specs.Kinds.{kindLimit}
+use Rattle.rows.specs.GroundNumbers.{notSized, notRead, wrongMemory}
 use Rattle.rows.specs.Rows.{maxRows, rowWords, word, opA, opB, opC, listed, truthCell, rowListed}
+use Rattle.rows.specs.Lent.{ownRows, rowCount}
 use Rattle.rows.specs.Ground.{groundOfRows, passes3}
 use Rattle.rows.proofs.Basics.{no, le-or-lt, every-at}
-use Rattle.rows.proofs.KindGaps.{kind-past}
+use Rattle.rows.proofs.KindNumbers.{no-asks, kind-past}
 use Rattle.rows.proofs.GroundZero.{zero-flow}
 use Rattle.grounds.specs.Accepted.{acceptedRows}
-use Rattle.sheet.specs.Sheet.{lines, sized, linesRead, rowsOf, groundOf}
-use Rattle.sheet.specs.Load.{loadGround, rowsAfter, loaded}
-use Rattle.sheet.specs.Accepted.{Loads, rowCount, acceptsRows}
-use Rattle.sheet.proofs.ScanLaws.{rows-length}
-use Rattle.sheet.proofs.LoadLaws.{is-sized, by-text}
-use Rattle.sheet.proofs.TextGround.{pick}
-use Rattle.sheet.proofs.RowsBits.{rows-bits}
-use Rattle.sheet.proofs.WrittenSheet.{sheetText, sheet-reads, rows-back, lines-back, sheet-sized}
+use Rattle.sheet.specs.Sheet.{lines, sized, leaving, loadedLines, loaded}
+use Rattle.sheet.specs.Accepted.{acceptsRows}
+use Rattle.sheet.proofs.LinesWords.{lines-long, lines-words}
+use Rattle.sheet.proofs.LoadLaws.{is-sized, of-sized, by-lines}
+use Rattle.sheet.proofs.WrittenSheet.{sheetText, sheet-length, sheet-says}
 
 -- ---- a listed kind fits its columns
 
-unlisted : (rs : List ℕ) (i : ℕ) → 49 ≤ word rs i 0 → rowListed rs i ≡ true → ⊥
+unlisted : (rs : List ℕ) (i : ℕ) → kindLimit ≤ word rs i 0 → rowListed rs i ≡ true → ⊥
 unfolding rowListed listed
 unlisted rs i h g =
-    let e : (false && truthCell rs i) ≡ true =
-    subst (λ k. (listed (shapeOf k) (opA rs i) (opB rs i) (opC rs i) && truthCell rs i) ≡ true) (kind-past (word rs i 0) h) g in
+    let e = subst (λ s. (listed s (opA rs i) (opB rs i) (opC rs i) && truthCell rs i) ≡ true) (no-asks (word rs i 0) (kind-past (word rs i 0) h)) g in
     no (and-left false (truthCell rs i) e)
 
-kind-low : (rs : List ℕ) (i : ℕ) → rowListed rs i ≡ true → word rs i 0 < 49
-kind-low rs i h = ⊎-elim (λ (l : 49 ≤ word rs i 0). absurd (unlisted rs i l h)) (λ l. l) (le-or-lt 49 (word rs i 0))
+kind-low : (rs : List ℕ) (i : ℕ) → rowListed rs i ≡ true → word rs i 0 < kindLimit
+kind-low rs i h = ⊎-elim (λ (l : kindLimit ≤ word rs i 0). absurd (unlisted rs i l h)) (λ l. l) (le-or-lt kindLimit (word rs i 0))
 
-pub kinds-low : (rs : List ℕ) (n : ℕ) → 1 ≤ n → groundOfRows rs n ≡ 0 → (i : ℕ) → i < n → word rs i 0 < 10000
+kinds-low : (rs : List ℕ) (n : ℕ) → 1 ≤ n → groundOfRows rs n ≡ 0 → (i : ℕ) → i < n → word rs i 0 < 10000
 unfolding passes3
-kinds-low rs n l h i g = let k = kind-low rs i (every-at n (λ i. rowListed rs i) (zero-flow rs n l h .0 .three) i g) in omega (arith, k)
+kinds-low rs n l h i g = let k = kind-low rs i (every-at n (λ i. rowListed rs i) (zero-flow rs n l h .0 .listed) i g) in omega (arith, k)
 
--- ---- rows that get 0 are said by an accepted text
+-- ---- the test
 
-pub record Accepts (s rs : List ℕ) (n : ℕ) : Type 0 where
-  pub size : sized (length s) ≡ true
-  pub count : lines s ≡ n
-  pub rows : rowsOf s (lines s) ≡ rs
-  pub ground : groundOf s ≡ 0
-
-pub written-accepted : (rs : List ℕ) (n : ℕ) → 1 ≤ n → n ≤ maxRows → AllBits rs → length rs ≡ n * rowWords → groundOfRows rs n ≡ 0 → Accepts (sheetText rs n) rs n
-unfolding groundOf
-written-accepted rs n some few bits l h =
-    let k = kinds-low rs n some h in
-    let s = sheetText rs n in
-    let z : sized (length s) ≡ true = sheet-sized rs n few bits k some in
-    let e : lines s ≡ n = lines-back rs n few bits k in
-    let r : rowsOf s (lines s) ≡ rs = ap (rowsOf s) e ∙ rows-back rs n few bits k l in
-    let t : linesRead s (lines s) ≡ true = ap (linesRead s) e ∙ sheet-reads rs n few bits k in
-    record { size = z; count = e; rows = r; ground = rw (z, t) ((λ j. groundOfRows (r j) (e j)) ∙ h) }
-
--- ---- the theorem
+-- 1 to 256 whole rows that get no ground
+pub record Passed (rows : List ℤ) : Type 0 where
+  pub some-rows : 1 ≤ rowCount rows
+  pub few : rowCount rows ≤ maxRows
+  pub whole : length rows ≡ rowCount rows * rowWords
+  pub ground : groundOfRows (ownRows rows) (rowCount rows) ≡ 0
 
 positive : (n : ℕ) → (n ≡ 0 → ⊥) → 1 ≤ n
 positive zero h = absurd (h refl)
 positive (suc n) h = omega arith
 
--- what a text that gets 0 leaves
-record Read (s : List ℕ) (m : ℕ) : Type 0 where
-  size : sized (length s) ≡ true
-  room : m ≡ lines s * rowWords
-  ground : groundOfRows (rowsOf s (lines s)) (lines s) ≡ 0
-
-read-of : (s : List ℕ) (m : ℕ) → loadGround s m ≡ 0 → Read s m
-unfolding loadGround groundOf
-read-of s m h =
-    pick (sized (length s)) _ 1 h (λ z. omega arith) (λ a h₁.
-    pick (eqb m (lines s * rowWords)) _ 21 h₁ (λ z. omega arith) (λ b h₂.
-    pick (sized (length s)) _ 1 h₂ (λ z. omega arith) (λ c h₃.
-    pick (linesRead s (lines s)) _ 2 h₃ (λ z. omega arith) (λ d g.
-    record { size = a; room = eqb-true m (lines s * rowWords) b; ground = g }))))
-
 module _ (rows : List ℤ) where
-  loads-accepts : Loads rows → acceptsRows rows ≡ true
-  unfolding loaded acceptsRows acceptedRows
-  loads-accepts l =
-      let s = l .sheet in let n = lines s in
-      let r = read-of s (length (l .memory)) (l .answer) in
-      let z = is-sized (length s) (r .size) in
-      let e : rows ≡ map (toZ w32) (rowsOf s n) = sym (l .left) ∙ ap (λ k. rowsAfter k s (l .memory)) (l .answer) in
-      let m : length rows ≡ n * rowWords = ap length e ∙ length-map (rowsOf s n) (toZ w32) ∙ rows-length s n in
-      let c : rowCount rows ≡ n = omega (arith, m) in
-      let b : map (ofZ w32) rows ≡ rowsOf s n = ap (map (ofZ w32)) e ∙ bits-numbers (rowsOf s n) (rows-bits s n) in
-      let g : groundOfRows (map (ofZ w32) rows) (rowCount rows) ≡ 0 = (λ j. groundOfRows (b j) (c j)) ∙ r .ground in
-      let u : length rows % rowWords ≡ 0 = omega (arith, m) in
-      rw (
-        ne-eqb (length rows) 0 (λ o. omega (arith, o, m, z .some)),
-        le-leb (length rows) (maxRows * rowWords) (omega (arith, m, z .few)),
-        eq-eqb (length rows % rowWords) 0 u,
-        eq-eqb (groundOfRows (map (ofZ w32) rows) (rowCount rows)) 0 g,
-      )
-
-  accepts-loads : AllWords rows → acceptsRows rows ≡ true → Loads rows
-  unfolding loaded acceptsRows acceptedRows
-  accepts-loads w h =
-      let rs = map (ofZ w32) rows in let n = rowCount rows in
+  pub passed-of : acceptsRows rows ≡ true → Passed rows
+  unfolding acceptsRows acceptedRows
+  passed-of h =
+      let rs = ownRows rows in let n = rowCount rows in
       let a = eqb (length rows) 0 in let b = leb (length rows) (maxRows * rowWords) in let c = eqb (length rows % rowWords) 0 in let d = eqb (groundOfRows rs n) 0 in
       let v = and-right (not a) (b && (c && d)) h in
       let x = and-right b (c && d) v in
-      let some = eqb-false (length rows) 0 (not-true a (and-left (not a) (b && (c && d)) h)) in
-      let few : length rows ≤ maxRows * rowWords = leb-true (length rows) (maxRows * rowWords) (and-left b (c && d) v) in
+      let o = eqb-false (length rows) 0 (not-true a (and-left (not a) (b && (c && d)) h)) in
+      let f = leb-true (length rows) (maxRows * rowWords) (and-left b (c && d) v) in
       let u : length rows % rowWords ≡ 0 = eqb-true (length rows % rowWords) 0 (and-left c d x) in
       let e : length rows ≡ n * rowWords = omega (arith, u) in
-      let o : 1 ≤ n = positive n (λ z. some (e ∙ ap (λ k. k * rowWords) z)) in
-      let t = written-accepted rs n o (omega arith) (bits-bits rows w) (length-map rows (ofZ w32) ∙ e) (eqb-true (groundOfRows rs n) 0 (and-right c d x)) in
-      let g : loadGround (sheetText rs n) (length rows) ≡ 0 = by-text (sheetText rs n) rows (t .size) (e ∙ ap (λ k. k * rowWords) (sym (t .count))) ∙ t .ground in
-      record {
-        sheet = sheetText rs n;
-        memory = rows;
-        answer = g;
-        left = ap (λ k. rowsAfter k (sheetText rs n) rows) g ∙ ap (map (toZ w32)) (t .rows) ∙ numbers-bits rows w;
-      }
+      record { some-rows = positive n (λ z. o (e ∙ ap (λ k. k * rowWords) z)); few = omega (arith, f); whole = e; ground = eqb-true (groundOfRows rs n) 0 (and-right c d x) }
 
-  pub accepted-exactly : AllWords rows → Loads rows ↔ (acceptsRows rows ≡ true)
-  accepted-exactly w = (loads-accepts, accepts-loads w)
+  pub of-passed : Passed rows → acceptsRows rows ≡ true
+  unfolding acceptsRows acceptedRows
+  of-passed p =
+      let o = p .some-rows in let f = p .few in let e = p .whole in
+      let u : length rows % rowWords ≡ 0 = omega (arith, e) in
+      rw (
+        ne-eqb (length rows) 0 (λ z. omega (arith, o, e, z)),
+        le-leb (length rows) (maxRows * rowWords) (omega (arith, f, e)),
+        eq-eqb (length rows % rowWords) 0 u,
+        eq-eqb (groundOfRows (ownRows rows) (rowCount rows)) 0 (p .ground),
+      )
+
+-- ---- rows that pass are said by a text
+
+module _ (rows : List ℤ) (w : AllWords rows) (p : Passed rows) where
+  abbrev n : ℕ
+  n = rowCount rows
+
+  kind-fits : (i : ℕ) → i < n → Fits (rowColumns, getD rows (i * rowWords + 0) (pos 0))
+  kind-fits i l =
+      let z = getD rows (i * rowWords + 0) (pos 0) in
+      let e = p .whole in
+      let m = length-map rows (ofZ w32) in
+      let b : word (ownRows rows) i 0 ≡ ofZ w32 z = List·getD-append (map (ofZ w32) rows) _ 0 (i * rowWords + 0) (omega (arith, m, e, l)) ∙ bits-at rows (i * rowWords + 0) in
+      let k = kinds-low (ownRows rows) n (p .some-rows) (p .ground) i l in
+      let q : pos (ofZ w32 z) ≡ z = sym (number-low (ofZ w32 z) (omega (arith, b, k))) ∙ number-bits z (w (i * rowWords + 0)) in
+      subst (λ z. Fits (rowColumns, z)) q (number-fits rowColumns (ofZ w32 z) (omega arith) (omega (arith, b, k)) (omega (arith, b, k)))
+
+  pub passed-loads : (s : List ℕ) × (loaded s rows ≡ (0, rows))
+  unfolding loadedLines leaving
+  passed-loads =
+      let s = sheetText rows n in
+      let f = p .few in
+      let l = sheet-length rows n f w kind-fits n (omega arith) in
+      let c : lines s ≡ n = ap (λ k. k / lineBytes) l ∙ omega arith in
+      let z = of-sized (length s) n l (p .some-rows) f in
+      let e = sheet-says rows n f w kind-fits (p .whole) in
+      (s, by-lines s rows z (p .whole ∙ ap (λ k. k * rowWords) (sym c)) ∙ (λ j. loadedLines (linesSay s (c j)) (c j) rows) ∙ ap (λ o. loadedLines o n rows) e ∙ ap (λ g. leaving g rows rows) (p .ground))
+
+-- ---- what load leaves with 0 passes
+
+module _ (s : List ℕ) (memory rows : List ℤ) where
+  chosen : {A : Type 0} (b : Bool) (x : ℕ × List ℤ) (g : ℕ) → cond b x (g, memory) ≡ (0, rows) → (g ≡ 0 → ⊥) → (b ≡ true → x ≡ (0, rows) → A) → A
+  chosen true x g h z f = f refl h
+  chosen false x g h z f = absurd (z (ap (λ x. x .0) h))
+
+  by-ground : (g : ℕ) (ws : List ℤ) → leaving g ws memory ≡ (0, rows) → (g ≡ 0) × (ws ≡ rows)
+  unfolding leaving
+  by-ground zero ws h = (refl, ap (λ x. x .1) h)
+  by-ground (suc g) ws h = let z = ap (λ x. x .0) h in absurd (omega (arith, z))
+
+  by-said : (n : ℕ) (o : Option (List ℤ)) → linesSay s n ≡ o → 1 ≤ n → n ≤ maxRows → loadedLines o n memory ≡ (0, rows) → Passed rows × AllWords rows
+  unfolding loadedLines
+  by-said n none e a b h = let z = ap (λ x. x .0) h in absurd (omega (arith, z))
+  by-said n (some ws) e a b h =
+      let (g, q) = by-ground (groundOfRows (ownRows ws) n) ws h in
+      let l : length rows ≡ n * rowWords = ap length (sym q) ∙ lines-long s n e in
+      let c : rowCount rows ≡ n = omega (arith, l) in (
+        record { some-rows = omega (arith, c); few = omega (arith, c); whole = omega (arith, c, l); ground = (λ j. groundOfRows (ownRows (sym q j)) (c j)) ∙ g },
+        subst AllWords q (lines-words s n e),
+      )
+
+  pub loaded-passes : loaded s memory ≡ (0, rows) → Passed rows × AllWords rows
+  unfolding loaded
+  loaded-passes h =
+      chosen (sized (length s)) _ 1 h (λ z. omega (arith, z)) (λ a g.
+      chosen (eqb (length memory) (lines s * rowWords)) _ 21 g (λ z. omega (arith, z)) (λ b k.
+      let z = is-sized (length s) a in
+      by-said (lines s) (linesSay s (lines s)) refl (z .some-lines) (z .few) k))

@@ -3,30 +3,41 @@
 use mathlib.Core.Path.{_≡_, refl}
 use mathlib.Core.Bool.{Bool, true, _&&_}
 use mathlib.Core.List.{List, [], _∷_, _++_}
-use Prim.Native.Nat.{ℕ, _+_, _*_}
+use Prim.Native.Nat.{ℕ, _*_}
 use native.Mathlib.Decide.{decLe}
 use lib.Dec.{eqb}
 use lib.IntN.{ℤ, pos, negsuc}
 use lib.ListN.{replicate}
 use Rattle.tophat.specs.Syntax.{leaves}
-use Rattle.tophat.proofs.ComputeTyping.{bind, ask, nth, takes, gives, numberTo, opTo, sameTo, ifTo, typeTo, firstTo, secondTo, assignTo, infer, inferTask}
-use Rattle.decimal.specs.Field.{digits, text, trimmed, counted, numeral, readsAt}
-use Rattle.rows.specs.Kinds.{kindOf}
-use Rattle.rows.specs.Rows.{every, listedAs, listed, truthCell, rowListed, sortBy, sorts, sortNumber, sortedAs, sorted, rowSorted, names, namesBy, namesIn, namings, namedOnce, lastFits}
+use Rattle.tophat.proofs.ComputeTyping.{ask, nth, takes, gives, numberTo, opTo, sameTo, ifTo, typeTo, firstTo, secondTo, assignTo, infer, inferTask}
+use mathlib.Core.Option.{bind}
+use Rattle.decimal.specs.Field.{newline, digits, text, justified, trimmed, counted, numeral, readsAt}
+use Rattle.formats.specs.Records.{numberSaid, numbersAt, textOf, itemsText, itemsIn}
+use Rattle.formats.specs.Lines.{lineColumns, afterRow, lineSays, linesSay}
+use Rattle.rows.specs.Kinds.{kindOf, asksOf}
+use Rattle.rows.specs.Rows.{rowWords, every, listedAs, listed, truthCell, rowListed, sortBy, sorts, sortNumber, sortedAs, sorted, rowSorted, names, namesBy, namesIn, namings, namedOnce, lastFits}
 use Rattle.rows.specs.Enclosing.{bindersBy, marksBy, mostBinders, mostMarks, counts, leavesBy, rowSmall}
 use Rattle.rows.specs.Trees.{operatorOf}
 use Rattle.rows.specs.ComputeTrees.{typeAt, expAt, codeAt, cellType, cellTypes}
 use Rattle.rows.specs.Ground.{flowType, isSome, passes3, passes4, passes5, passes6, passes7, groundOfRows}
-use Rattle.sheet.specs.Sheet.{part, linesRead, rowsOf, sized, groundOf}
-use Rattle.sheet.specs.Load.{loadGround, loaded}
-use Rattle.sheet.proofs.Fits.{fieldText}
+use Rattle.sheet.specs.Sheet.{lines, sized, leaving, loadedLines, loaded}
+
+-- the number and the rows memory that a text and a rows memory come to, with all that is unfolded on the way
+unfoldable load : List ℕ → List ℤ → ℕ × List ℤ
+unfolding
+    bind ask nth takes gives numberTo opTo sameTo ifTo typeTo firstTo secondTo assignTo infer inferTask leaves decLe digits text justified trimmed
+    counted numeral readsAt numberSaid numbersAt textOf itemsText afterRow lineSays linesSay kindOf asksOf every listedAs listed truthCell rowListed sortBy
+    sorts sortNumber sortedAs sorted rowSorted names namesBy namesIn namings namedOnce lastFits bindersBy marksBy mostBinders mostMarks counts
+    leavesBy rowSmall operatorOf typeAt expAt codeAt cellType cellTypes flowType isSome passes3 passes4 passes5 passes6 passes7 groundOfRows sized
+    leaving loadedLines loaded
+load s rows = loaded s rows
 
 -- a line of row number, kind, A, B and C, ended by a byte
 abbrev ended : ℕ → ℤ → ℤ → ℤ → ℤ → ℤ → List ℕ
-ended e r k a b c = fieldText 4 r ++ (fieldText 4 k ++ (fieldText 12 a ++ (fieldText 12 b ++ (fieldText 12 c ++ e ∷ []))))
+ended e r k a b c = itemsText (itemsIn lineColumns (r ∷ k ∷ a ∷ b ∷ c ∷ [])) ++ e ∷ []
 
 abbrev line : ℕ → ℕ → ℕ → ℕ → ℕ → List ℕ
-line r k a b c = ended 10 (pos r) (pos k) (pos a) (pos b) (pos c)
+line r k a b c = ended newline (pos r) (pos k) (pos a) (pos b) (pos c)
 
 -- 01, "A session in full"
 abbrev session : List ℕ
@@ -59,25 +70,26 @@ cases =
     (2, ended 10 (pos 0) (negsuc 0) (pos 1) (pos 0) (pos 0) ++ ended 32 (pos 1) (pos 40) (pos 0) (pos 0) (pos 0)) ∷  -- 2 over all lines before 3
     []
 
+-- rows memory of n words
+abbrev sevens : ℕ → List ℤ
+sevens n = replicate n (pos 7)
+
 abbrev agree : List (ℕ × List ℕ) → Bool
 agree [] = true
-agree (c ∷ cs) = eqb (groundOf (c .1)) (c .0) && agree cs
+agree (c ∷ cs) = eqb (load (c .1) (sevens (lines (c .1) * rowWords)) .0) (c .0) && agree cs
 
 all-agree : agree cases ≡ true
-unfolding bind ask nth takes gives numberTo opTo sameTo ifTo typeTo firstTo secondTo assignTo infer inferTask leaves decLe digits text trimmed counted numeral readsAt kindOf every listedAs listed truthCell rowListed sortBy sorts sortNumber sortedAs sorted rowSorted names namesBy namesIn namings namedOnce lastFits bindersBy marksBy mostBinders mostMarks counts leavesBy rowSmall operatorOf typeAt expAt codeAt cellType cellTypes flowType isSome passes3 passes4 passes5 passes6 passes7 groundOfRows part linesRead rowsOf sized groundOf
+unfolding load
 all-agree = refl
 
 -- what load answers and leaves: 1 before 21 before 2, and words only where it accepts
 abbrev minus5 : List ℕ
 minus5 = ended 10 (pos 0) (pos 22) (negsuc 4) (pos 0) (pos 0) ++ task
 
-abbrev sevens : ℕ → List ℤ
-sevens n = replicate n (pos 7)
-
-all-loaded : (loaded [] (sevens 1) ≡ (1, sevens 1))
-    × (loaded (replicate 45 32) (sevens 3) ≡ (21, sevens 3))
-    × (loaded (replicate 45 32) (sevens 4) ≡ (2, sevens 4))
-    × (loaded minus5 (sevens 9) ≡ (21, sevens 9))
-    × (loaded minus5 (sevens 8) ≡ (0, pos 22 ∷ negsuc 4 ∷ pos 0 ∷ pos 0 ∷ pos 40 ∷ pos 0 ∷ pos 0 ∷ pos 0 ∷ []))
-unfolding bind ask nth takes gives numberTo opTo sameTo ifTo typeTo firstTo secondTo assignTo infer inferTask leaves decLe digits text trimmed counted numeral readsAt kindOf every listedAs listed truthCell rowListed sortBy sorts sortNumber sortedAs sorted rowSorted names namesBy namesIn namings namedOnce lastFits bindersBy marksBy mostBinders mostMarks counts leavesBy rowSmall operatorOf typeAt expAt codeAt cellType cellTypes flowType isSome passes3 passes4 passes5 passes6 passes7 groundOfRows part linesRead rowsOf sized groundOf loadGround loaded
+all-loaded : (load [] (sevens 1) ≡ (1, sevens 1))
+    × (load (replicate 45 32) (sevens 3) ≡ (21, sevens 3))
+    × (load (replicate 45 32) (sevens 4) ≡ (2, sevens 4))
+    × (load minus5 (sevens 9) ≡ (21, sevens 9))
+    × (load minus5 (sevens 8) ≡ (0, pos 22 ∷ negsuc 4 ∷ pos 0 ∷ pos 0 ∷ pos 40 ∷ pos 0 ∷ pos 0 ∷ pos 0 ∷ []))
+unfolding load
 all-loaded = (refl, refl, refl, refl, refl)

@@ -1,11 +1,10 @@
-pub mod Over
-pub mod PartLaws
+-- What lines say: words (LinesWords), how they are scanned (ScanLaws) and loaded (LoadLaws).
+pub mod LinesWords
 pub mod ScanLaws
 pub mod LoadLaws
-pub mod Fits
+-- Ground 20: rows written as a sheet (WrittenSheet), the theorem (AcceptedRows) and the test in code (AcceptedLaws).
 pub mod WrittenSheet
-pub mod RowsBits
-pub mod TextGround
 pub mod AcceptedRows
 pub mod AcceptedLaws
+-- Texts and their grounds, computed.
 mod Cases

@@ -1,4 +1,3 @@
 pub mod Sheet
-pub mod Load
-pub mod Scan
 pub mod Accepted
+pub mod Scan

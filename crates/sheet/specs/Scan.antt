@@ -1,23 +1,29 @@
--- What the scan of lines has kept in its own words, step by step: for the contracts of the code's own functions only.
-use Prim.Native.Nat.{ℕ, _+_, _*_, _-_}
-use mathlib.Core.Bool.{cond}
-use mathlib.Core.List.{List, _++_}
-use lib.Dec.{ltb, eqb}
-use lib.ListN.{length, drop, set}
-use Rattle.decimal.specs.declared.field.Reading.{Reading}
-use Rattle.decimal.specs.declared.field.Reading.the-variants.{Number, Unreadable}
+-- What the scan of a sheet's lines answers and keeps: for the contracts of the code's own functions only. Rests on formats' lines.
+use mathlib.Core.Path.{_≡_}
+use mathlib.Core.Bool.{Bool, true, false}
+use mathlib.Core.Option.{Option, none, some}
+use mathlib.Core.List.{List, map}
+use Prim.Native.Nat.{ℕ, _*_}
+use lib.IntN.{ℤ, pos}
+use lib.Seq.{sets}
+use mir.Syntax.{w32}
+use mir.Val.{ofZ}
+use Rattle.word.specs.Word.{eqZ}
+use Rattle.decimal.specs.Field.{Field, number, unreadable}
 use Rattle.rows.specs.Rows.{rowWords}
-use Rattle.sheet.specs.Sheet.{lineFields}
+use Rattle.rows.specs.Lent.{ownRows}
 
--- the reading, where it is the row number i
-abbrev pub onlyRow : ℕ → Reading → Reading
-onlyRow i (Number w) = cond (eqb w i) (Number w) Unreadable
-onlyRow i Unreadable = Unreadable
+-- whether a field says the number i
+abbrev pub saysRow : Field → ℕ → Bool
+saysRow (number z) i = eqZ z (pos i)
+saysRow unreadable i = false
 
--- part f of line i kept: kind, A, B and C go to their words, the row number and byte 10 nowhere
-unfoldable pub kept : List ℕ → ℕ → ℕ → ℕ → List ℕ
-kept own i f w = cond (eqb f 0) own (cond (ltb f lineFields) (set own (i * rowWords + (f - 1)) w) own)
+-- line i: whether it can be read; then its words stand in row i
+abbrev pub LineRead : Option (List ℤ) → List ℕ → ℕ → List ℕ → Bool → Type 0
+LineRead none own i own₁ r = r ≡ false
+LineRead (some zs) own i own₁ r = (r ≡ true) × (own₁ ≡ sets own (i * rowWords) (map (ofZ w32) zs))
 
--- words laid over the front of others
-unfoldable pub over : List ℕ → List ℕ → List ℕ
-over ws own = ws ++ drop (length ws) own
+-- all lines: whether each can be read; then the words are theirs, with zeros after them
+abbrev pub LinesRead : Option (List ℤ) → List ℕ → Bool → Type 0
+LinesRead none own r = r ≡ false
+LinesRead (some ws) own r = (r ≡ true) × (own ≡ ownRows ws)

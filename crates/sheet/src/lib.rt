@@ -1,32 +1,29 @@
-// Sheets: lines of text read into rows, and the call `load` (01, "The sheet", "Four calls"). What a text says and which ground
-// it gets stands in specs/Sheet.antt, what `load` answers and leaves in specs/Load.antt.
+// Sheets: lines of text read into rows, and the call `load` (01, "The sheet", "Four calls"). What it answers and leaves stands in
+// specs/Sheet.antt.
 ghost use mathlib.Core.Path.{_≡_};
-ghost use Prim.Native.Nat.{_*_, _≤_};
+ghost use Prim.Native.Nat.{_≤_};
 ghost use lib.ListN.{replicate};
 ghost use mir.Syntax.{w32};
 ghost use mir.Val.{ofZ};
 ghost use Rattle.word.specs.Word.{AllWords};
 ghost use Rattle.word.specs.Laid.{laid};
-ghost use Rattle.rows.specs.Rows.{maxRows, rowWords};
-ghost use Rattle.sheet.specs.Sheet.{sized};
-ghost use Rattle.sheet.specs.Load.{loaded};
-ghost use Rattle.sheet.specs.Accepted.{acceptedCount, padded};
-use decimal::field::ROW_COLUMNS;
-use decimal::field::WORD_COLUMNS;
+ghost use Rattle.rows.specs.Lent.{rowsSize, ownRows};
+ghost use Rattle.sheet.specs.Sheet.{sized, loaded};
+ghost use Rattle.sheet.specs.Accepted.{acceptedCount};
+use formats::LINE_BYTES;
 use grounds;
-use ranges;
+use match_laws;
+use rows::MAX_ROWS;
+use rows::ROW_WORDS;
+use rows::ROWS_WORDS;
+use rows::grounds::NOT_READ;
+use rows::grounds::NOT_SIZED;
+use rows::grounds::WRONG_MEMORY;
 use tophat;
 use typing;
 use word;
 
 mod scan; // ground 2: the lines and fields of a text
-
-use rows::MAX_ROWS;
-use rows::ROW_WORDS;
-use rows::ROWS_WORDS;
-
-// A line: row number, kind, three operands, byte 10.
-pub const LINE_BYTES: usize = 2 * ROW_COLUMNS + 3 * WORD_COLUMNS + 1;
 
 // Whether a text of `len` bytes is 1 to 256 whole lines.
 fn is_sized(len: usize) -> bool
@@ -48,15 +45,15 @@ pub fn load(sheet: &[u8], rows: &mut [i32]) -> u32
     ensures { λ _. ⌜ now (rows .exit) ≡ loaded (now (sheet .entry)) (now (rows .entry)) .1 ⌝ }
 {
     if !is_sized(sheet.len()) {
-        return 1;
+        return NOT_SIZED;
     }
     let n = sheet.len() / LINE_BYTES;
     if rows.len() != n * ROW_WORDS {
-        return 21;
+        return WRONG_MEMORY;
     }
     let mut own = [0u32; ROWS_WORDS];
     if !scan::read_lines(sheet, n, &mut own) {
-        return 2;
+        return NOT_READ;
     }
     let ground = grounds::ground_of_rows(&own, n);
     if ground != 0 {
@@ -69,9 +66,9 @@ pub fn load(sheet: &[u8], rows: &mut [i32]) -> u32
 // How many rows of an accepted flow `rows` holds, with their bits in `own`, which is lent with zeros. Where no accepted sheet
 // loads to them (01, ground 20) the answer is 0.
 pub fn accepted_rows(rows: &[i32], own: &mut [u32; ROWS_WORDS]) -> usize
-    requires { ⌜ now own ≡ replicate (maxRows * rowWords) 0 ⌝ }
+    requires { ⌜ now own ≡ replicate rowsSize 0 ⌝ }
     ensures { λ r. ⌜ r ≡ acceptedCount (now (rows .entry)) ⌝ }
-    ensures { λ r. ⌜ (1 ≤ r → now (own .exit) ≡ padded (now (rows .entry))) ⌝ }
+    ensures { λ r. ⌜ (1 ≤ r → now (own .exit) ≡ ownRows (now (rows .entry))) ⌝ }
     ensures { λ r. ⌜ (1 ≤ r → AllWords (now (rows .entry))) ⌝ }
     ensures { λ _. ⌜ now (own .exit) ≡ laid (ofZ w32) (now (rows .entry)) (now (own .entry)) ⌝ }
 {

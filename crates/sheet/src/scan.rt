@@ -1,114 +1,89 @@
-// The scan of a sheet's lines and fields, left at the first part that cannot be read (01, ground 2).
+// The scan of a sheet's lines and fields, left at the first that cannot be read (01, ground 2).
 ghost use mathlib.Core.Path.{_≡_};
-ghost use mathlib.Core.Bool.{true};
-ghost use Prim.Native.Nat.{_+_, _*_, _<_, _≤_};
-ghost use lib.ListN.{length};
-ghost use Rattle.decimal.specs.Field.{reading};
+ghost use Prim.Native.Nat.{suc, _+_, _*_, _<_, _≤_};
+ghost use lib.ListN.{length, getD, replicate};
+ghost use Rattle.decimal.specs.Field.{readsAt, rowColumns};
+ghost use Rattle.formats.specs.Records.{placeOf};
+ghost use Rattle.formats.specs.Lines.{lineColumns, lineBytes, lineSays, linesSay};
 ghost use Rattle.rows.specs.Rows.{maxRows, rowWords};
-ghost use Rattle.sheet.specs.Sheet.{lineBytes, lineFields, columns, placeIn, part, linesRead, rowsOf};
-ghost use Rattle.sheet.specs.Scan.{onlyRow, kept, over};
-use crate::LINE_BYTES;
+ghost use Rattle.rows.specs.Lent.{rowsSize};
+ghost use Rattle.sheet.specs.Scan.{saysRow, LineRead, LinesRead};
+use decimal::field;
 use decimal::field::NEWLINE;
 use decimal::field::ROW_COLUMNS;
 use decimal::field::Reading;
 use decimal::field::WORD_COLUMNS;
+use formats::LINE_BYTES;
 use rows::ROW_WORDS;
 use rows::ROWS_WORDS;
 
-// The fields of a line: row number, kind, A, B, C.
-const LINE_FIELDS: usize = 5;
-
-// How wide field f of a line is.
-fn columns_of(f: usize) -> usize
-    ensures { λ r. ⌜ r ≡ columns f ⌝ }
+// How wide the field of word k of a row is.
+fn columns_of(k: usize) -> usize
+    requires { ⌜ k < rowWords ⌝ }
+    ensures { λ r. ⌜ r ≡ getD lineColumns (suc k) 0 ⌝ }
 {
-    if f < 2 {
+    if k == 0 {
         return ROW_COLUMNS;
     }
     WORD_COLUMNS
 }
 
-// Where part f of line i stands.
-fn place_of(i: usize, f: usize) -> usize
-    requires { ⌜ (i < maxRows) × (f ≤ lineFields) ⌝ }
-    ensures { λ r. ⌜ (r ≡ placeIn i f) × (r < i * lineBytes + lineBytes) ⌝ }
+// Where it stands in its line.
+fn place_of(k: usize) -> usize
+    requires { ⌜ k < rowWords ⌝ }
+    ensures { λ r. ⌜ r ≡ placeOf lineColumns (suc k) ⌝ }
+{
+    if k == 0 {
+        return ROW_COLUMNS;
+    }
+    2 * ROW_COLUMNS + (k - 1) * WORD_COLUMNS
+}
+
+// Whether line i begins with the number i.
+fn is_row(sheet: &[u8], i: usize) -> bool
+    requires { ⌜ i < maxRows ⌝ }
+    ensures { λ r. ⌜ r ≡ saysRow (readsAt (now (sheet .entry)) (i * lineBytes) rowColumns) i ⌝ }
+{
+    let reading = field::read(sheet, i * LINE_BYTES, ROW_COLUMNS);
+    match reading {
+        Reading::Number(n) => n as usize == i,
+        Reading::Unreadable => false,
+    }
+}
+
+// Whether line i can be read; then its words are kept in row i.
+fn read_line(sheet: &[u8], i: usize, own: &mut [u32; ROWS_WORDS]) -> bool
+    requires { ⌜ (i < maxRows) × (i * lineBytes + lineBytes ≤ length (now sheet)) ⌝ }
+    ensures { λ r. ⌜ LineRead (lineSays (now (sheet .entry)) i) (now (own .entry)) i (now (own .exit)) r ⌝ }
 {
     let at = i * LINE_BYTES;
-    if f < 2 {
-        return at + f * ROW_COLUMNS;
+    if sheet[at + (LINE_BYTES - 1)] != NEWLINE {
+        return false;
     }
-    at + (2 * ROW_COLUMNS + (f - 2) * WORD_COLUMNS)
+    if !is_row(sheet, i) {
+        return false;
+    }
+    for k in 0..ROW_WORDS {
+        let place = place_of(k);
+        let columns = columns_of(k);
+        let Reading::Number(w) = field::read(sheet, at + place, columns) else {
+            return false;
+        };
+        own[i * ROW_WORDS + k] = w;
+    }
+    true
 }
 
-// The reading, where it is the row number i.
-fn only_row(r: Reading, i: usize) -> Reading
-    requires { ⌜ i < maxRows ⌝ }
-    ensures { λ x. ⌜ x ≡ onlyRow i r ⌝ }
-{
-    match r {
-        Reading::Number(w) => {
-            if w as usize == i {
-                return Reading::Number(w);
-            }
-            Reading::Unreadable
-        }
-        Reading::Unreadable => Reading::Unreadable,
-    }
-}
-
-// What part f of line i says.
-fn read_part(sheet: &[u8], i: usize, f: usize) -> Reading
-    requires { ⌜ (i < maxRows) × (f ≤ lineFields) × (i * lineBytes + lineBytes ≤ length (now sheet)) ⌝ }
-    ensures { λ r. ⌜ r ≡ reading (part (now (sheet .entry)) i f) ⌝ }
-{
-    let at = place_of(i, f);
-    match f {
-        0 => {
-            let r = decimal::field::read(sheet, at, ROW_COLUMNS);
-            only_row(r, i)
-        }
-        1..=4 => {
-            let width = columns_of(f);
-            decimal::field::read(sheet, at, width)
-        }
-        _ => {
-            if sheet[at] == NEWLINE {
-                return Reading::Number(NEWLINE as u32);
-            }
-            Reading::Unreadable
-        }
-    }
-}
-
-// Keeps what part f of line i says.
-fn keep(own: &mut [u32; ROWS_WORDS], i: usize, f: usize, w: u32)
-    requires { ⌜ i < maxRows ⌝ }
-    ensures { λ _. ⌜ now (own .exit) ≡ kept (now (own .entry)) i f w ⌝ }
-{
-    match f {
-        0 => {}
-        1..=4 => {
-            own[i * ROW_WORDS + (f - 1)] = w;
-        }
-        _ => {}
-    }
-}
-
-// Whether each part of the first n lines can be read; if so, `own` begins with their rows.
+// Whether each of the first n lines can be read; then `own`, lent with zeros, holds their rows.
 pub fn read_lines(sheet: &[u8], n: usize, own: &mut [u32; ROWS_WORDS]) -> bool
-    requires { ⌜ (n ≤ maxRows) × (n * lineBytes ≤ length (now sheet)) × (length (now own) ≡ maxRows * rowWords) ⌝ }
-    ensures { λ r. ⌜ r ≡ linesRead (now (sheet .entry)) n ⌝ }
-    ensures { λ r. ⌜ (r ≡ true → now (own .exit) ≡ over (rowsOf (now (sheet .entry)) n) (now (own .entry))) ⌝ }
+    requires { ⌜ (n ≤ maxRows) × (n * lineBytes ≤ length (now sheet)) ⌝ }
+    requires { ⌜ now own ≡ replicate rowsSize 0 ⌝ }
+    ensures { λ r. ⌜ LinesRead (linesSay (now (sheet .entry)) n) (now (own .exit)) r ⌝ }
 {
-    let mut good = true;
-    'lines: for i in 0..n {
-        for f in 0..6 {
-            let Reading::Number(w) = read_part(sheet, i, f) else {
-                good = false;
-                break 'lines;
-            };
-            keep(own, i, f, w);
+    for i in 0..n {
+        if !read_line(sheet, i, own) {
+            return false;
         }
     }
-    good
+    true
 }

@@ -1,17 +1,18 @@
 -- Clearing a subtree: the rows below a row are cleared, then the row. One law for each shape of tree, and one for each arm of
 -- `clear`. Rests on Frames and Sites.
 use mathlib.Core.Path.{_≡_, refl, sym, _∙_, subst}
-use mathlib.Core.Logic.{_⊎_, inl, inr, ⊎-elim}
+use mathlib.Core.Logic.{inl, inr, ⊎-elim}
 use mathlib.Core.List.{List, []}
 use Prim.Native.Nat.{ℕ, _+_, _≤_}
 use native.Mathlib.Omega.{arith}
-use Rattle.tophat.specs.Syntax.{Code, edit, enter, update, then, next, fail, and, or, xor, if, let'}
-use Rattle.rows.specs.Rows.{word}
-use Rattle.state.specs.Holds.{Tree, leaf, under, fork, treeOf, Foot, Off, Split, Sits, Row, Clear, Same}
+use Rattle.tophat.specs.Syntax.{edit, enter, update, then, next, fail, and, or, xor, if, let'}
+use Rattle.rows.specs.Kinds.{eitherK, ifK, letK, taskK, thenK, failK, xorK, numberOf}
+use Rattle.rows.specs.Rows.{word, OfKind, FromKind, UpToKind}
+use Rattle.state.specs.Holds.{Tree, leaf, under, fork, treeOf, Foot, Off, Split, Row, Clear, Same}
 use Rattle.state.specs.Words.{Laid}
 use Rattle.state.specs.Contracts.{ClearOk}
-use Rattle.state.proofs.Frames.{same-trans, same-weak, same-row, laid-same, keeps, keeps-laid, clear-kept}
-use Rattle.state.proofs.Sites.{on-if, on-let}
+use Rattle.state.proofs.Frames.{same-trans, same-weak, laid-same, keeps, keeps-laid, clear-kept}
+use Rattle.state.proofs.Sites.{on-code}
 
 -- ---- by the shape of the tree
 
@@ -48,7 +49,7 @@ at-operand rs ws ws₁ e h = subst (ClearOk rs ws ws₁) e h
 
 module _ (rs : List ℕ) (i : ℕ) where
   -- 43, 44, 46, 47, 48
-  pub clear-fork : {ws ws₁ ws₂ ws₃ : List ℕ} {a b : ℕ} (k : ℕ) → k ≡ word rs i 0 → 43 ≤ k → k ≤ 48 → (k ≡ 45 → ⊥) → a ≡ word rs i 1 → b ≡ word rs i 2
+  pub clear-fork : {ws ws₁ ws₂ ws₃ : List ℕ} {a b : ℕ} (k : ℕ) → k ≡ word rs i 0 → numberOf (taskK thenK) ≤ k → k ≤ numberOf (taskK xorK) → (k ≡ numberOf (taskK failK) → ⊥) → a ≡ word rs i 1 → b ≡ word rs i 2
       → ClearOk rs ws ws₁ a → ClearOk rs ws₁ ws₂ b → Laid ws₂ ws₃ i [] → ClearOk rs ws ws₃ i
   clear-fork {ws} {ws₁} {ws₂} k q m n o ea eb ha hb p d (edit e) s = absurd (let z = s .0 in omega arith)
   clear-fork {ws} {ws₁} {ws₂} k q m n o ea eb ha hb p d (enter τ) s = absurd (let z = s .0 in omega arith)
@@ -63,19 +64,19 @@ module _ (rs : List ℕ) (i : ℕ) where
   clear-fork {ws} {ws₁} {ws₂} k q m n o ea eb ha hb p d (let' e b) s = absurd (let z = s .0 in omega arith)
 
   -- 25
-  pub clear-if : {ws ws₁ ws₂ ws₃ : List ℕ} {b c : ℕ} → word rs i 0 ≡ 25 → b ≡ word rs i 2 → c ≡ word rs i 3
+  pub clear-if : {ws ws₁ ws₂ ws₃ : List ℕ} {b c : ℕ} → OfKind rs i (eitherK ifK) → b ≡ word rs i 2 → c ≡ word rs i 3
       → ClearOk rs ws ws₁ b → ClearOk rs ws₁ ws₂ c → Laid ws₂ ws₃ i [] → ClearOk rs ws ws₃ i
   clear-if {ws} {ws₁} {ws₂} {ws₃} q eb ec hb hc p d =
-      on-if rs d i (λ c. Cleared rs ws ws₃ i (treeOf c)) q
+      on-code rs d i (eitherK ifK) (λ c. Cleared rs ws ws₃ i (treeOf c)) q
       (λ e a b s. cleared-fork rs i 2 (treeOf a) 3 (treeOf b) (s .4) (at-operand rs ws ws₁ eb hb d a (s .2)) (at-operand rs ws₁ ws₂ ec hc d b (s .3)) p)
 
   -- 31
-  pub clear-let : {ws ws₁ ws₂ : List ℕ} {b : ℕ} → word rs i 0 ≡ 31 → b ≡ word rs i 2 → ClearOk rs ws ws₁ b → Laid ws₁ ws₂ i [] → ClearOk rs ws ws₂ i
+  pub clear-let : {ws ws₁ ws₂ : List ℕ} {b : ℕ} → OfKind rs i (eitherK letK) → b ≡ word rs i 2 → ClearOk rs ws ws₁ b → Laid ws₁ ws₂ i [] → ClearOk rs ws ws₂ i
   clear-let {ws} {ws₁} {ws₂} q eb hb p d =
-      on-let rs d i (λ c. Cleared rs ws ws₂ i (treeOf c)) q (λ e b s. cleared-under rs i 2 (treeOf b) (s .3) (at-operand rs ws ws₁ eb hb (d + 1) b (s .2)) p)
+      on-code rs d i (eitherK letK) (λ c. Cleared rs ws ws₂ i (treeOf c)) q (λ e b s. cleared-under rs i 2 (treeOf b) (s .3) (at-operand rs ws ws₁ eb hb (d + 1) b (s .2)) p)
 
   -- any other
-  pub clear-leaf : {ws ws₁ : List ℕ} → (word rs i 0 ≡ 25 → ⊥) → (word rs i 0 ≡ 31 → ⊥) → (43 ≤ word rs i 0 → word rs i 0 ≤ 48 → (word rs i 0 ≡ 45 → ⊥) → ⊥) → Laid ws ws₁ i [] → ClearOk rs ws ws₁ i
+  pub clear-leaf : {ws ws₁ : List ℕ} → (OfKind rs i (eitherK ifK) → ⊥) → (OfKind rs i (eitherK letK) → ⊥) → (FromKind rs i (taskK thenK) → UpToKind rs i (taskK xorK) → (OfKind rs i (taskK failK) → ⊥) → ⊥) → Laid ws ws₁ i [] → ClearOk rs ws ws₁ i
   clear-leaf x y z p d (edit e) s = cleared-leaf rs i p
   clear-leaf x y z p d (enter τ) s = cleared-leaf rs i p
   clear-leaf x y z p d (update u) s = cleared-leaf rs i p

@@ -11,9 +11,11 @@ use lib.ListN.{length, getD, length-replicate, take, length-take, List·getD-eq-
 use lib.Seq.{getD-take, ext-getD}
 use Rattle.tophat.specs.Syntax.{Code, edit, enter, update, then, next, fail, and, or, xor, if, let', vunit, Store}
 use Rattle.tophat.specs.Syntax.{TaskOf, filled, blank, entered, shared, before, after, failed, both, either, orLeft, orRight, unpicked, pickedLeft, pickedRight, ifTrue, ifFalse, bound}
-use Rattle.rows.specs.Rows.{word, opA, opB, opC}
-use Rattle.state.specs.Layout.{stateWords, place, at, valueWords, own, one, putWords, valued, writeTask, writeCells, encode}
+use Rattle.rows.specs.Kinds.{cellK, numberOf}
+use Rattle.rows.specs.Rows.{word, opA, opB, opC, isKind}
+use Rattle.state.specs.Layout.{stateWords, place, at, valueWords, own, putWords, valued, writeTask, writeCells, encode}
 use Rattle.state.specs.Holds.{Tree, leaf, under, fork, treeOf, Foot, Cell, Sits, Row, Clear, Holds, Stores, Same, Area, Ran}
+use Rattle.state.specs.Writing.{Writing}
 use Rattle.state.proofs.Words.{zeroWords, padding}
 use Rattle.state.proofs.Frames.{same-refl, same-trans, same-weak, same-row, laid-same, stores-kept, foot-cell, keeps, holds-kept, foot-high, placed}
 use Rattle.state.proofs.Writes.{put-long, put-laid, Short, Fits, Wrote, Within, write-task}
@@ -41,9 +43,9 @@ module _ (rs : List ℕ) (n : ℕ) (s : Store) (short : (k : ℕ) → Short (get
   abbrev Cells : ℕ → List ℕ → Type 0
   Cells k ws = Wrote ((j : ℕ) → j < k → CellRow ws j) (Below k) (zeroWords (n * stateWords)) ws
 
-  one-cell : (k : ℕ) (ws : List ℕ) (b : Bool) → eqb (word rs k 0) 10 ≡ b → k < n → Cells k ws → Cells (suc k) (cond b (valued ws k own (getD s k vunit)) ws)
+  one-cell : (k : ℕ) (ws : List ℕ) (b : Bool) → isKind rs k cellK ≡ b → k < n → Cells k ws → Cells (suc k) (cond b (valued ws k own (getD s k vunit)) ws)
   one-cell k ws true e l w =
-      let c : Cell rs k = eqb→eq (word rs k 0) 10 (subst T (sym e) tt) in
+      let c : Cell rs k = eqb→eq (word rs k 0) (numberOf cellK) (subst T (sym e) tt) in
       let xs = own ∷ valueWords (getD s k vunit) in
       let dead = same-row (w .same) (λ z. let g = z .1 in omega arith) (zero-row (n * stateWords) k) in
       let p = put-laid xs n (short k) (w .long ∙ length-replicate {A = ℕ} (n * stateWords) 0) l dead in
@@ -53,7 +55,7 @@ module _ (rs : List ℕ) (n : ℕ) (s : Store) (short : (k : ℕ) → Short (get
         long = put-long xs ws k 0 ∙ w .long;
       }
   one-cell k ws false e l w = record {
-    holds = below-or-at {P = CellRow ws} k (λ z. absurd (subst T (ap (λ m. eqb m 10) (sym z) ∙ e) (eqb-refl 10))) (λ j h z. w .holds j h z);
+    holds = below-or-at {P = CellRow ws} k (λ z. absurd (subst T (ap (λ m. eqb m (numberOf cellK)) (sym z) ∙ e) (eqb-refl (numberOf cellK)))) (λ j h z. w .holds j h z);
     same = same-weak (λ j z. (z .0, let g = z .1 in omega arith)) (w .same);
     long = w .long;
   }
@@ -61,15 +63,9 @@ module _ (rs : List ℕ) (n : ℕ) (s : Store) (short : (k : ℕ) → Short (get
   write-cells : (k : ℕ) → k ≤ n → Cells k (writeCells rs k s (zeroWords (n * stateWords)))
   unfolding writeCells
   write-cells zero h = record { holds = λ j l. absurd (omega arith); same = same-refl; long = refl }
-  write-cells (suc k) h = one-cell k (writeCells rs k s (zeroWords (n * stateWords))) (eqb (word rs k 0) 10) refl (omega arith) (write-cells k (omega arith))
+  write-cells (suc k) h = one-cell k (writeCells rs k s (zeroWords (n * stateWords))) (isKind rs k cellK) refl (omega arith) (write-cells k (omega arith))
 
 -- ---- one writing
-
--- the words hold the task t of row i and the store s, and nothing else
-pub record Writing (rs : List ℕ) (i : ℕ) (c : Code) (t : TaskOf c) (s : Store) (ws : List ℕ) : Type 0 where
-  pub holds : Holds rs ws i c t
-  pub stores : Stores rs ws s
-  pub rest : (j : ℕ) → (Area rs i c j → ⊥) → Row ws j []
 
 -- what encode writes
 pub encode-writing : (rs : List ℕ) (n d : ℕ) (c : Code) (t : TaskOf c) (s : Store) → Within rs n → Sits rs d (n - 1) c → Fits c t → ((k : ℕ) → Short (getD s k vunit))
@@ -168,7 +164,7 @@ pub writing-one : {rs : List ℕ} {i : ℕ} {c : Code} {t : TaskOf c} {s : Store
 writing-one {rs} {i} {c} {t} {s} {x} {y} l p q = ext-getD 0 x y l λ k h.
     let e : k ≡ place (k / stateWords) (k % stateWords) = omega arith in
     let j = k / stateWords in
-    ap (λ z. getD x z 0) e ∙ row j (foot? rs i (treeOf c) j) (ℕ-discrete (word rs j 0) 10) (k % stateWords) (omega arith) ∙ sym (ap (λ z. getD y z 0) e)
+    ap (λ z. getD x z 0) e ∙ row j (foot? rs i (treeOf c) j) (ℕ-discrete (word rs j 0) (numberOf cellK)) (k % stateWords) (omega arith) ∙ sym (ap (λ z. getD y z 0) e)
   where
     row : (j : ℕ) → Dec (Foot rs i (treeOf c) j) → Dec (Cell rs j) → Alike x y j
     row j (yes f) d = holds-alike rs x y i c t (p .holds) (q .holds) j f

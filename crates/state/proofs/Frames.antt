@@ -3,7 +3,7 @@
 -- Rests on specs/Holds and Words.
 use mathlib.Core.Path.{_≡_, refl, sym, ap, _∙_, subst}
 use mathlib.Core.Logic.{_⊎_, inl, inr, ⊎-elim}
-use mathlib.Core.List.{List, [], _∷_}
+use mathlib.Core.List.{List, _∷_}
 use Prim.Native.Nat.{ℕ, _+_, _≤_, _<_}
 use native.Mathlib.Decide.{ℕ-discrete}
 use native.Mathlib.Omega.{arith}
@@ -11,15 +11,15 @@ use lib.ListN.{length, getD, set}
 use lib.Seq.{getD-set-same, getD-set-other}
 use Rattle.tophat.specs.Syntax.{maxLeaves, Ty, leaves, Exp, Code, edit, enter, update, then, next, fail, and, or, xor, if, let', Val, vunit, Env, Store}
 use Rattle.tophat.specs.Syntax.{TaskOf, filled, blank, entered, shared, before, after, failed, both, either, orLeft, orRight, unpicked, pickedLeft, pickedRight, ifTrue, ifFalse, bound}
-use Rattle.tophat.specs.Typing.{ValueType, ValueTypes, v-cons}
-use Rattle.tophat.proofs.TypeLeaves.{small-cons}
-use Rattle.rows.specs.Rows.{word, opA, opB, opC}
+use Rattle.tophat.specs.Typing.{ValueType, ValueTypes, v-cons, small-cons}
+use Rattle.rows.specs.Kinds.{eitherK, ifK, numberOf}
+use Rattle.rows.specs.Rows.{word, opA, opB, opC, FromKind}
 use Rattle.value.specs.declared.Value.{Value}
 use Rattle.value.specs.Values.{asValue}
-use Rattle.state.specs.Layout.{at, own, valueWords}
-use Rattle.state.specs.Holds.{Tree, leaf, under, fork, treeOf, Foot, Off, Split, Cell, Sits, Row, Clear, Holds, Stores, Same, Area, Binders, World}
+use Rattle.state.specs.Layout.{own, valueWords}
+use Rattle.state.specs.Holds.{Tree, leaf, under, fork, treeOf, Foot, Off, Split, Cell, Sits, Row, Clear, Holds, Stores, Same, World}
 use Rattle.state.specs.Words.{Laid, Pushed}
-use Rattle.state.proofs.Words.{binders-push}
+use Rattle.state.proofs.Binders.{binders-push}
 
 -- ---- frames
 
@@ -106,11 +106,11 @@ stores-set {rs} {x} {y} s k v h p l = record { cells = λ j c. cell j c (ℕ-dis
 
 -- no row of a task is a cell, and the rows below are apart
 abbrev pub Placed : List ℕ → ℕ → Tree → Type 0
-Placed rs i leaf = 25 ≤ word rs i 0
-Placed rs i (under k x) = (25 ≤ word rs i 0) × Placed rs (word rs i k) x × Off rs i k x
-Placed rs i (fork k x l y) = (25 ≤ word rs i 0) × Placed rs (word rs i k) x × Placed rs (word rs i l) y × Split rs i k x l y
+Placed rs i leaf = FromKind rs i (eitherK ifK)
+Placed rs i (under k x) = FromKind rs i (eitherK ifK) × Placed rs (word rs i k) x × Off rs i k x
+Placed rs i (fork k x l y) = FromKind rs i (eitherK ifK) × Placed rs (word rs i k) x × Placed rs (word rs i l) y × Split rs i k x l y
 
-high : {k n : ℕ} → k ≡ n → 25 ≤ n → 25 ≤ k
+high : {k n : ℕ} → k ≡ n → numberOf (eitherK ifK) ≤ n → numberOf (eitherK ifK) ≤ k
 high e h = omega arith
 
 pub placed : (rs : List ℕ) (d i : ℕ) (c : Code) → Sits rs d i c → Placed rs i (treeOf c)
@@ -131,10 +131,10 @@ foot-self rs i leaf = refl
 foot-self rs i (under k x) = inl refl
 foot-self rs i (fork k x l y) = inl refl
 
-at-row : (rs : List ℕ) (i j : ℕ) → 25 ≤ word rs i 0 → j ≡ i → 25 ≤ word rs j 0
-at-row rs i j h e = subst (λ j. 25 ≤ word rs j 0) (sym e) h
+at-row : (rs : List ℕ) (i j : ℕ) → FromKind rs i (eitherK ifK) → j ≡ i → FromKind rs j (eitherK ifK)
+at-row rs i j h e = subst (λ j. FromKind rs j (eitherK ifK)) (sym e) h
 
-pub foot-high : (rs : List ℕ) (i : ℕ) (x : Tree) → Placed rs i x → (j : ℕ) → Foot rs i x j → 25 ≤ word rs j 0
+pub foot-high : (rs : List ℕ) (i : ℕ) (x : Tree) → Placed rs i x → (j : ℕ) → Foot rs i x j → FromKind rs j (eitherK ifK)
 foot-high rs i leaf p j f = at-row rs i j p f
 foot-high rs i (under k x) p j f = ⊎-elim (at-row rs i j (p .0)) (foot-high rs (word rs i k) x (p .1) j) f
 foot-high rs i (fork k x l y) p j f = ⊎-elim (at-row rs i j (p .0)) (⊎-elim (foot-high rs (word rs i k) x (p .1) j) (foot-high rs (word rs i l) y (p .2) j)) f

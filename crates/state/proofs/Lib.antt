@@ -1,4 +1,5 @@
 pub mod Words
+pub mod Binders
 pub mod Frames
 pub mod Sites
 pub mod Calls
@@ -9,3 +10,4 @@ pub mod Typed
 pub mod OneState
 pub mod SitsOf
 pub mod Reading
+pub mod LentLaws

@@ -1,73 +1,32 @@
 -- Words hold at most one task of a code, and one content of each cell: states that are written alike are the same. Rests on
 -- Words and the calculus' typing.
 use mathlib.Core.Path.{_≡_, refl, sym, ap, ap₂, _∙_, subst}
-use mathlib.Core.Bool.{true, false}
 use mathlib.Core.Logic.{_⊎_, inl, inr, ⊎-elim}
-use mathlib.Core.List.{List, [], _∷_, _++_, map}
-use Prim.Native.Nat.{ℕ, zero, suc, _+_, _*_, _-_, _≤_, _<_}
+use mathlib.Core.List.{List, [], _∷_, _++_}
+use Prim.Native.Nat.{ℕ, zero, suc, _≤_}
 use native.Mathlib.Decide.{ℕ-discrete}
 use native.Mathlib.Omega.{arith}
-use lib.IntN.{ℤ, pos}
-use lib.ListN.{length, getD, replicate}
+use lib.ListN.{length, getD}
 use lib.Seq.{ext-getD}
-use mir.Syntax.{w32}
-use mir.Val.{toZ, ofZ}
-use mir.Facts.{toZ-ofZ}
-use Rattle.word.specs.Word.{IsWord}
 use Rattle.tophat.specs.Syntax.{maxLeaves, Ty, unit, truth, number, leaves, Code, edit, enter, update, then, next, fail, and, or, xor, if, let', Val, vunit, Store}
-use Rattle.tophat.specs.Syntax.{TaskOf, filled, blank, entered, shared, StepT, before, after, failed, both, either, orLeft, orRight, unpicked, pickedLeft, pickedRight, ifTrue, ifFalse, bound}
-use Rattle.tophat.specs.Typing.{ValueType, v-unit, v-truth, v-number, v-pair, ValueTypes, v-nil, v-cons, TaskType, k-filled, k-blank, k-entered, k-shared, k-then-before, k-then-after}
+use Rattle.tophat.specs.Syntax.{TaskOf, filled, entered, before, after, both, either, orLeft, orRight, pickedLeft, pickedRight, ifTrue, ifFalse, bound}
+use Rattle.tophat.specs.Typing.{ValueType, v-unit, v-truth, v-number, v-pair, ValueTypes, v-nil, v-cons, TaskType, k-filled, k-blank, k-entered, k-shared, k-then-before, k-then-after, typeOf, AllSmall, small-nil, small-cons}
 use Rattle.tophat.specs.Typing.{k-next-before, k-next-after, k-failed, k-both, k-either, k-or-left, k-or-right, k-unpicked, k-picked-left, k-picked-right, k-if-true, k-if-false, k-bound}
-use Rattle.tophat.proofs.TypeLeaves.{AllSmall, small-nil, small-cons, type-leaves, task-type-leaves}
-use Rattle.tophat.specs.Handling.{leavesOf, padded}
-use Rattle.tophat.proofs.ComputeHandling.{typeOf}
-use Rattle.tophat.proofs.Leaves.{type-of, gives-one}
+use Rattle.tophat.proofs.Basics.{some-is}
+use Rattle.tophat.proofs.TypeLeaves.{type-leaves, task-type-leaves}
+use Rattle.tophat.proofs.Leaves.{type-of}
 use Rattle.shape.proofs.Puts.{shape-inj}
-use Rattle.value.specs.Values.{asValue, leafBits}
-use Rattle.rows.specs.Kinds.{cellK}
-use Rattle.rows.specs.Rows.{word, kindAt, opA, opB, opC}
+use Rattle.value.specs.Values.{asValue}
+use Rattle.value.proofs.Fitting.{value-in}
+use Rattle.rows.specs.Kinds.{cellK, numberOf}
+use Rattle.rows.specs.Rows.{word, opA, opB, opC}
 use Rattle.rows.specs.Trees.{ReadsCell, r-cell, Cells, c-none, c-truth, c-number, c-other}
-use Rattle.rows.proofs.KindNumbers.{kindNumber, kind-is}
 use Rattle.rows.proofs.CellsAt.{cells-length, cells-small}
 use Rattle.state.specs.Layout.{valueWords}
 use Rattle.state.specs.Holds.{Cell, Row, Holds, Stores}
-use Rattle.state.specs.Words.{valueAt}
 use Rattle.state.proofs.Words.{value-at}
 
-numbered : (rs : List ℕ) (k : ℕ) → kindAt rs k ≡ cellK → Cell rs k
-unfolding kindNumber
-numbered rs k e = kind-is (word rs k 0) cellK e (omega arith)
-
 -- ---- values
-
--- leaves that are words are read back from their bits
-abbrev EachWord : List ℤ → Type 0
-EachWord [] = Unit {0}
-EachWord (z ∷ zs) = IsWord z × EachWord zs
-
-words-append : (xs ys : List ℤ) → EachWord xs → EachWord ys → EachWord (xs ++ ys)
-words-append [] ys p q = q
-words-append (x ∷ xs) ys p q = (p .0, words-append xs ys (p .1) q)
-
-words-zero : (n : ℕ) → EachWord (replicate n (pos 0))
-words-zero zero = tt
-words-zero (suc n) = (omega arith, words-zero n)
-
-leaves-words : {v : Val} {τ : Ty} → ValueType v τ → EachWord (leavesOf v)
-unfolding leavesOf
-leaves-words v-unit = (omega arith, tt)
-leaves-words (v-truth {b = true}) = (omega arith, tt)
-leaves-words (v-truth {b = false}) = (omega arith, tt)
-leaves-words (v-number h) = (h, tt)
-leaves-words (v-pair {v = v} {w = w} g h) = words-append (leavesOf v) (leavesOf w) (leaves-words g) (leaves-words h)
-
-bits-back : (zs : List ℤ) → EachWord zs → map (toZ w32) (map (ofZ w32) zs) ≡ zs
-bits-back [] p = refl
-bits-back (z ∷ zs) p = ap₂ _∷_ (toZ-ofZ {w = w32} {z = z} (record { sfits = p .0 })) (bits-back zs (p .1))
-
-pub leaves-back : {v : Val} {τ : Ty} → ValueType v τ → map (toZ w32) (leafBits v) ≡ padded (pos 0) (leavesOf v)
-unfolding leafBits padded
-leaves-back {v} t = bits-back _ (words-append (leavesOf v) _ (leaves-words t) (words-zero (maxLeaves - length (leavesOf v))))
 
 -- a value is one by its shape and its leaves
 pub value-one : {u v : Val} {τ υ : Ty} → ValueType u τ → ValueType v υ → asValue u ≡ asValue v → u ≡ v
@@ -75,8 +34,7 @@ unfolding asValue
 value-one {u} {v} {τ} {υ} g h e =
     let p : typeOf u ≡ typeOf v = shape-inj (typeOf u) (typeOf v) (ap (λ x. x .shape) e) in
     let q : υ ≡ τ = sym (type-of h) ∙ sym p ∙ type-of g in
-    let r : padded (pos 0) (leavesOf u) ≡ padded (pos 0) (leavesOf v) = sym (leaves-back g) ∙ ap (λ x. map (toZ w32) (x .leaves)) e ∙ leaves-back h in
-    gives-one {τ = τ} {ls = padded (pos 0) (leavesOf u)} (g, refl) (subst (ValueType v) q h, r)
+    some-is (sym (value-in (asValue u) τ u g refl) ∙ value-in (asValue u) τ v (subst (ValueType v) q h) e)
 
 -- what a row holds
 pub row-value : {ws : List ℕ} {i x y : ℕ} {u v : Val} {τ υ : Ty} → ValueType u τ → leaves τ ≤ maxLeaves → ValueType v υ → leaves υ ≤ maxLeaves
@@ -166,13 +124,13 @@ one-more (y ∷ xs) x zero = inr refl
 one-more (y ∷ xs) x (suc j) = ⊎-elim (λ (e, p). inl (ap suc e, p)) inr (one-more xs x j)
 
 module _ {rs : List ℕ} where
-  at-cell : {i : ℕ} {τ : Ty} → ReadsCell rs i τ → kindAt rs i ≡ cellK
+  at-cell : {i : ℕ} {τ : Ty} → ReadsCell rs i τ → Cell rs i
   at-cell (r-cell k x d) = k
 
-  unit-at : {n : ℕ} {Σ : List Ty} {s : Store} → Cells rs n Σ s → (j : ℕ) → (kindAt rs j ≡ cellK → ⊥) → getD Σ j unit ≡ unit
+  unit-at : {n : ℕ} {Σ : List Ty} {s : Store} → Cells rs n Σ s → (j : ℕ) → (Cell rs j → ⊥) → getD Σ j unit ≡ unit
   unit-at c-none j n = refl
-  unit-at (c-truth {Σ = Σ} d c) j n = ⊎-elim (λ (e, p). absurd (n (subst (λ i. kindAt rs i ≡ cellK) (sym (e ∙ cells-length d .0)) (at-cell c)))) (λ p. p ∙ unit-at d j n) (one-more Σ truth j)
-  unit-at (c-number {Σ = Σ} d c) j n = ⊎-elim (λ (e, p). absurd (n (subst (λ i. kindAt rs i ≡ cellK) (sym (e ∙ cells-length d .0)) (at-cell c)))) (λ p. p ∙ unit-at d j n) (one-more Σ number j)
+  unit-at (c-truth {Σ = Σ} d c) j n = ⊎-elim (λ (e, p). absurd (n (subst (λ i. Cell rs i) (sym (e ∙ cells-length d .0)) (at-cell c)))) (λ p. p ∙ unit-at d j n) (one-more Σ truth j)
+  unit-at (c-number {Σ = Σ} d c) j n = ⊎-elim (λ (e, p). absurd (n (subst (λ i. Cell rs i) (sym (e ∙ cells-length d .0)) (at-cell c)))) (λ p. p ∙ unit-at d j n) (one-more Σ number j)
   unit-at (c-other {Σ = Σ} d c) j n = ⊎-elim (λ (e, p). p) (λ p. p ∙ unit-at d j n) (one-more Σ unit j)
 
 pub only-unit : {v : Val} {τ : Ty} → ValueType v τ → τ ≡ unit → v ≡ vunit
@@ -187,8 +145,8 @@ types-length (v-cons t d) = ap suc (types-length d)
 
 -- words hold one store of the cells' types
 pub stores-one : {rs ws : List ℕ} {n : ℕ} {Σ : List Ty} {s₀ s s₁ : Store} → Cells rs n Σ s₀ → ValueTypes s Σ → ValueTypes s₁ Σ → Stores rs ws s → Stores rs ws s₁ → s ≡ s₁
-stores-one {rs} {s = s} {s₁ = s₁} c h h₁ p q = ext-getD vunit s s₁ (types-length h ∙ sym (types-length h₁)) (λ k l. by k (ℕ-discrete (word rs k 0) 10))
+stores-one {rs} {s = s} {s₁ = s₁} c h h₁ p q = ext-getD vunit s s₁ (types-length h ∙ sym (types-length h₁)) (λ k l. by k (ℕ-discrete (word rs k 0) (numberOf cellK)))
   where
     by : (k : ℕ) → Dec (Cell rs k) → getD s k vunit ≡ getD s₁ k vunit
     by k (yes e) = cells-one (cells-small c) h h₁ p q k e
-    by k (no n) = let e = unit-at c k (λ z. n (numbered rs k z)) in only-unit (typed-at h k) e ∙ sym (only-unit (typed-at h₁ k) e)
+    by k (no n) = let e = unit-at c k (λ z. n (z)) in only-unit (typed-at h k) e ∙ sym (only-unit (typed-at h₁ k) e)

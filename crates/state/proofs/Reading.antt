@@ -2,44 +2,41 @@
 -- they are well typed and the words are their writing. Rests on SitsOf, Encode, OneState and the calculus' typing.
 use mathlib.Core.Path.{_≡_, refl, sym, ap, ap₂, _∙_, subst}
 use mathlib.Core.Bool.{Bool, true, false, cond, false≢true}
-use mathlib.Core.Option.{Option, none, some}
+use mathlib.Core.Option.{Option, none, some, bind}
 use mathlib.Core.Logic.{_↔_, ⊎-elim}
-use mathlib.Core.List.{List, [], _∷_, _++_, map}
+use mathlib.Core.List.{List, [], _∷_, _++_}
 use Prim.Native.Nat.{ℕ, zero, suc, _-_, _≤_, _<_}
 use native.Mathlib.Nat.{eq-or-lt-of-le, le-of-suc-le-suc}
 use native.Mathlib.Omega.{arith}
 use lib.Dec.{eqb}
-use lib.IntN.{pos}
 use lib.ListN.{length, getD, take, length-append, List·getD-append}
 use lib.Seq.{take-all, take-suc, getD-append-seam}
-use mir.Syntax.{w32}
-use mir.Val.{toZ}
 use borrow.Author.Tests.{eqb-true, eq-eqb}
-use Rattle.ranges.proofs.Ranges.{and-left, and-right}
+use Rattle.match_laws.proofs.Ranges.{and-left, and-right}
 use Rattle.tophat.specs.Syntax.{maxLeaves, Ty, unit, truth, number, leaves, Code, edit, enter, update, then, next, fail, and, or, xor, if, let', Val, vunit, Store, TaskOf}
-use Rattle.tophat.specs.Typing.{CodeType, t-edit, t-enter, t-update, t-then, t-next, t-fail, t-and, t-or, t-xor, t-if-task, t-let-task, ValueType, v-unit, ValueTypes, v-nil, v-cons}
+use Rattle.tophat.specs.Typing.{CodeType, t-edit, t-enter, t-update, t-then, t-next, t-fail, t-and, t-or, t-xor, t-if-task, t-let-task, ValueType, v-unit, ValueTypes, v-nil, v-cons, AllSmall, small-nil, small-cons}
 use Rattle.tophat.specs.Typing.{TaskType, k-filled, k-blank, k-entered, k-shared, k-then-before, k-then-after, k-next-before, k-next-after, k-failed, k-both, k-either, k-or-left, k-or-right}
 use Rattle.tophat.specs.Typing.{k-unpicked, k-picked-left, k-picked-right, k-if-true, k-if-false, k-bound}
-use Rattle.tophat.specs.Handling.{leavesOf, padded}
 use Rattle.tophat.proofs.Basics.{no-some, All, all-none, all-some, all-is}
-use Rattle.tophat.proofs.ComputeTyping.{bind}
 use Rattle.tophat.proofs.TypingAgrees.{infer-is, infer-task-is}
-use Rattle.tophat.proofs.TypeLeaves.{AllSmall, small-nil, small-cons, type-leaves, task-type-leaves}
-use Rattle.tophat.proofs.Leaves.{type-of, gives-given, given-gives}
+use Rattle.tophat.proofs.TypeLeaves.{type-leaves, task-type-leaves}
+use Rattle.tophat.proofs.Leaves.{given-gives}
 use Rattle.shape.specs.Shape.{asShape}
-use Rattle.value.specs.Values.{asValue}
-use Rattle.rows.specs.Rows.{word, opA, opB, opC}
+use Rattle.value.specs.Fits.{valueIn}
+use Rattle.value.proofs.Fitting.{value-in}
+use Rattle.rows.specs.Kinds.{typeK, truthK, cellK}
+use Rattle.rows.specs.Rows.{word, opA, opB, opC, isKind}
 use Rattle.rows.specs.ComputeTrees.{cellType, cellTypes}
 use Rattle.rows.proofs.CellsAt.{cells-small}
 use Rattle.rows.proofs.TreesAgree.{cells-are}
-use Rattle.rows.proofs.Accepted.{Accepted}
+use Rattle.rows.specs.Accepted.{AcceptedRows}
 use Rattle.state.specs.Layout.{at, own, one, other, valueWords, encode}
 use Rattle.state.specs.Holds.{Row, Holds, Stores}
-use Rattle.state.specs.Words as words
-use Rattle.state.specs.Reading.{valueAt, byTag, readTask, cellAt, readStore, same, decode}
+use Rattle.state.specs.Words.{valueAt}
+use Rattle.state.specs.Reading.{readValue, byTag, readTask, cellAt, readStore, same, decode}
 use Rattle.state.proofs.Words.{value-at}
-use Rattle.state.proofs.Encode.{Writing}
-use Rattle.state.proofs.OneState.{leaves-back, typed-at, only-unit, types-length}
+use Rattle.state.specs.Writing.{Writing}
+use Rattle.state.proofs.OneState.{typed-at, only-unit, types-length}
 use Rattle.state.proofs.SitsOf.{state-writing}
 
 -- ---- answers
@@ -59,18 +56,14 @@ cond-all false f g = g refl
 
 -- ---- a value
 
-value-all : (ws : List ℕ) (i : ℕ) (τ : Ty) → All (λ v. ValueType v τ) (valueAt ws i τ)
-unfolding valueAt
-value-all ws i τ = cond-all (eqb (at ws i 1) (asShape τ)) (λ e. all-of _ (λ v h. given-gives τ h .0)) (λ e. all-none)
+value-all : (ws : List ℕ) (i : ℕ) (τ : Ty) → All (λ v. ValueType v τ) (readValue ws i τ)
+unfolding readValue valueIn
+value-all ws i τ = cond-all (eqb (valueAt ws i .shape) (asShape τ)) (λ e. all-of _ (λ v h. given-gives τ h .0)) (λ e. all-none)
 
 -- what a row holds is read
-pub value-read : {ws : List ℕ} {i x : ℕ} {v : Val} {τ : Ty} → Row ws i (x ∷ valueWords v) → ValueType v τ → leaves τ ≤ maxLeaves → valueAt ws i τ ≡ some v
-unfolding valueAt asValue
-value-read {ws} {i} {v = v} {τ = τ} r t l =
-    let e : words.valueAt ws i ≡ asValue v = value-at r t l in
-    let p : at ws i 1 ≡ asShape τ = ap (λ x. x .shape) e ∙ ap asShape (type-of t) in
-    let q : map (toZ w32) (at ws i 2 ∷ at ws i 3 ∷ at ws i 4 ∷ at ws i 5 ∷ []) ≡ padded (pos 0) (leavesOf v) = ap (λ x. map (toZ w32) (x .leaves)) e ∙ leaves-back t in
-    ap₂ (λ b o. cond b o none) (eq-eqb _ _ p) (gives-given (t, q))
+pub value-read : {ws : List ℕ} {i x : ℕ} {v : Val} {τ : Ty} → Row ws i (x ∷ valueWords v) → ValueType v τ → leaves τ ≤ maxLeaves → readValue ws i τ ≡ some v
+unfolding readValue
+value-read {ws} {i} {v = v} {τ = τ} r t l = value-in (valueAt ws i) τ v t (value-at r t l)
 
 -- ---- a task
 
@@ -167,13 +160,13 @@ more-values v-nil k = v-cons k v-nil
 more-values (v-cons h hs) k = v-cons h (more-values hs k)
 
 module _ (rs ws : List ℕ) where
-  no-cell : (i : ℕ) → eqb (word rs i 0) 10 ≡ false → cellType rs i ≡ unit
+  no-cell : (i : ℕ) → isKind rs i cellK ≡ false → cellType rs i ≡ unit
   unfolding cellType
   no-cell i e = rw e
 
   pub cell-small : (i : ℕ) → leaves (cellType rs i) ≤ maxLeaves
   unfolding cellType leaves
-  cell-small i = by (eqb (word rs i 0) 10) (eqb (word rs (opA rs i) 0) 2)
+  cell-small i = by (isKind rs i cellK) (isKind rs (opA rs i) (typeK truthK))
     where
       by : (x y : Bool) → leaves (cond x (cond y truth number) unit) ≤ maxLeaves
       by true true = omega arith
@@ -181,7 +174,7 @@ module _ (rs ws : List ℕ) where
       by false y = omega arith
 
   cell-all : (i : ℕ) → All (λ v. ValueType v (cellType rs i)) (cellAt rs ws i)
-  cell-all i = cond-all (eqb (word rs i 0) 10) (λ e. value-all ws i (cellType rs i)) (λ e. all-some (subst (ValueType vunit) (sym (no-cell i e)) v-unit))
+  cell-all i = cond-all (isKind rs i cellK) (λ e. value-all ws i (cellType rs i)) (λ e. all-some (subst (ValueType vunit) (sym (no-cell i e)) v-unit))
 
   store-all : (n : ℕ) → All (λ s. ValueTypes s (cellTypes rs n)) (readStore rs ws n)
   unfolding readStore cellTypes
@@ -211,12 +204,12 @@ module _ (rs ws : List ℕ) where
     long = types-length h ∙ cells-long n
 
     cell-held : (k : ℕ) → k < n → cellAt rs ws k ≡ some (getD s k vunit)
-    cell-held k l = by (eqb (word rs k 0) 10) refl
+    cell-held k l = by (isKind rs k cellK) refl
       where
         typed : ValueType (getD s k vunit) (cellType rs k)
         typed = subst (ValueType (getD s k vunit)) (cell-type-at n k l) (typed-at h k)
 
-        by : (b : Bool) → eqb (word rs k 0) 10 ≡ b → cond b (valueAt ws k (cellType rs k)) (some vunit) ≡ some (getD s k vunit)
+        by : (b : Bool) → isKind rs k cellK ≡ b → cond b (readValue ws k (cellType rs k)) (some vunit) ≡ some (getD s k vunit)
         by true e = value-read (w .cells k (eqb-true _ _ e)) typed (cell-small k)
         by false e = ap some (sym (only-unit typed (no-cell k e)))
 
@@ -244,7 +237,7 @@ same-self (x ∷ xs) = let e = same-self xs in let f = eq-eqb x x refl in rw (f,
 
 -- ---- states
 
-module _ (rs : List ℕ) (n : ℕ) (a : Accepted rs n) (ws : List ℕ) where
+module _ (rs : List ℕ) (n : ℕ) (a : AcceptedRows rs n) (ws : List ℕ) where
   -- the words are the writing of a well-typed task and store
   pub record Written (t : TaskOf (a .code)) (s : Store) : Type 0 where
     pub typed : TaskType (a .cells) [] (a .code) t (a .type)

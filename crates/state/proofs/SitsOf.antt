@@ -1,7 +1,7 @@
 -- In accepted rows the code of the last row sits there, and whatever safety asks is so: what the calls of a flow start from.
 -- Rests on rows' Accepted.
 use mathlib.Core.Path.{_≡_, refl, sym, _∙_, subst}
-use mathlib.Core.Logic.{_⊎_, inl, inr, ⊎-elim}
+use mathlib.Core.Logic.{inl, inr, ⊎-elim}
 use mathlib.Core.List.{List, []}
 use Prim.Native.Nat.{ℕ, suc, _+_, _*_, _-_, _≤_, _<_}
 use native.Mathlib.Decide.{decLt}
@@ -9,25 +9,22 @@ use native.Mathlib.Omega.{arith}
 use native.Mathlib.Numerals.{add-one}
 use lib.ListN.{length}
 use Rattle.tophat.specs.Syntax.{Ty, Exp, Code, edit, enter, update, then, next, fail, and, or, xor, if, let', TaskOf, Store}
-use Rattle.tophat.specs.Typing.{ValueTypes, v-nil, TaskType}
-use Rattle.tophat.proofs.TypeLeaves.{AllSmall, small-nil}
-use Rattle.rows.specs.Kinds.{Kind, cellK, eunitK, etruthK, enumberK, ebinderK, eopK, ifK, epairK, efstK, esndK, ederefK, eassignK, letK}
-use Rattle.rows.specs.Kinds.{editK, enterK, updateK, thenK, nextK, failK, andK, orK, xorK}
-use Rattle.rows.specs.Rows.{maxRows, word, kindAt, opA, opB, opC}
+use Rattle.tophat.specs.Typing.{ValueTypes, v-nil, TaskType, small-nil}
+use Rattle.rows.specs.Rows.{maxRows, word, opA, opB, opC, LowWords}
 use Rattle.rows.specs.Enclosing.{maxBinders}
 use Rattle.rows.specs.Trees.{ReadsCell, r-cell, ReadsExp, r-eunit, r-etruth, r-enumber, r-ebinder, r-eop, r-eif, r-epair, r-efst, r-esnd, r-ederef, r-eassign, r-elet}
-use Rattle.rows.specs.Trees.{ReadsCode, r-edit, r-enter, r-update, r-then, r-next, r-fail, r-and, r-or, r-xor, r-if, r-let, Cells}
-use Rattle.rows.proofs.KindNumbers.{kindNumber, kind-is}
-use Rattle.rows.proofs.LowWords.{LowWords}
-use Rattle.rows.proofs.Binders.{FitsExp, FitsCode}
-use Rattle.rows.proofs.TaskFoot.{TaskFoot, Split as Apart, Beside, Splits}
+use Rattle.rows.specs.Trees.{ReadsCode, r-edit, r-enter, r-update, r-then, r-next, r-fail, r-and, r-or, r-xor, r-if, r-let}
+use Rattle.rows.specs.Fits.{FitsExp, FitsCode}
+use Rattle.rows.proofs.TaskFoot.{TaskFoot, Split as Apart, Splits}
 use Rattle.rows.proofs.CellsAt.{cells-small}
-use Rattle.rows.proofs.Accepted.{Accepted}
+use Rattle.rows.specs.Accepted.{AcceptedRows}
+use Rattle.rows.proofs.Accepted.{facts}
 use Rattle.state.specs.Layout.{stateWords, encode}
-use Rattle.state.specs.Holds.{treeOf, Foot, Off, Split, Cell, SitsExp, Sits, Stores, World}
+use Rattle.state.specs.Holds.{treeOf, Foot, Split, Cell, SitsExp, Sits, Stores, World}
 use Rattle.state.specs.Contracts.{Fine}
 use Rattle.state.proofs.Writes.{Within}
-use Rattle.state.proofs.Encode.{Writing, encode-writing, writing-one}
+use Rattle.state.proofs.Encode.{encode-writing, writing-one}
+use Rattle.state.specs.Writing.{Writing}
 use Rattle.state.proofs.OneState.{holds-one, stores-one}
 use Rattle.state.proofs.Typed.{fits-typed, store-short}
 
@@ -35,28 +32,22 @@ under-binder : (d : ℕ) (b : Code) → FitsCode (suc d) b → FitsCode (d + 1) 
 under-binder d b f = subst (λ m. FitsCode m b) (sym (add-one d)) f
 
 module _ (rs : List ℕ) where
-  -- the number of a row's kind
-  numbered : (i : ℕ) (κ : Kind) → kindAt rs i ≡ κ → kindNumber κ < 49 → word rs i 0 ≡ kindNumber κ
-  numbered i κ e h = kind-is (word rs i 0) κ e h
-
   cell : {i : ℕ} {τ : Ty} → ReadsCell rs i τ → Cell rs i
-  unfolding kindNumber
-  cell {i} (r-cell k x d) = numbered i cellK k (omega arith)
+  cell (r-cell k x d) = k
 
   pub sits-exp : (d : ℕ) {i : ℕ} {e : Exp} → ReadsExp rs i e → FitsExp d e → SitsExp rs d i e
-  unfolding kindNumber
-  sits-exp d {i} (r-eunit k) f = numbered i eunitK k (omega arith)
-  sits-exp d {i} (r-etruth k) f = (numbered i etruthK k (omega arith), refl)
-  sits-exp d {i} (r-enumber k) f = (numbered i enumberK k (omega arith), refl)
-  sits-exp d {i} (r-ebinder k) f = (numbered i ebinderK k (omega arith), refl)
-  sits-exp d {i} (r-eop k x y a b) f = (numbered i eopK k (omega arith), refl, sits-exp d a (f .0), sits-exp d b (f .1))
-  sits-exp d {i} (r-eif k x y z e a b) f = (numbered i ifK k (omega arith), sits-exp d e (f .0), sits-exp d a (f .1), sits-exp d b (f .2))
-  sits-exp d {i} (r-epair k x y a b) f = (numbered i epairK k (omega arith), sits-exp d a (f .0), sits-exp d b (f .1))
-  sits-exp d {i} (r-efst k x a) f = (numbered i efstK k (omega arith), sits-exp d a f)
-  sits-exp d {i} (r-esnd k x a) f = (numbered i esndK k (omega arith), sits-exp d a f)
-  sits-exp d {i} (r-ederef k x c) f = (numbered i ederefK k (omega arith), refl, cell c)
-  sits-exp d {i} (r-eassign k x y c a) f = (numbered i eassignK k (omega arith), refl, cell c, sits-exp d a f)
-  sits-exp d {i} (r-elet {b = b} k x y a g) f = (numbered i letK k (omega arith), sits-exp d a (f .0), sits-exp (d + 1) g (subst (λ m. FitsExp m b) (sym (add-one d)) (f .2)), f .1)
+  sits-exp d (r-eunit k) f = k
+  sits-exp d (r-etruth k) f = (k, refl)
+  sits-exp d (r-enumber k) f = (k, refl)
+  sits-exp d (r-ebinder k) f = (k, refl)
+  sits-exp d (r-eop k x y a b) f = (k, refl, sits-exp d a (f .0), sits-exp d b (f .1))
+  sits-exp d (r-eif k x y z e a b) f = (k, sits-exp d e (f .0), sits-exp d a (f .1), sits-exp d b (f .2))
+  sits-exp d (r-epair k x y a b) f = (k, sits-exp d a (f .0), sits-exp d b (f .1))
+  sits-exp d (r-efst k x a) f = (k, sits-exp d a f)
+  sits-exp d (r-esnd k x a) f = (k, sits-exp d a f)
+  sits-exp d (r-ederef k x c) f = (k, refl, cell c)
+  sits-exp d (r-eassign k x y c a) f = (k, refl, cell c, sits-exp d a f)
+  sits-exp d (r-elet {b = b} k x y a g) f = (k, sits-exp d a (f .0), sits-exp (d + 1) g (subst (λ m. FitsExp m b) (sym (add-one d)) (f .2)), f .1)
 
   -- the rows of a tree are the task rows of its code
   tree-foot : (i : ℕ) (c : Code) (j : ℕ) → Foot rs i (treeOf c) j → TaskFoot rs i c j
@@ -80,25 +71,24 @@ module _ (rs : List ℕ) where
   }
 
   pub sits : (d : ℕ) {i : ℕ} {c : Code} → ReadsCode rs i c → FitsCode d c → Splits rs i c → Sits rs d i c
-  unfolding kindNumber
-  sits d {i} (r-edit k x a) f s = (numbered i editK k (omega arith), sits-exp d a f)
-  sits d {i} (r-enter k x t) f s = (numbered i enterK k (omega arith), t)
-  sits d {i} (r-update k x c) f s = (numbered i updateK k (omega arith), refl, cell c)
-  sits d {i} (r-then {a = a} {b = b} k x y g h) f s = (numbered i thenK k (omega arith), sits d g (f .0) (s .1), sits (d + 1) h (under-binder d b (f .2)) (s .2), split i 1 2 a b (s .0), f .1)
-  sits d {i} (r-next {a = a} {b = b} k x y g h) f s = (numbered i nextK k (omega arith), sits d g (f .0) (s .1), sits (d + 1) h (under-binder d b (f .2)) (s .2), split i 1 2 a b (s .0), f .1)
-  sits d {i} (r-fail k x t) f s = numbered i failK k (omega arith)
-  sits d {i} (r-and {a = a} {b = b} k x y g h) f s = (numbered i andK k (omega arith), sits d g (f .0) (s .1), sits d h (f .1) (s .2), split i 1 2 a b (s .0))
-  sits d {i} (r-or {a = a} {b = b} k x y g h) f s = (numbered i orK k (omega arith), sits d g (f .0) (s .1), sits d h (f .1) (s .2), split i 1 2 a b (s .0))
-  sits d {i} (r-xor {a = a} {b = b} k x y g h) f s = (numbered i xorK k (omega arith), sits d g (f .0) (s .1), sits d h (f .1) (s .2), split i 1 2 a b (s .0))
-  sits d {i} (r-if {b = a} {c = b} k x y z e g h) f s = (numbered i ifK k (omega arith), sits-exp d e (f .0), sits d g (f .1) (s .1), sits d h (f .2) (s .2), split i 2 3 a b (s .0))
+  sits d (r-edit k x a) f s = (k, sits-exp d a f)
+  sits d (r-enter k x t) f s = (k, t)
+  sits d (r-update k x c) f s = (k, refl, cell c)
+  sits d {i} (r-then {a = a} {b = b} k x y g h) f s = (k, sits d g (f .0) (s .1), sits (d + 1) h (under-binder d b (f .2)) (s .2), split i 1 2 a b (s .0), f .1)
+  sits d {i} (r-next {a = a} {b = b} k x y g h) f s = (k, sits d g (f .0) (s .1), sits (d + 1) h (under-binder d b (f .2)) (s .2), split i 1 2 a b (s .0), f .1)
+  sits d (r-fail k x t) f s = k
+  sits d {i} (r-and {a = a} {b = b} k x y g h) f s = (k, sits d g (f .0) (s .1), sits d h (f .1) (s .2), split i 1 2 a b (s .0))
+  sits d {i} (r-or {a = a} {b = b} k x y g h) f s = (k, sits d g (f .0) (s .1), sits d h (f .1) (s .2), split i 1 2 a b (s .0))
+  sits d {i} (r-xor {a = a} {b = b} k x y g h) f s = (k, sits d g (f .0) (s .1), sits d h (f .1) (s .2), split i 1 2 a b (s .0))
+  sits d {i} (r-if {b = a} {c = b} k x y z e g h) f s = (k, sits-exp d e (f .0), sits d g (f .1) (s .1), sits d h (f .2) (s .2), split i 2 3 a b (s .0))
   sits d {i} (r-let {b = b} k x y e g) f s =
-      (numbered i letK k (omega arith), sits-exp d e (f .0), sits (d + 1) g (under-binder d b (f .2)) (s .1), record { off = λ j h. s .0 .below j (tree-foot (opB rs i) b j h) }, f .1)
+      (k, sits-exp d e (f .0), sits (d + 1) g (under-binder d b (f .2)) (s .1), record { off = λ j h. s .0 .below j (tree-foot (opB rs i) b j h) }, f .1)
 
 -- ---- accepted rows, in an array whose other rows are of kind 0
 
-module _ (rs : List ℕ) (n : ℕ) (a : Accepted rs n) where
+module _ (rs : List ℕ) (n : ℕ) (a : AcceptedRows rs n) where
   pub last-sits : Sits rs 0 (n - 1) (a .code)
-  last-sits = sits rs 0 (a .flow .code) (a .binders) (a .apart)
+  last-sits = sits rs 0 (a .flow .code) (facts a .binders) (facts a .apart)
 
   module _ (rest : (j : ℕ) → n ≤ j → word rs j 0 ≡ 0) where
     pub within : Within rs n
@@ -112,7 +102,7 @@ module _ (rs : List ℕ) (n : ℕ) (a : Accepted rs n) where
     fine i d l h = record { low = l; room = h; lower = λ j m. by j (decLt j n) }
       where
         by : (j : ℕ) → Dec (j < n) → LowWords rs j
-        by j (yes k) = a .low j k
+        by j (yes k) = facts a .low j k
         by j (no m) =
             let z = rest j (omega arith) in
             record { lowA = λ h. absurd (omega arith); lowB = λ h. absurd (omega arith); lowC = λ h. absurd (omega arith) }

@@ -1,13 +1,12 @@
--- Typed tasks and stores fit their rows: every value has at most four leaves. Rests on Writes and the calculus' typing.
-use mathlib.Core.Path.{_≡_, refl, sym, ap}
-use mathlib.Core.List.{List, [], _∷_}
+-- Typed tasks and stores fit their rows: every value has at most `maxLeaves` leaves. Rests on Writes and the calculus' typing.
+use mathlib.Core.List.{List}
 use Prim.Native.Nat.{ℕ, zero, suc, _≤_}
 use native.Mathlib.Omega.{arith}
-use lib.ListN.{length, getD}
+use lib.ListN.{getD}
 use Rattle.tophat.specs.Syntax.{maxLeaves, Ty, leaves, Code, Val, vunit, TaskOf, Store}
-use Rattle.tophat.specs.Typing.{ValueType, v-unit, ValueTypes, v-nil, v-cons, TaskType, k-filled, k-blank, k-entered, k-shared, k-then-before, k-then-after, k-next-before, k-next-after}
+use Rattle.tophat.specs.Typing.{ValueType, v-unit, ValueTypes, v-nil, v-cons, TaskType, k-filled, k-blank, k-entered, k-shared, k-then-before, k-then-after, k-next-before, k-next-after, AllSmall, small-cons}
 use Rattle.tophat.specs.Typing.{k-failed, k-both, k-either, k-or-left, k-or-right, k-unpicked, k-picked-left, k-picked-right, k-if-true, k-if-false, k-bound}
-use Rattle.tophat.proofs.TypeLeaves.{AllSmall, small-cons, type-leaves, task-type-leaves}
+use Rattle.tophat.proofs.TypeLeaves.{type-leaves, task-type-leaves}
 use Rattle.state.specs.Layout.{valueWords}
 use Rattle.state.proofs.Words.{length-bits}
 use Rattle.state.proofs.Writes.{Short, Fits}

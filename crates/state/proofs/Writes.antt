@@ -1,58 +1,41 @@
 -- A task written into rows of zeros (`writeTask`): the rows of the task hold it, and no other row differs. Rests on Frames.
-use mathlib.Core.Path.{_≡_, refl, sym, ap, _∙_}
+use mathlib.Core.Path.{_≡_, refl, sym, _∙_, subst}
 use mathlib.Core.Logic.{inl, inr}
-use mathlib.Core.List.{List, [], _∷_}
-use Prim.Native.Nat.{ℕ, zero, suc, _+_, _*_, _≤_, _<_}
-use native.Mathlib.Decide.{decLt}
+use mathlib.Core.List.{List, [], _∷_, _++_, append-nil}
+use Prim.Native.Nat.{ℕ, suc, _+_, _*_, _≤_, _<_}
 use native.Mathlib.Omega.{arith}
-use lib.ListN.{length, getD, set, length-set, List·getD-eq-default}
-use lib.Seq.{getD-set-same, getD-set-other}
+use lib.ListN.{length, set, length-set, length-append}
+use lib.Seq.{getD-set-same, append-snoc}
 use Rattle.tophat.specs.Syntax.{Code, edit, enter, update, then, next, fail, and, or, xor, if, let', Val}
 use Rattle.tophat.specs.Syntax.{TaskOf, filled, blank, entered, shared, before, after, failed, both, either, orLeft, orRight, unpicked, pickedLeft, pickedRight, ifTrue, ifFalse, bound}
-use Rattle.rows.specs.Rows.{word, opA, opB, opC}
-use Rattle.state.specs.Layout.{stateWords, place, at, valueWords, own, one, other, putWords, writeTask}
+use Rattle.rows.specs.Kinds.{cellK}
+use Rattle.rows.specs.Rows.{word, opA, opB, opC, FromKind}
+use Rattle.state.specs.Layout.{stateWords, place, valueWords, own, one, other, putWords, writeTask}
 use Rattle.state.specs.Holds.{leaf, under, fork, treeOf, Foot, Off, Split, Sits, Row, Clear, Holds, Same}
-use Rattle.state.specs.Words.{Stored, Laid}
-use Rattle.state.proofs.Frames.{same-trans, same-weak, same-row, laid-same, keeps, keeps-laid, clear-kept, holds-kept, placed, foot-self, foot-high}
+use Rattle.state.specs.Words.{Laid}
+use Rattle.state.proofs.Words.{place-in, put-is, laid-more}
+use Rattle.state.proofs.Frames.{same-refl, same-trans, same-weak, same-row, laid-same, keeps, keeps-laid, clear-kept, holds-kept, placed, foot-self, foot-high}
 
 -- ---- a row of zeros, and words put into it
-
-past : (xs : List ℕ) (m : ℕ) → length xs ≤ m → getD xs m 0 ≡ 0
-past xs m h = List·getD-eq-default xs 0 h
 
 pub put-long : (xs : List ℕ) (ws : List ℕ) (i m : ℕ) → length (putWords ws i m xs) ≡ length ws
 unfolding putWords
 put-long [] ws i m = refl
 put-long (x ∷ xs) ws i m = put-long xs (set ws (place i m) x) i (suc m) ∙ length-set ws (place i m) x
 
-put-stored : (xs : List ℕ) (ws : List ℕ) (i m : ℕ) → place i m + length xs ≤ length ws → Stored ws (putWords ws i m xs) (place i m) xs (length xs)
-unfolding putWords
-put-stored [] ws i m h = record { new = λ k l. absurd (omega arith); old = λ q n. refl }
-put-stored (x ∷ xs) ws i m h =
-    let e = length-set ws (place i m) x in
-    let s = put-stored xs (set ws (place i m) x) i (suc m) (omega arith) in
-    record {
-      new = new-at s;
-      old = λ q n. s .old q (λ g l. n (omega arith) (omega arith)) ∙ getD-set-other ws (place i m) q x 0 (λ z. n (omega arith) (omega arith));
-    }
-  where
-    new-at : Stored (set ws (place i m) x) (putWords (set ws (place i m) x) i (suc m) xs) (place i (suc m)) xs (length xs)
-        → (k : ℕ) → k < suc (length xs) → getD (putWords (set ws (place i m) x) i (suc m) xs) (place i m + k) 0 ≡ getD (x ∷ xs) k 0
-    new-at s zero l = s .old (place i m + 0) (λ g z. omega arith) ∙ ap (λ p. getD (set ws (place i m) x) p 0) (omega arith) ∙ getD-set-same ws (place i m) x 0 (omega arith)
-    new-at s (suc k) l = let e : place i m + suc k ≡ place i (suc m) + k = omega arith in ap (λ p. getD (putWords (set ws (place i m) x) i (suc m) xs) p 0) e ∙ s .new k (omega arith)
-
 -- words put into a row of zeros
 pub put-laid : (xs : List ℕ) {ws : List ℕ} {i : ℕ} (n : ℕ) → length xs ≤ stateWords → length ws ≡ n * stateWords → i < n → Row ws i [] → Laid ws (putWords ws i 0 xs) i xs
-put-laid xs {ws} {i} n h e l r =
-    let s = put-stored xs ws i 0 (omega arith) in
-    record {
-      row = record { words = λ m g. by s m g (decLt m (length xs)) };
-      same = record { words = λ j m g k. s .old (place j m) (λ a b. k (omega arith)) };
-    }
+unfolding putWords
+put-laid xs {ws} {i} n h e l r = after [] xs ws 0 refl (omega arith) e (record { row = r; same = same-refl })
   where
-    by : Stored ws (putWords ws i 0 xs) (place i 0) xs (length xs) → (m : ℕ) → m < stateWords → Dec (m < length xs) → at (putWords ws i 0 xs) i m ≡ getD xs m 0
-    by s m g (yes a) = let e : place i m ≡ place i 0 + m = omega arith in ap (λ p. getD (putWords ws i 0 xs) p 0) e ∙ s .new m a
-    by s m g (no a) = s .old (place i m) (λ b c. a (omega arith)) ∙ r .words m g ∙ sym (past xs m (omega arith))
+    -- after the words ys
+    after : (ys zs : List ℕ) (ws₁ : List ℕ) (m : ℕ) → m ≡ length ys → m + length zs ≤ stateWords → length ws₁ ≡ n * stateWords → Laid ws ws₁ i ys → Laid ws (putWords ws₁ i m zs) i (ys ++ zs)
+    after ys [] ws₁ m k g z p = subst (Laid ws ws₁ i) (sym (append-nil ys)) p
+    after ys (x ∷ zs) ws₁ m k g z p =
+        let ws₂ = set ws₁ (place i m) x in
+        let q : Laid ws ws₂ i (ys ++ x ∷ []) = laid-more k (put-is (omega arith) refl (getD-set-same ws₁ (place i m) x 0 (subst (λ v. place i m < v) (sym z) (place-in n i m l (omega arith))))) p in
+        let w = length-append ys (x ∷ []) in
+        subst (Laid ws (putWords ws₂ i (suc m) zs) i) (append-snoc ys x zs) (after (ys ++ x ∷ []) zs ws₂ (suc m) (omega arith) (omega arith) (length-set ws₁ (place i m) x ∙ z) q)
 
 -- ---- values that fit their row
 
@@ -176,7 +159,7 @@ module _ (rs : List ℕ) (n i : ℕ) (l : i < n) (xs : List ℕ) (h : length xs 
 
 -- the rows of kind 10 or more are among the first n
 abbrev pub Within : List ℕ → ℕ → Type 0
-Within rs n = (j : ℕ) → 10 ≤ word rs j 0 → j < n
+Within rs n = (j : ℕ) → FromKind rs j cellK → j < n
 
 module _ (rs : List ℕ) (n : ℕ) (within : Within rs n) where
   low : (d i : ℕ) (c : Code) → Sits rs d i c → i < n

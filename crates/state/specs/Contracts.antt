@@ -7,19 +7,18 @@ use mathlib.Core.List.{List}
 use Prim.Native.Nat.{ℕ, _<_, _≤_}
 use Rattle.decimal.specs.Path.{Path}
 use Rattle.tophat.specs.Syntax.{Ty, Exp, Code, Val, TaskOf, Env, Store}
-use Rattle.tophat.specs.Typing.{HasType, CodeType, TaskType, ValueTypes}
+use Rattle.tophat.specs.Typing.{HasType, CodeType, TaskType, ValueTypes, AllSmall}
 use Rattle.tophat.specs.Normalising.{value}
 use Rattle.tophat.specs.Handling.{Action}
-use Rattle.tophat.proofs.TypeLeaves.{AllSmall}
 use Rattle.tophat.proofs.ComputeEvaluation.{eval, evaluate}
 use Rattle.tophat.proofs.ComputeNormalising.{failing, stride, normalise}
 use Rattle.tophat.proofs.ComputeHandling.{handle}
-use Rattle.rows.specs.Rows.{maxRows}
+use Rattle.rows.specs.Rows.{maxRows, LowWords}
 use Rattle.rows.specs.Enclosing.{maxBinders}
-use Rattle.rows.proofs.LowWords.{LowWords}
 use Rattle.value.specs.declared.Value.{Value}
 use Rattle.value.specs.declared.Found.{Found}
-use Rattle.value.specs.Values.{asValue, asFound}
+use Rattle.value.specs.Values.{asValue}
+use Rattle.value.specs.Found.{asFound}
 use Rattle.state.specs.Holds.{SitsExp, Sits, treeOf, Foot, Clear, Holds, Cell, Stores, Same, World, Ran}
 
 -- ---- what safety asks: a row, at most 16 binders, and operands that are lower

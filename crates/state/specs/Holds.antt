@@ -9,12 +9,12 @@ use lib.Dec.{eqb}
 use lib.ListN.{length, getD}
 use mir.Syntax.{w32}
 use mir.Val.{toZ}
-use Rattle.tophat.specs.Syntax.{Ty, Exp, eunit, etruth, enumber, ebinder, eop, eif, epair, efst, esnd, ederef, eassign, elet}
-use Rattle.tophat.specs.Syntax.{Code, edit, enter, update, then, next, fail, and, or, xor, if, let', Val, vunit, Env, Store}
+use Rattle.tophat.specs.Syntax.{maxLeaves, Ty, Exp, eunit, etruth, enumber, ebinder, eop, eif, epair, efst, esnd, ederef, eassign, elet}
+use Rattle.tophat.specs.Syntax.{Code, edit, enter, update, then, next, fail, and, or, xor, if, let', vunit, Env, Store}
 use Rattle.tophat.specs.Syntax.{TaskOf, filled, blank, entered, shared, before, after, failed, both, either, orLeft, orRight, unpicked, pickedLeft, pickedRight, ifTrue, ifFalse, bound}
-use Rattle.tophat.specs.Typing.{ValueTypes}
-use Rattle.tophat.proofs.TypeLeaves.{AllSmall}
-use Rattle.rows.specs.Rows.{word, opA, opB, opC}
+use Rattle.tophat.specs.Typing.{ValueTypes, AllSmall}
+use Rattle.rows.specs.Kinds.{cellK, plainK, eunitK, etruthK, enumberK, ebinderK, eopK, epairK, efstK, esndK, ederefK, eassignK, eitherK, ifK, letK, taskK, editK, enterK, updateK, thenK, nextK, failK, andK, orK, xorK}
+use Rattle.rows.specs.Rows.{word, opA, opB, opC, OfKind}
 use Rattle.rows.specs.Enclosing.{maxBinders}
 use Rattle.rows.specs.Trees.{ReadsType, operatorOf}
 use Rattle.state.specs.Layout.{stateWords, at, own, one, other, valueWords}
@@ -58,34 +58,34 @@ pub record Split (rs : List ℕ) (i k : ℕ) (x : Tree) (l : ℕ) (y : Tree) : T
 -- ---- where a code sits: row i is the expression e, the code c, under d binders
 
 abbrev pub Cell : List ℕ → ℕ → Type 0
-Cell rs j = word rs j 0 ≡ 10
+Cell rs j = OfKind rs j cellK
 
 abbrev pub SitsExp : List ℕ → ℕ → ℕ → Exp → Type 0
-SitsExp rs d i eunit = word rs i 0 ≡ 20
-SitsExp rs d i (etruth b) = (word rs i 0 ≡ 21) × (eqb (opA rs i) 1 ≡ b)
-SitsExp rs d i (enumber z) = (word rs i 0 ≡ 22) × (toZ w32 (opA rs i) ≡ z)
-SitsExp rs d i (ebinder k) = (word rs i 0 ≡ 23) × (opA rs i ≡ k)
-SitsExp rs d i (eop o a b) = (word rs i 0 ≡ 24) × (operatorOf (opA rs i) ≡ o) × SitsExp rs d (opB rs i) a × SitsExp rs d (opC rs i) b
-SitsExp rs d i (eif e a b) = (word rs i 0 ≡ 25) × SitsExp rs d (opA rs i) e × SitsExp rs d (opB rs i) a × SitsExp rs d (opC rs i) b
-SitsExp rs d i (epair a b) = (word rs i 0 ≡ 26) × SitsExp rs d (opA rs i) a × SitsExp rs d (opB rs i) b
-SitsExp rs d i (efst a) = (word rs i 0 ≡ 27) × SitsExp rs d (opA rs i) a
-SitsExp rs d i (esnd a) = (word rs i 0 ≡ 28) × SitsExp rs d (opA rs i) a
-SitsExp rs d i (ederef k) = (word rs i 0 ≡ 29) × (opA rs i ≡ k) × Cell rs k
-SitsExp rs d i (eassign k a) = (word rs i 0 ≡ 30) × (opA rs i ≡ k) × Cell rs k × SitsExp rs d (opB rs i) a
-SitsExp rs d i (elet a b) = (word rs i 0 ≡ 31) × SitsExp rs d (opA rs i) a × SitsExp rs (d + 1) (opB rs i) b × (d < maxBinders)
+SitsExp rs d i eunit = OfKind rs i (plainK eunitK)
+SitsExp rs d i (etruth b) = OfKind rs i (plainK etruthK) × (eqb (opA rs i) 1 ≡ b)
+SitsExp rs d i (enumber z) = OfKind rs i (plainK enumberK) × (toZ w32 (opA rs i) ≡ z)
+SitsExp rs d i (ebinder k) = OfKind rs i (plainK ebinderK) × (opA rs i ≡ k)
+SitsExp rs d i (eop o a b) = OfKind rs i (plainK eopK) × (operatorOf (opA rs i) ≡ o) × SitsExp rs d (opB rs i) a × SitsExp rs d (opC rs i) b
+SitsExp rs d i (eif e a b) = OfKind rs i (eitherK ifK) × SitsExp rs d (opA rs i) e × SitsExp rs d (opB rs i) a × SitsExp rs d (opC rs i) b
+SitsExp rs d i (epair a b) = OfKind rs i (plainK epairK) × SitsExp rs d (opA rs i) a × SitsExp rs d (opB rs i) b
+SitsExp rs d i (efst a) = OfKind rs i (plainK efstK) × SitsExp rs d (opA rs i) a
+SitsExp rs d i (esnd a) = OfKind rs i (plainK esndK) × SitsExp rs d (opA rs i) a
+SitsExp rs d i (ederef k) = OfKind rs i (plainK ederefK) × (opA rs i ≡ k) × Cell rs k
+SitsExp rs d i (eassign k a) = OfKind rs i (plainK eassignK) × (opA rs i ≡ k) × Cell rs k × SitsExp rs d (opB rs i) a
+SitsExp rs d i (elet a b) = OfKind rs i (eitherK letK) × SitsExp rs d (opA rs i) a × SitsExp rs (d + 1) (opB rs i) b × (d < maxBinders)
 
 abbrev pub Sits : List ℕ → ℕ → ℕ → Code → Type 0
-Sits rs d i (edit e) = (word rs i 0 ≡ 40) × SitsExp rs d (opA rs i) e
-Sits rs d i (enter τ) = (word rs i 0 ≡ 41) × ReadsType rs (opA rs i) τ
-Sits rs d i (update k) = (word rs i 0 ≡ 42) × (opA rs i ≡ k) × Cell rs k
-Sits rs d i (then a b) = (word rs i 0 ≡ 43) × Sits rs d (opA rs i) a × Sits rs (d + 1) (opB rs i) b × Split rs i 1 (treeOf a) 2 (treeOf b) × (d < maxBinders)
-Sits rs d i (next a b) = (word rs i 0 ≡ 44) × Sits rs d (opA rs i) a × Sits rs (d + 1) (opB rs i) b × Split rs i 1 (treeOf a) 2 (treeOf b) × (d < maxBinders)
-Sits rs d i (fail τ) = word rs i 0 ≡ 45
-Sits rs d i (and a b) = (word rs i 0 ≡ 46) × Sits rs d (opA rs i) a × Sits rs d (opB rs i) b × Split rs i 1 (treeOf a) 2 (treeOf b)
-Sits rs d i (or a b) = (word rs i 0 ≡ 47) × Sits rs d (opA rs i) a × Sits rs d (opB rs i) b × Split rs i 1 (treeOf a) 2 (treeOf b)
-Sits rs d i (xor a b) = (word rs i 0 ≡ 48) × Sits rs d (opA rs i) a × Sits rs d (opB rs i) b × Split rs i 1 (treeOf a) 2 (treeOf b)
-Sits rs d i (if e a b) = (word rs i 0 ≡ 25) × SitsExp rs d (opA rs i) e × Sits rs d (opB rs i) a × Sits rs d (opC rs i) b × Split rs i 2 (treeOf a) 3 (treeOf b)
-Sits rs d i (let' e b) = (word rs i 0 ≡ 31) × SitsExp rs d (opA rs i) e × Sits rs (d + 1) (opB rs i) b × Off rs i 2 (treeOf b) × (d < maxBinders)
+Sits rs d i (edit e) = OfKind rs i (taskK editK) × SitsExp rs d (opA rs i) e
+Sits rs d i (enter τ) = OfKind rs i (taskK enterK) × ReadsType rs (opA rs i) τ
+Sits rs d i (update k) = OfKind rs i (taskK updateK) × (opA rs i ≡ k) × Cell rs k
+Sits rs d i (then a b) = OfKind rs i (taskK thenK) × Sits rs d (opA rs i) a × Sits rs (d + 1) (opB rs i) b × Split rs i 1 (treeOf a) 2 (treeOf b) × (d < maxBinders)
+Sits rs d i (next a b) = OfKind rs i (taskK nextK) × Sits rs d (opA rs i) a × Sits rs (d + 1) (opB rs i) b × Split rs i 1 (treeOf a) 2 (treeOf b) × (d < maxBinders)
+Sits rs d i (fail τ) = OfKind rs i (taskK failK)
+Sits rs d i (and a b) = OfKind rs i (taskK andK) × Sits rs d (opA rs i) a × Sits rs d (opB rs i) b × Split rs i 1 (treeOf a) 2 (treeOf b)
+Sits rs d i (or a b) = OfKind rs i (taskK orK) × Sits rs d (opA rs i) a × Sits rs d (opB rs i) b × Split rs i 1 (treeOf a) 2 (treeOf b)
+Sits rs d i (xor a b) = OfKind rs i (taskK xorK) × Sits rs d (opA rs i) a × Sits rs d (opB rs i) b × Split rs i 1 (treeOf a) 2 (treeOf b)
+Sits rs d i (if e a b) = OfKind rs i (eitherK ifK) × SitsExp rs d (opA rs i) e × Sits rs d (opB rs i) a × Sits rs d (opC rs i) b × Split rs i 2 (treeOf a) 3 (treeOf b)
+Sits rs d i (let' e b) = OfKind rs i (eitherK letK) × SitsExp rs d (opA rs i) e × Sits rs (d + 1) (opB rs i) b × Off rs i 2 (treeOf b) × (d < maxBinders)
 
 -- ---- words that hold a task and a store
 
@@ -132,13 +132,20 @@ Area rs i c j = Foot rs i (treeOf c) j ⊎ Cell rs j
 
 -- ---- environments: the value of the binder at depth k stands at its place among binder values, the outermost first
 
--- words of a value: its shape and four leaves
+-- words of a value: its shape and its leaves
 abbrev pub valueLength : ℕ
-valueLength = 5
+valueLength = 1 + maxLeaves
+
+-- where word m of the value in slot k stands, and the word
+abbrev pub slotPlace : ℕ → ℕ → ℕ
+slotPlace k m = k * valueLength + m
+
+abbrev pub slot : List ℕ → ℕ → ℕ → ℕ
+slot env k m = getD env (slotPlace k m) 0
 
 pub record Binders (env : List ℕ) (d : ℕ) (ρ : Env) : Type 0 where
   pub count : length ρ ≡ d
-  pub values : (k m : ℕ) → k < d → m < valueLength → getD env ((d - 1 - k) * valueLength + m) 0 ≡ getD (valueWords (getD ρ k vunit)) m 0
+  pub values : (k m : ℕ) → k < d → m < valueLength → slot env (d - 1 - k) m ≡ getD (valueWords (getD ρ k vunit)) m 0
 
 -- ---- what a call is given, and what it leaves
 

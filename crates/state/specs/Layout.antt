@@ -1,17 +1,17 @@
 -- The layout of a state (docs/STATE.md): 16 words a row, one writing per state. Word 0 of a row is its tag, word 1 the shape
--- of a value, words 2 to 5 the value's leaves; every other word, and every word of a row that is not live, is 0.
+-- of a value, and the value's leaves stand from word 2 on; every other word, and every word of a row that is not live, is 0.
 -- `encode` writes a state. Rests on the calculus' syntax, on rows and on shapes.
 use mathlib.Core.Bool.{cond}
 use mathlib.Core.List.{List, [], _∷_}
 use Prim.Native.Nat.{ℕ, zero, suc, _+_, _*_, _-_}
-use lib.Dec.{eqb}
 use lib.ListN.{getD, set, replicate}
 use Rattle.tophat.specs.Syntax.{Code, edit, enter, update, then, next, fail, and, or, xor, if, let', Val, vunit, Store}
-use Rattle.tophat.specs.Syntax.{TaskOf, filled, blank, entered, shared, before, after, failed, both, either, orLeft, orRight, unpicked, pickedLeft, pickedRight, ifTrue, ifFalse, bound}
-use Rattle.tophat.proofs.ComputeHandling.{typeOf}
+use Rattle.tophat.specs.Syntax.{TaskOf, filled, blank, entered, before, after, both, either, orLeft, orRight, unpicked, pickedLeft, pickedRight, ifTrue, ifFalse, bound}
+use Rattle.tophat.specs.Typing.{typeOf}
 use Rattle.shape.specs.Shape.{asShape}
 use Rattle.value.specs.Values.{leafBits}
-use Rattle.rows.specs.Rows.{word, opA, opB, opC}
+use Rattle.rows.specs.Kinds.{cellK}
+use Rattle.rows.specs.Rows.{opA, opB, opC, isKind}
 
 -- 01: "A state is 16 words a row"
 abbrev pub stateWords : ℕ
@@ -75,7 +75,7 @@ writeTask rs i (let' e b) (bound v u) ws = writeTask rs (opB rs i) b u (valued w
 -- the cells among the first n rows, written into ws: a cell's row holds its content
 unfoldable pub writeCells : List ℕ → ℕ → Store → List ℕ → List ℕ
 writeCells rs zero s ws = ws
-writeCells rs (suc i) s ws = cond (eqb (word rs i 0) 10) (valued (writeCells rs i s ws) i own (getD s i vunit)) (writeCells rs i s ws)
+writeCells rs (suc i) s ws = cond (isKind rs i cellK) (valued (writeCells rs i s ws) i own (getD s i vunit)) (writeCells rs i s ws)
 
 -- the state of n rows whose last row is the code c: the cells' contents s, and the task t
 unfoldable pub encode : List ℕ → ℕ → (c : Code) → TaskOf c → Store → List ℕ

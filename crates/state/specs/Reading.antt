@@ -1,24 +1,23 @@
 -- Which words are the writing of a state (01, ground 22): `decode` reads the cells and the task of the last row from them,
--- each content by its row's type, and asks that nothing else stands there. Rests on Layout and on typing.
+-- each content by its row's type, and asks that nothing else stands there. Rests on Layout, on Words and on typing.
 use mathlib.Core.Bool.{Bool, true, false, _&&_, cond}
-use mathlib.Core.Option.{Option, none, some}
-use mathlib.Core.List.{List, [], _∷_, _++_, map}
+use mathlib.Core.Option.{Option, none, some, bind}
+use mathlib.Core.List.{List, [], _∷_, _++_}
 use Prim.Native.Nat.{ℕ, zero, suc, _-_}
 use lib.Dec.{eqb}
-use mir.Syntax.{w32}
-use mir.Val.{toZ}
 use Rattle.tophat.specs.Syntax.{Ty, Code, edit, enter, update, then, next, fail, and, or, xor, if, let', Val, vunit, Store}
 use Rattle.tophat.specs.Syntax.{TaskOf, filled, blank, entered, shared, before, after, failed, both, either, orLeft, orRight, unpicked, pickedLeft, pickedRight, ifTrue, ifFalse, bound}
-use Rattle.tophat.proofs.ComputeTyping.{bind, infer, inferTask}
-use Rattle.tophat.proofs.ComputeHandling.{given}
-use Rattle.shape.specs.Shape.{asShape}
-use Rattle.rows.specs.Rows.{word, opA, opB, opC}
+use Rattle.tophat.proofs.ComputeTyping.{infer, inferTask}
+use Rattle.value.specs.Fits.{valueIn}
+use Rattle.rows.specs.Kinds.{cellK}
+use Rattle.rows.specs.Rows.{opA, opB, opC, isKind}
 use Rattle.rows.specs.ComputeTrees.{cellType}
 use Rattle.state.specs.Layout.{at, own, one, other, encode}
+use Rattle.state.specs.Words.{valueAt}
 
--- the value of the type that row i holds: its shape, and four leaves that are a value of the type
-unfoldable pub valueAt : List ℕ → ℕ → Ty → Option Val
-valueAt ws i τ = cond (eqb (at ws i 1) (asShape τ)) (given τ (map (toZ w32) (at ws i 2 ∷ at ws i 3 ∷ at ws i 4 ∷ at ws i 5 ∷ []))) none
+-- the value of the type that row i holds
+unfoldable pub readValue : List ℕ → ℕ → Ty → Option Val
+readValue ws i τ = valueIn (valueAt ws i) τ
 
 -- one of three readings, by the row's tag
 unfoldable pub byTag : {X : Type 0} → List ℕ → ℕ → Option X → Option X → Option X → Option X
@@ -26,16 +25,16 @@ byTag ws i x y z = cond (eqb (at ws i 0) own) x (cond (eqb (at ws i 0) one) y (c
 
 -- the task of row i, under binders of the types Γ
 unfoldable pub readTask : List ℕ → List ℕ → List Ty → List Ty → ℕ → (c : Code) → Option (TaskOf c)
-readTask rs ws Σ Γ i (edit e) = byTag ws i (bind (infer Σ Γ e) λ τ. bind (valueAt ws i τ) λ v. some (filled v)) none none
-readTask rs ws Σ Γ i (enter τ) = byTag ws i (some blank) (bind (valueAt ws i τ) λ v. some (entered v)) none
+readTask rs ws Σ Γ i (edit e) = byTag ws i (bind (infer Σ Γ e) λ τ. bind (readValue ws i τ) λ v. some (filled v)) none none
+readTask rs ws Σ Γ i (enter τ) = byTag ws i (some blank) (bind (readValue ws i τ) λ v. some (entered v)) none
 readTask rs ws Σ Γ i (update n) = byTag ws i (some shared) none none
 readTask rs ws Σ Γ i (then a b) = byTag ws i
     (bind (readTask rs ws Σ Γ (opA rs i) a) λ t. some (before t))
-    (bind (inferTask Σ Γ a) λ τ. bind (valueAt ws i τ) λ v. bind (readTask rs ws Σ (τ ∷ Γ) (opB rs i) b) λ u. some (after v u))
+    (bind (inferTask Σ Γ a) λ τ. bind (readValue ws i τ) λ v. bind (readTask rs ws Σ (τ ∷ Γ) (opB rs i) b) λ u. some (after v u))
     none
 readTask rs ws Σ Γ i (next a b) = byTag ws i
     (bind (readTask rs ws Σ Γ (opA rs i) a) λ t. some (before t))
-    (bind (inferTask Σ Γ a) λ τ. bind (valueAt ws i τ) λ v. bind (readTask rs ws Σ (τ ∷ Γ) (opB rs i) b) λ u. some (after v u))
+    (bind (inferTask Σ Γ a) λ τ. bind (readValue ws i τ) λ v. bind (readTask rs ws Σ (τ ∷ Γ) (opB rs i) b) λ u. some (after v u))
     none
 readTask rs ws Σ Γ i (fail τ) = byTag ws i (some failed) none none
 readTask rs ws Σ Γ i (and a b) = byTag ws i
@@ -54,12 +53,12 @@ readTask rs ws Σ Γ i (if e a b) = byTag ws i
     (bind (readTask rs ws Σ Γ (opC rs i) b) λ u. some (ifFalse u))
 readTask rs ws Σ Γ i (let' e b) = byTag ws i
     none
-    (bind (infer Σ Γ e) λ τ. bind (valueAt ws i τ) λ v. bind (readTask rs ws Σ (τ ∷ Γ) (opB rs i) b) λ u. some (bound v u))
+    (bind (infer Σ Γ e) λ τ. bind (readValue ws i τ) λ v. bind (readTask rs ws Σ (τ ∷ Γ) (opB rs i) b) λ u. some (bound v u))
     none
 
 -- the content of row i: a cell's value, unit at any other row
 abbrev pub cellAt : List ℕ → List ℕ → ℕ → Option Val
-cellAt rs ws i = cond (eqb (word rs i 0) 10) (valueAt ws i (cellType rs i)) (some vunit)
+cellAt rs ws i = cond (isKind rs i cellK) (readValue ws i (cellType rs i)) (some vunit)
 
 -- the contents of the first n rows
 unfoldable pub readStore : List ℕ → List ℕ → ℕ → Option Store

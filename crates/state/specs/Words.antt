@@ -2,40 +2,33 @@
 -- Layout and Holds.
 use mathlib.Core.Path.{_≡_}
 use mathlib.Core.Bool.{cond}
-use mathlib.Core.List.{List, [], _∷_}
-use Prim.Native.Nat.{ℕ, suc, _+_, _*_, _-_, _<_, _≤_}
+use mathlib.Core.List.{List, _∷_}
+use Prim.Native.Nat.{ℕ, suc, _-_, _<_}
 use lib.Dec.{ltb}
 use lib.ListN.{getD}
+use Rattle.word.specs.Tabulate.{tabulate}
+use Rattle.tophat.specs.Syntax.{maxLeaves}
 use Rattle.value.specs.declared.Value.{Value}
 use Rattle.value.specs.Values.{noValue}
 use Rattle.state.specs.Layout.{at}
-use Rattle.state.specs.Holds.{valueLength, Row, Same}
+use Rattle.state.specs.Holds.{valueLength, slot, Row, Same}
 
 -- the words of a value as the engine passes it
 abbrev pub wordsOf : Value → List ℕ
 wordsOf v = v .shape ∷ v .leaves
-
--- ws₁ is ws but for the first n words of xs, which stand from place p on
-pub record Stored (ws ws₁ : List ℕ) (p : ℕ) (xs : List ℕ) (n : ℕ) : Type 0 where
-  pub new : (m : ℕ) → m < n → getD ws₁ (p + m) 0 ≡ getD xs m 0
-  pub old : (q : ℕ) → (p ≤ q → q < p + n → ⊥) → getD ws₁ q 0 ≡ getD ws q 0
 
 -- ws₁ is ws but for row i, which holds xs
 pub record Laid (ws ws₁ : List ℕ) (i : ℕ) (xs : List ℕ) : Type 0 where
   pub row : Row ws₁ i xs
   pub same : Same (λ j. j ≡ i) ws ws₁
 
--- the value of five words
+-- the value whose words are f's
 abbrev pub valueBy : (ℕ → ℕ) → Value
-valueBy f = record { shape = f 0; leaves = f 1 ∷ f 2 ∷ f 3 ∷ f 4 ∷ [] }
+valueBy f = record { shape = f 0; leaves = tabulate maxLeaves λ i. f (suc i) }
 
 -- the value that row i holds
 abbrev pub valueAt : List ℕ → ℕ → Value
 valueAt ws i = valueBy (λ m. at ws i (suc m))
-
--- word m of the value of the binder in slot k
-abbrev pub slot : List ℕ → ℕ → ℕ → ℕ
-slot env k m = getD env (k * valueLength + m) 0
 
 -- the value of binder k, counted outward from depth d
 abbrev pub binderAt : List ℕ → ℕ → ℕ → Value

@@ -1,26 +1,38 @@
-// The words of rows and of a state, read and written: the one place that computes indices. A state row is 16 words: its tag,
-// a value's shape and four leaves, and zeros.
+// The words of a state and of binders' values, read and written: the one place that computes indices. Of a state, `read` and `put` alone
+// know where a word stands. A state row is its tag, a value's shape and its leaves, and zeros.
+pub mod lent; // a state in and out of lent memory
+
 use rows::MAX_BINDERS;
 use rows::MAX_ROWS;
 use rows::ROW_WORDS;
 use rows::ROWS_WORDS;
+use rows::get;
+use rows::operand;
 use tophat::MAX_LEAVES;
+use value::NO_VALUE;
 use value::Value;
 ghost use mathlib.Core.Path.{_≡_};
 ghost use mathlib.Core.List.{[], _∷_};
-ghost use Prim.Native.Nat.{_+_, _*_, _<_, _≤_};
-ghost use lib.ListN.{length, set};
+ghost use Prim.Native.Nat.{_<_, _≤_};
+ghost use lib.ListN.{length, getD, set};
 ghost use Rattle.rows.specs.Rows.{maxRows, rowWords, word};
 ghost use Rattle.rows.specs.Enclosing.{maxBinders};
 ghost use Rattle.state.specs.Layout.{stateWords, place, at};
-ghost use Rattle.state.specs.Holds.{valueLength};
-ghost use Rattle.state.specs.Words.{wordsOf, Stored, Laid, valueAt, slot, binderAt, Pushed};
+ghost use Rattle.state.specs.Holds.{valueLength, slotPlace, slot};
+ghost use Rattle.state.specs.Words.{wordsOf, Laid, valueAt, binderAt, Pushed};
 ghost use Rattle.state.specs.Contracts.{Fine, ClearOk};
 
 // 01: "A state is 16 words a row". How many words the engine's own state has.
 pub const STATE_WORDS: usize = 16;
 
 pub const STATE_SIZE: usize = MAX_ROWS * STATE_WORDS;
+
+// Which word of a row is which: the leaves stand last.
+const TAG: usize = 0;
+
+const SHAPE: usize = 1;
+
+const LEAVES: usize = 2;
 
 // A value is its shape and its leaves. How many words an environment has.
 pub const VALUE_WORDS: usize = 1 + MAX_LEAVES;
@@ -34,28 +46,7 @@ pub const ONE: u32 = 2;
 
 pub const OTHER: u32 = 3;
 
-fn wide(x: u32) -> usize
-    ensures { λ r. ⌜ r ≡ x ⌝ }
-{
-    x as usize
-}
-
-// Word k of a row: its kind and operands A, B, C.
-pub fn get(rows: &[u32; ROWS_WORDS], row: usize, k: usize) -> u32
-    requires { ⌜ (row < maxRows) × (k < rowWords) ⌝ }
-    ensures { λ r. ⌜ r ≡ word (now (rows .entry)) row k ⌝ }
-{
-    rows[row * ROW_WORDS + k]
-}
-
-// An operand that names a row, a binder or a cell.
-pub fn operand(rows: &[u32; ROWS_WORDS], row: usize, k: usize) -> usize
-    requires { ⌜ (row < maxRows) × (k < rowWords) ⌝ }
-    ensures { λ r. ⌜ r ≡ word (now (rows .entry)) row k ⌝ }
-{
-    wide(rows[row * ROW_WORDS + k])
-}
-
+// Word m of a state row.
 pub fn read(state: &[u32; STATE_SIZE], row: usize, m: usize) -> u32
     requires { ⌜ (row < maxRows) × (m < stateWords) ⌝ }
     ensures { λ r. ⌜ r ≡ at (now (state .entry)) row m ⌝ }
@@ -63,21 +54,22 @@ pub fn read(state: &[u32; STATE_SIZE], row: usize, m: usize) -> u32
     state[row * STATE_WORDS + m]
 }
 
-pub fn put(state: &mut [u32; STATE_SIZE], row: usize, m: usize, x: u32)
-    requires { ⌜ (row < maxRows) × (m < stateWords) ⌝ }
-    ensures { λ _. ⌜ now (state .exit) ≡ set (now (state .entry)) (place row m) x ⌝ }
+// A word stored. It reads back, since a slice's length is known, and so that the word is there.
+fn store(to: &mut [u32], at: usize, x: u32)
+    requires { ⌜ at < length (now to) ⌝ }
+    ensures { λ _. ⌜ now (to .exit) ≡ set (now (to .entry)) at x ⌝ }
+    ensures { λ _. ⌜ getD (now (to .exit)) at 0 ≡ x ⌝ }
 {
-    state[row * STATE_WORDS + m] = x;
+    to[at] = x;
 }
 
-// Words stored from a place on.
-fn store(to: &mut [u32], at: usize, words: &[u32])
-    requires { ⌜ (at < 4096) × (at + length (now words) ≤ length (now to)) ⌝ }
-    ensures { λ _. ⌜ Stored (now (to .entry)) (now (to .exit)) at (now (words .entry)) (length (now (words .entry))) ⌝ }
+// Word m of a state row becomes x.
+fn put(state: &mut [u32; STATE_SIZE], row: usize, m: usize, x: u32)
+    requires { ⌜ (row < maxRows) × (m < stateWords) ⌝ }
+    ensures { λ _. ⌜ now (state .exit) ≡ set (now (state .entry)) (place row m) x ⌝ }
+    ensures { λ _. ⌜ at (now (state .exit)) row m ≡ x ⌝ }
 {
-    for m in 0..words.len() {
-        to[at + m] = words[m];
-    }
+    store(state, row * STATE_WORDS + m, x);
 }
 
 // The row is no longer live.
@@ -85,18 +77,18 @@ pub fn clear_row(state: &mut [u32; STATE_SIZE], row: usize)
     requires { ⌜ row < maxRows ⌝ }
     ensures { λ _. ⌜ Laid (now (state .entry)) (now (state .exit)) row [] ⌝ }
 {
-    let words = [0u32; 16];
-    store(state, row * 16, &words);
+    for m in 0..STATE_WORDS {
+        put(state, row, m, 0);
+    }
 }
 
-// The row is live by its tag alone.
+// The row is live, with its tag and nothing else.
 pub fn put_tag(state: &mut [u32; STATE_SIZE], row: usize, tag: u32)
     requires { ⌜ row < maxRows ⌝ }
     ensures { λ _. ⌜ Laid (now (state .entry)) (now (state .exit)) row (tag ∷ []) ⌝ }
 {
-    let mut words = [0u32; 16];
-    words[0] = tag;
-    store(state, row * 16, &words);
+    clear_row(state, row);
+    put(state, row, TAG, tag);
 }
 
 // The row is live, and holds a value.
@@ -105,14 +97,11 @@ pub fn put_value(state: &mut [u32; STATE_SIZE], row: usize, tag: u32, v: Value)
     ensures { λ _. ⌜ Laid (now (state .entry)) (now (state .exit)) row (tag ∷ wordsOf v) ⌝ }
 {
     let leaves = v.leaves;
-    let mut words = [0u32; 16];
-    words[0] = tag;
-    words[1] = v.shape;
-    words[2] = leaves[0];
-    words[3] = leaves[1];
-    words[4] = leaves[2];
-    words[5] = leaves[3];
-    store(state, row * 16, &words);
+    put_tag(state, row, tag);
+    put(state, row, SHAPE, v.shape);
+    for i in 0..MAX_LEAVES {
+        put(state, row, LEAVES + i, leaves[i]);
+    }
 }
 
 // The value that the row holds.
@@ -120,18 +109,18 @@ pub fn read_value(state: &[u32; STATE_SIZE], row: usize) -> Value
     requires { ⌜ row < maxRows ⌝ }
     ensures { λ r. ⌜ r ≡ valueAt (now (state .entry)) row ⌝ }
 {
-    let shape = read(state, row, 1);
-    let a = read(state, row, 2);
-    let b = read(state, row, 3);
-    let c = read(state, row, 4);
-    let d = read(state, row, 5);
+    let shape = read(state, row, SHAPE);
+    let mut leaves = [0u32; MAX_LEAVES];
+    for i in 0..MAX_LEAVES {
+        leaves[i] = read(state, row, LEAVES + i);
+    }
     Value {
         shape: shape,
-        leaves: [a, b, c, d],
+        leaves: leaves,
     }
 }
 
-// Word m of a binder's value; slot 0 is the outermost's.
+// Word m of the value of the binder in slot k; slot 0 is the outermost's. A value's first word is its shape.
 fn read_slot(env: &[u32; ENV_WORDS], k: usize, m: usize) -> u32
     requires { ⌜ (k < maxBinders) × (m < valueLength) ⌝ }
     ensures { λ r. ⌜ r ≡ slot (now (env .entry)) k m ⌝ }
@@ -139,37 +128,55 @@ fn read_slot(env: &[u32; ENV_WORDS], k: usize, m: usize) -> u32
     env[k * VALUE_WORDS + m]
 }
 
+// Word m of a binder's value becomes x.
+fn put_slot(env: &mut [u32; ENV_WORDS], k: usize, m: usize, x: u32)
+    requires { ⌜ (k < maxBinders) × (m < valueLength) ⌝ }
+    ensures { λ _. ⌜ now (env .exit) ≡ set (now (env .entry)) (slotPlace k m) x ⌝ }
+    ensures { λ _. ⌜ slot (now (env .exit)) k m ≡ x ⌝ }
+{
+    store(env, k * VALUE_WORDS + m, x);
+}
+
 // The value of binder k, counted outward; none beyond the outermost.
 pub fn env_get(env: &[u32; ENV_WORDS], depth: usize, k: usize) -> Value
     requires { ⌜ depth ≤ maxBinders ⌝ }
     ensures { λ r. ⌜ r ≡ binderAt (now (env .entry)) depth k ⌝ }
 {
-    if k < depth {
-        let i = depth - 1 - k;
-        let shape = read_slot(env, i, 0);
-        let a = read_slot(env, i, 1);
-        let b = read_slot(env, i, 2);
-        let c = read_slot(env, i, 3);
-        let d = read_slot(env, i, 4);
-        return Value {
-            shape: shape,
-            leaves: [a, b, c, d],
-        };
+    if depth <= k {
+        return NO_VALUE;
+    }
+    let inward = depth - 1 - k;
+    let shape = read_slot(env, inward, 0);
+    let mut leaves = [0u32; MAX_LEAVES];
+    for i in 0..MAX_LEAVES {
+        leaves[i] = read_slot(env, inward, 1 + i);
     }
     Value {
-        shape: 0,
-        leaves: [0, 0, 0, 0],
+        shape: shape,
+        leaves: leaves,
     }
 }
 
-// The value of a binder at that depth.
-pub fn env_put(env: &mut [u32; ENV_WORDS], depth: usize, v: Value)
+// One binder more, at that depth.
+pub fn push(env: &mut [u32; ENV_WORDS], depth: usize, v: Value)
     requires { ⌜ depth < maxBinders ⌝ }
     ensures { λ _. ⌜ Pushed (now (env .entry)) (now (env .exit)) depth v ⌝ }
 {
     let leaves = v.leaves;
-    let words = [v.shape, leaves[0], leaves[1], leaves[2], leaves[3]];
-    store(env, depth * VALUE_WORDS, &words);
+    put_slot(env, depth, 0, v.shape);
+    for i in 0..MAX_LEAVES {
+        put_slot(env, depth, 1 + i, leaves[i]);
+    }
+}
+
+// The values of the binders around, and one more, where those around are still wanted.
+pub fn pushed(env: &[u32; ENV_WORDS], depth: usize, v: Value) -> [u32; ENV_WORDS]
+    requires { ⌜ depth < maxBinders ⌝ }
+    ensures { λ r. ⌜ Pushed (now (env .entry)) r depth v ⌝ }
+{
+    let mut more = *env;
+    push(&mut more, depth, v);
+    more
 }
 
 // No row of the task at that row is live any more.

@@ -7,9 +7,9 @@ use Prim.Native.Nat.{ℕ, _+_, _≤_, _<_}
 use native.Mathlib.Omega.{arith}
 use Rattle.tophat.specs.Syntax.{moves, Code, Val, Env, Store, TaskOf}
 use Rattle.tophat.specs.Normalising.{value, Fails, Strides, Normalises, n-done, n-repeat}
-use Rattle.tophat.proofs.ComputeNormalising.{normalise}
+use Rattle.tophat.proofs.ComputeNormalising.{remaining, normalise}
 use Rattle.tophat.proofs.NormalisingComplete.{repeat-fewer, fails-is, strides-as, normalises-is, normalises-one}
-use Rattle.tophat.proofs.Progress.{remaining, remaining-moves}
+use Rattle.tophat.proofs.Progress.{remaining-moves}
 use Rattle.tophat.proofs.FailingKept.{value-lives, stride-failing, normalise-failing, normalise-lives}
 
 -- the last stride counts

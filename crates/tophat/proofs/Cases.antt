@@ -2,7 +2,7 @@
 -- says. A screen is written in 01's numbers and in 01's order. Rests on the Compute files.
 use mathlib.Core.Path.{_≡_, refl}
 use mathlib.Core.Bool.{Bool, true, false}
-use mathlib.Core.Option.{Option, none, some}
+use mathlib.Core.Option.{Option, none, some, bind}
 use mathlib.Core.List.{List, [], _∷_, map}
 use Prim.Native.Nat.{ℕ}
 use lib.IntN.{ℤ, pos, negsuc}
@@ -12,13 +12,15 @@ use Rattle.decimal.specs.Path.{Mark, first, second, Path}
 use Rattle.tophat.specs.Syntax.{leaves, moves, Ty, number, pair, sum, product, lessEqual, equal, Exp, enumber, ebinder, eop, eassign}
 use Rattle.tophat.specs.Syntax.{Code, edit, enter, update, then, next, fail, and, or, xor, if, let', TaskOf, Val, vnumber, Store}
 use Rattle.tophat.specs.Normalising.{value, pairOf}
-use Rattle.tophat.specs.Handling.{leavesOf, padded, continue, left, right, Action, give, press}
-use Rattle.tophat.specs.Showing.{Leaf, noLeaf, unitLeaf, truthLeaf, numberLeaf, Offer, fill, button, leafKinds, marked, offers, lit}
-use Rattle.tophat.proofs.ComputeTyping.{inferTask, infer, bind, ask, nth, numberTo, opTo, takes, gives, sameTo, ifTo, typeTo, assignTo}
+use Rattle.tophat.specs.Handling.{continue, left, right, Action, give, press}
+use Rattle.tophat.specs.Leaves.{leavesOf, padded, numberLeaf, leafNumber, leafKinds, valueOf, meetsLeaf, meets, given}
+use Rattle.tophat.specs.Showing.{Offer, fill, button, marked, offers, buttonIf}
+use Rattle.tophat.proofs.ComputeTyping.{inferTask, infer, ask, nth, numberTo, opTo, takes, gives, sameTo, ifTo, typeTo, assignTo}
 use Rattle.tophat.proofs.ComputeEvaluation.{eval, branch, isTrue, apply, leaf}
 use Rattle.tophat.proofs.ComputeNormalising.{failing, normalise, settle, strides, unlessStill, goOn, goOnWith, chooseRight, chooseLeft}
-use Rattle.tophat.proofs.ComputeHandling.{typeOf, handle, valueOf, meetsLeaf, meets, given, mapTask, thenSome, atEditor, atSides, atContinue, unlessFailing}
-use Rattle.tophat.proofs.ComputeEntries.{entries, litContinue}
+use Rattle.tophat.proofs.ComputeHandling.{handle, mapTask, thenSome, atEditor, atSides, atContinue, unlessFailing}
+use Rattle.tophat.specs.Typing.{typeOf}
+use Rattle.tophat.proofs.ComputeEntries.{entries, continueIf}
 
 -- Screens, as 01 prints them.
 
@@ -34,17 +36,11 @@ unfoldable pub digit : Mark → ℕ
 digit first = 1
 digit second = 2
 
-unfoldable pub kind : Leaf → ℕ
-kind noLeaf = 0
-kind unitLeaf = 1
-kind truthLeaf = 2
-kind numberLeaf = 3
-
 unfoldable pub lineOf : Path → Offer → Line
-lineOf p (fill ks) = line (map digit p) 1 (map kind ks)
-lineOf p (button continue) = line (map digit p) 2 (0 ∷ 0 ∷ 0 ∷ 0 ∷ [])
-lineOf p (button left) = line (map digit p) 3 (0 ∷ 0 ∷ 0 ∷ 0 ∷ [])
-lineOf p (button right) = line (map digit p) 4 (0 ∷ 0 ∷ 0 ∷ 0 ∷ [])
+lineOf p (fill ks) = line (map digit p) 1 (map leafNumber ks)
+lineOf p (button continue) = line (map digit p) 2 (padded 0 [])
+lineOf p (button left) = line (map digit p) 3 (padded 0 [])
+lineOf p (button right) = line (map digit p) 4 (padded 0 [])
 
 unfoldable pub flag : Bool → ℕ
 flag true = 1
@@ -96,7 +92,7 @@ computed k =
     let (ss, s₁) = screens c (0, n, t, s) (k .events) in
     (inferTask (map typeOf (k .cells)) [] c, ss, s₁)
 
--- numbers in flows, cells and events, and as the first of four leaves
+-- numbers in flows, cells and events, and as the first of the leaves
 abbrev pub num : ℕ → Exp
 num n = enumber (pos n)
 
@@ -104,17 +100,17 @@ abbrev pub cell : ℕ → Store
 cell n = vnumber (pos n) ∷ []
 
 abbrev pub single : ℤ → List ℤ
-single n = n ∷ pos 0 ∷ pos 0 ∷ pos 0 ∷ []
+single n = padded (pos 0) (n ∷ [])
 
 abbrev pub value1 : ℕ → Path × Action
 value1 n = ([], give (single (pos n)))
 
 -- the entry of an editor of numbers at a path, and Left's at the empty path
 abbrev pub editor : List ℕ → Line
-editor p = line p 1 (3 ∷ 0 ∷ 0 ∷ 0 ∷ [])
+editor p = line p 1 (padded 0 (leafNumber numberLeaf ∷ []))
 
 abbrev pub leftLine : Line
-leftLine = line [] 3 (0 ∷ 0 ∷ 0 ∷ 0 ∷ [])
+leftLine = line [] 3 (padded 0 [])
 
 -- P1 to P4: 01's session: started, value 12, value 4, Continue
 abbrev pub p1-p4 : Case
@@ -213,7 +209,7 @@ p11 = record {
   cells = cell 0;
   events = [];
   type = some (pair number number);
-  shown = screen 0 3 0 1 (pos 1 ∷ pos 0 ∷ pos 0 ∷ pos 0 ∷ []) (editor (1 ∷ []) ∷ editor (2 ∷ []) ∷ []) ∷ [];
+  shown = screen 0 3 0 1 (padded (pos 0) (pos 1 ∷ pos 0 ∷ [])) (editor (1 ∷ []) ∷ editor (2 ∷ []) ∷ []) ∷ [];
   kept = cell 1;
 }
 
@@ -234,9 +230,9 @@ cases = p1-p4 ∷ p5 ∷ p6 ∷ p7 ∷ p8 ∷ p9 ∷ p10 ∷ p11 ∷ p12 ∷ []
 -- P1 to P12: what is computed is what 01 says
 pub cases-hold : map computed cases ≡ map expected cases
 unfolding
-    cases computed expected screens taken screenOf flag valueFlag valueLeaves lineOf digit kind inferTask infer
+    cases computed expected screens taken screenOf flag valueFlag valueLeaves lineOf digit inferTask infer
     bind ask nth numberTo opTo takes gives sameTo ifTo typeTo assignTo decLe leaves moves settle normalise strides
     unlessStill goOn goOnWith chooseRight chooseLeft failing eval branch isTrue apply leaf value pairOf
-    leavesOf padded leafKinds marked offers lit typeOf valueOf meetsLeaf meets given mapTask thenSome atEditor
-    atSides atContinue unlessFailing handle litContinue entries wrap residue
+    leavesOf padded leafKinds marked offers buttonIf typeOf valueOf meetsLeaf meets given mapTask thenSome atEditor
+    atSides atContinue unlessFailing handle continueIf entries wrap residue
 cases-hold = refl

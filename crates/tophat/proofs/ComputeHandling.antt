@@ -1,50 +1,19 @@
--- Handling as a function that computes: an event's leaves as a value of a type, and what a task that takes the event
--- becomes. Rests on ComputeNormalising; HandlingSound and HandlingComplete tie it to the rules.
-use mathlib.Core.Bool.{Bool, true, false, _&&_, _||_, cond}
+-- Handling as a function that computes: what a task that takes an event becomes. Rests on ComputeNormalising; HandlingSound and
+-- HandlingComplete tie it to the rules.
+use mathlib.Core.Bool.{Bool, true, false}
 use mathlib.Core.Option.{Option, none, some}
 use mathlib.Core.List.{List, [], _∷_}
-use lib.Dec.{ltb}
-use lib.IntN.{ℤ, pos}
-use lib.Signed.{mag}
-use lib.ListN.{getD, set, drop}
-use Rattle.word.specs.Word.{half, eqZ}
+use lib.IntN.{ℤ}
+use lib.ListN.{getD, set}
 use Rattle.decimal.specs.Path.{first, second, Path}
-use Rattle.tophat.specs.Syntax.{Ty, unit, truth, number, pair, leaves, Code, edit, enter, update, then, next, fail, and, or, xor, if, let', Val, vunit, vtruth, vnumber, vpair, Env, Store}
+use Rattle.tophat.specs.Syntax.{Code, edit, enter, update, then, next, fail, and, or, xor, if, let', Val, vunit, Env, Store}
 use Rattle.tophat.specs.Syntax.{TaskOf, filled, entered, shared, before, after, both, either, orLeft, orRight, unpicked, pickedLeft, pickedRight, ifTrue, ifFalse, bound}
+use Rattle.tophat.specs.Typing.{typeOf}
+use Rattle.tophat.specs.Leaves.{given}
 use Rattle.tophat.specs.Normalising.{value}
-use Rattle.tophat.specs.Handling.{padded, continue, left, right, Action, give, press}
-use Rattle.tophat.specs.Showing.{Leaf, noLeaf, unitLeaf, truthLeaf, numberLeaf, leafKinds}
+use Rattle.tophat.specs.Handling.{continue, left, right, Action, give, press}
 use Rattle.tophat.proofs.ComputeEvaluation.{evaluate}
 use Rattle.tophat.proofs.ComputeNormalising.{failing, settle}
-
-unfoldable pub typeOf : Val → Ty
-typeOf vunit = unit
-typeOf (vtruth b) = truth
-typeOf (vnumber n) = number
-typeOf (vpair v w) = pair (typeOf v) (typeOf w)
-
--- the value of a type whose leaves stand first in a list
-unfoldable pub valueOf : Ty → List ℤ → Val
-valueOf unit ls = vunit
-valueOf truth ls = vtruth (eqZ (getD ls 0 (pos 0)) (pos 1))
-valueOf number ls = vnumber (getD ls 0 (pos 0))
-valueOf (pair τ υ) ls = vpair (valueOf τ ls) (valueOf υ (drop (leaves τ) ls))
-
-unfoldable pub meetsLeaf : Leaf → ℤ → Bool
-meetsLeaf noLeaf n = eqZ n (pos 0)
-meetsLeaf unitLeaf n = eqZ n (pos 0)
-meetsLeaf truthLeaf n = eqZ n (pos 0) || eqZ n (pos 1)
-meetsLeaf numberLeaf n = ltb (mag n) half
-
-unfoldable pub meets : List Leaf → List ℤ → Bool
-meets [] [] = true
-meets [] (n ∷ ls) = false
-meets (k ∷ ks) [] = false
-meets (k ∷ ks) (n ∷ ls) = meetsLeaf k n && meets ks ls
-
--- an event's four leaves as a value of a type
-unfoldable pub given : Ty → List ℤ → Option Val
-given τ ls = cond (meets (padded noLeaf (leafKinds τ)) ls) (some (valueOf τ ls)) none
 
 unfoldable pub mapTask : {A C : Type 0} → (A → C) → Option (A × Store) → Option (C × Store)
 mapTask K none = none

@@ -3,7 +3,7 @@
 use mathlib.Core.Bool.{Bool, true, false, _&&_, _||_}
 use mathlib.Core.Option.{Option, none, some}
 use mathlib.Core.List.{_∷_}
-use Prim.Native.Nat.{ℕ, zero, suc}
+use Prim.Native.Nat.{ℕ, zero, suc, _+_}
 use Rattle.tophat.specs.Syntax.{moves, StepT, OrT, Code, edit, enter, update, then, next, fail, and, or, xor, if, let', Val, Env, Store}
 use Rattle.tophat.specs.Syntax.{TaskOf, before, after, both, either, orLeft, orRight, unpicked, pickedLeft, pickedRight, ifTrue, ifFalse, bound}
 use Rattle.tophat.specs.Normalising.{value}
@@ -100,3 +100,32 @@ normalise c ρ s t = strides (λ s t. stride c ρ s t) (suc (moves c)) s t
 -- 01: "Normalise: evaluate, then stride until a stride changes neither task nor store"
 unfoldable pub settle : (c : Code) → Env → Store → TaskOf c × Store × ℕ
 settle c ρ s = let (t, s₁) = evaluate c ρ s in normalise c ρ s₁ t
+
+-- whether a right side, evaluated, fails
+abbrev pub rightFails : Code → Env → Store → Bool
+rightFails b ρ s = let (u, s₁) = evaluate b ρ s in failing b ρ s₁ u
+
+-- whether a branch, evaluated and normalised, fails
+abbrev pub branchFails : Code → Env → Store → Bool
+branchFails c ρ s = let (t, s₁, n) = settle c ρ s in failing c ρ s₁ t
+
+-- the rows of kind 43 and 47 that a task can still move
+unfoldable pub remaining : (c : Code) → TaskOf c → ℕ
+remaining (edit e) t = 0
+remaining (enter τ) t = 0
+remaining (update n) t = 0
+remaining (then a b) (before t) = 1 + remaining a t + moves b
+remaining (then a b) (after v u) = remaining b u
+remaining (next a b) (before t) = remaining a t
+remaining (next a b) (after v u) = remaining b u
+remaining (fail τ) t = 0
+remaining (and a b) (both t u) = remaining a t + remaining b u
+remaining (or a b) (either t u) = 1 + remaining a t + remaining b u
+remaining (or a b) (orLeft t) = remaining a t
+remaining (or a b) (orRight u) = remaining b u
+remaining (xor a b) unpicked = 0
+remaining (xor a b) (pickedLeft t) = remaining a t
+remaining (xor a b) (pickedRight u) = remaining b u
+remaining (if e a b) (ifTrue t) = remaining a t
+remaining (if e a b) (ifFalse u) = remaining b u
+remaining (let' e b) (bound v u) = remaining b u

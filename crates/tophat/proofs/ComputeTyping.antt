@@ -1,6 +1,6 @@
 -- Typing as functions that compute: the type of a plain expression and of a task as a sheet has it, or none. Rests on
 -- Syntax; TypingAgrees ties them to the rules.
-use mathlib.Core.Option.{Option, none, some}
+use mathlib.Core.Option.{Option, none, some, bind}
 use mathlib.Core.List.{List, [], _∷_}
 use Prim.Native.Nat.{ℕ, zero, suc}
 use native.Mathlib.Decide.{decLe}
@@ -10,10 +10,6 @@ use Rattle.word.specs.Word.{half}
 use Rattle.tophat.specs.Syntax.{maxLeaves, Ty, unit, truth, number, pair, Ty-discrete, leaves, Op, sum, difference, product, less, lessEqual, equal, andOp, orOp}
 use Rattle.tophat.specs.Syntax.{Exp, eunit, etruth, enumber, ebinder, eop, eif, epair, efst, esnd, ederef, eassign, elet}
 use Rattle.tophat.specs.Syntax.{Code, edit, enter, update, then, next, fail, and, or, xor, if, let'}
-
-unfoldable pub bind : {X Y : Type 0} → Option X → (X → Option Y) → Option Y
-bind none f = none
-bind (some x) f = f x
 
 -- an answer, where something decided holds
 unfoldable pub ask : {P X : Type 0} → Dec P → Option X → Option X

@@ -3,32 +3,17 @@ use mathlib.Core.Path.{_≡_, refl, ap}
 use mathlib.Core.Bool.{Bool, true, false, not}
 use mathlib.Core.Option.{Option, none, some}
 use mathlib.Core.List.{List, [], _∷_, _++_}
-use Prim.Native.Nat.{ℕ, suc, _+_, _≤_}
+use Prim.Native.Nat.{suc, _+_, _≤_}
 use native.Mathlib.Omega.{arith}
 use lib.ListN.{length, length-append}
 use Rattle.decimal.specs.Path.{Mark, first, second}
-use Rattle.tophat.specs.Syntax.{Code, edit, enter, update, then, next, fail, and, or, xor, if, let', Val, Env, Store}
+use Rattle.tophat.specs.Syntax.{taskRows, Code, edit, enter, update, then, next, fail, and, or, xor, if, let', Val, Env, Store}
 use Rattle.tophat.specs.Syntax.{TaskOf, filled, before, after, both, either, orLeft, orRight, unpicked, pickedLeft, pickedRight, ifTrue, ifFalse, bound}
 use Rattle.tophat.specs.Normalising.{value}
 use Rattle.tophat.specs.Handling.{Button, continue, left, right}
-use Rattle.tophat.specs.Showing.{Entry, marked, offers, lit}
-use Rattle.tophat.proofs.ComputeEvaluation.{evaluate}
-use Rattle.tophat.proofs.ComputeNormalising.{failing, settle}
-use Rattle.tophat.proofs.ComputeEntries.{litContinue, entries}
-
--- the rows that are tasks
-unfoldable pub taskRows : Code → ℕ
-taskRows (edit e) = 1
-taskRows (enter τ) = 1
-taskRows (update n) = 1
-taskRows (then a b) = 1 + taskRows a + taskRows b
-taskRows (next a b) = 1 + taskRows a + taskRows b
-taskRows (fail τ) = 1
-taskRows (and a b) = 1 + taskRows a + taskRows b
-taskRows (or a b) = 1 + taskRows a + taskRows b
-taskRows (xor a b) = 1 + taskRows a + taskRows b
-taskRows (if e a b) = 1 + taskRows a + taskRows b
-taskRows (let' e b) = 1 + taskRows b
+use Rattle.tophat.specs.Showing.{Entry, marked, offers, buttonIf}
+use Rattle.tophat.proofs.ComputeNormalising.{rightFails, branchFails}
+use Rattle.tophat.proofs.ComputeEntries.{continueIf, entries}
 
 some-row : (c : Code) → 1 ≤ taskRows c
 unfolding taskRows
@@ -49,10 +34,10 @@ unfolding marked
 length-marked m [] = refl
 length-marked m (e ∷ es) = ap suc (length-marked m es)
 
-length-lit : (x : Bool) (b : Button) → length (lit x b) ≤ 1
-unfolding lit
-length-lit true b = omega arith
-length-lit false b = omega arith
+length-button : (x : Bool) (b : Button) → length (buttonIf x b) ≤ 1
+unfolding buttonIf
+length-button true b = omega arith
+length-button false b = omega arith
 
 marked-both : (es gs : List Entry) → length (marked first es ++ marked second gs) ≡ length es + length gs
 marked-both es gs =
@@ -61,16 +46,16 @@ marked-both es gs =
     let k = length-marked second gs in
     omega arith
 
-with-continue : (es : List Entry) (o : Option Val) (F : Val → Bool) → length (es ++ litContinue o F) ≤ 1 + length es
-unfolding litContinue
+with-continue : (es : List Entry) (o : Option Val) (F : Val → Bool) → length (es ++ continueIf o F) ≤ 1 + length es
+unfolding continueIf
 with-continue es none F = let e = length-append es [] in omega arith
-with-continue es (some v) F = let e = length-append es (lit (not (F v)) continue) in let h = length-lit (not (F v)) continue in omega arith
+with-continue es (some v) F = let e = length-append es (buttonIf (not (F v)) continue) in let h = length-button (not (F v)) continue in omega arith
 
-two-lit : (x y : Bool) → length (lit x left ++ lit y right) ≤ 2
-two-lit x y =
-    let e = length-append (lit x left) (lit y right) in
-    let h = length-lit x left in
-    let k = length-lit y right in
+two-buttons : (x y : Bool) → length (buttonIf x left ++ buttonIf y right) ≤ 2
+two-buttons x y =
+    let e = length-append (buttonIf x left) (buttonIf y right) in
+    let h = length-button x left in
+    let k = length-button y right in
     omega arith
 
 -- at most one entry for each task row
@@ -83,7 +68,7 @@ entries-bound (then a b) ρ s (before t) = let h = entries-bound a ρ s t in ome
 entries-bound (then a b) ρ s (after v u) = let h = entries-bound b (v ∷ ρ) s u in omega arith
 entries-bound (next a b) ρ s (before t) =
     let h = entries-bound a ρ s t in
-    let k = with-continue (entries a ρ s t) (value a t s) (λ v. let (u, s₁) = evaluate b (v ∷ ρ) s in failing b (v ∷ ρ) s₁ u) in
+    let k = with-continue (entries a ρ s t) (value a t s) (λ v. rightFails b (v ∷ ρ) s) in
     omega arith
 entries-bound (next a b) ρ s (after v u) = let h = entries-bound b (v ∷ ρ) s u in omega arith
 entries-bound (fail τ) ρ s t = omega arith
@@ -100,9 +85,7 @@ entries-bound (or a b) ρ s (either t u) =
 entries-bound (or a b) ρ s (orLeft t) = let h = entries-bound a ρ s t in omega arith
 entries-bound (or a b) ρ s (orRight u) = let h = entries-bound b ρ s u in omega arith
 entries-bound (xor a b) ρ s unpicked =
-    let (t, s₁, m) = settle a ρ s in
-    let (u, s₂, n) = settle b ρ s in
-    let h = two-lit (not (failing a ρ s₁ t)) (not (failing b ρ s₂ u)) in
+    let h = two-buttons (not (branchFails a ρ s)) (not (branchFails b ρ s)) in
     let k = some-row a in
     let l = some-row b in
     omega arith

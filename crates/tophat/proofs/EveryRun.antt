@@ -2,10 +2,10 @@
 -- A rest is a task and a store of the code's types that normalising does not change. In every rest (`rest-stands`) the
 -- rules accept or refuse each event, and an accepted one they carry to a normal form, in at most one stride more than the
 -- code has rows of kind 43 and 47; they give the task a list of entries, which covers exactly the accepted events, each by
--- one entry; and that list is empty exactly when the task fails, which they decide. A typed code, evaluated and normalised in
--- a store of the cells' types, comes to a rest (`started-rest`). From a rest every list of calls runs, and ends in a rest
+-- one entry; and that list is empty exactly when the task is quiet. A typed code, evaluated and normalised in a store of the
+-- cells' types, comes to a rest (`started-rest`). From a rest every list of calls runs, and ends in a rest
 -- (`every-run`); it ends in no other state (`run-one`), so whatever run the rules derive ends in a rest (`run-stands`).
--- Rests on HandlingSound, HandlingComplete, EntriesAgree, EntriesCover, EntriesFailing and Bound.
+-- Rests on HandlingSound, HandlingComplete, EntriesAgree, EntriesCover, EntriesQuiet and Bound.
 use mathlib.Core.Path.{_≡_, refl, subst}
 use mathlib.Core.Bool.{true, false}
 use mathlib.Core.Logic.{_⊎_, inl, inr, _↔_}
@@ -17,9 +17,10 @@ use Rattle.tophat.specs.Syntax.{moves, Ty, Code, Store, TaskOf}
 use Rattle.tophat.specs.Typing.{CodeType, v-nil, ValueTypes}
 use Rattle.tophat.specs.Evaluation.{EvaluatesTask}
 use Rattle.tophat.specs.Normalising.{Fails, Normalises}
+use Rattle.tophat.specs.Quiet.{Quiet}
 use Rattle.tophat.specs.Handling.{Action, Handles}
 use Rattle.tophat.specs.Runs.{Call, look, touch, Accepts, Refuses, Leaves, l-look, l-taken, l-refused, Runs, r-end, r-call, Rest, Stands}
-use Rattle.tophat.proofs.Basics.{apart, by-truth, All, all-none, all-some, all-is}
+use Rattle.tophat.proofs.Basics.{by-truth, All, all-none, all-some, all-is}
 use Rattle.tophat.proofs.ComputeNormalising.{failing, settle}
 use Rattle.tophat.proofs.ComputeHandling.{handle}
 use Rattle.tophat.proofs.ComputeEntries.{entries}
@@ -31,7 +32,7 @@ use Rattle.tophat.proofs.HandlingComplete.{handles-is, handles-one, ref
 use Rattle.tophat.proofs.HandlingSound.{GoodHandling, handles-sound}
 use Rattle.tophat.proofs.Lights.{Covered}
 use Rattle.tophat.proofs.EntriesCover.{covered-taken, taken-covered, covered-once}
-use Rattle.tophat.proofs.EntriesFailing.{empty-failing}
+use Rattle.tophat.proofs.EntriesQuiet.{empty-failing}
 use Rattle.tophat.proofs.EntriesAgree.{shows-is, shows-sound}
 
 module _ {Σ : List Ty} {c : Code} {τ : Ty} {t : TaskOf c} {s : Store} (r : Rest Σ c τ t s) where
@@ -58,17 +59,16 @@ module _ {Σ : List Ty} {c : Code} {τ : Ty} {t : TaskOf c} {s : Store} (r : Res
   fails : Fails c [] s t (failing c [] s t)
   fails = fails-sound c [] s t (r .task) v-nil (r .store)
 
-  empty-fails : (entries c [] s t ≡ []) ↔ Fails c [] s t true
-  empty-fails =
+  empty-quiet : (entries c [] s t ≡ []) ↔ Quiet c [] s t
+  empty-quiet =
       let e = empty-failing c [] s t in
       (λ h. subst (λ x. Fails c [] s t x) (e .0 h) fails, λ d. e .1 (fails-is d))
 
-  some-lives : (entries c [] s t ≡ [] → ⊥) ↔ Fails c [] s t false
-  some-lives =
-      let e = empty-failing c [] s t in (
-        λ n. by-truth (failing c [] s t) (λ h. absurd (n (e .1 h))) (λ h. subst (λ x. Fails c [] s t x) h fails),
-        λ d h. apart (e .0 h) (fails-is d),
-      )
+  fails-decided : Fails c [] s t true ⊎ Fails c [] s t false
+  fails-decided =
+      by-truth (failing c [] s t)
+      (λ h. inl (subst (λ x. Fails c [] s t x) h fails))
+      (λ h. inr (subst (λ x. Fails c [] s t x) h fails))
 
   -- what holds of every rest
   pub rest-stands : Stands Σ c τ t s
@@ -80,10 +80,11 @@ module _ {Σ : List Ty} {c : Code} {τ : Ty} {t : TaskOf c} {s : Store} (r : Res
     shown = entries c [] s t;
     shows = shows-sound c [] s t (r .task) v-nil (r .store);
     sole = λ es d. shows-is d;
-    lit = accepted-covered;
-    once = λ i j e f p x d k g h. covered-once c [] s t d k g h;
-    dark = empty-fails;
-    live = some-lives;
+    accepted-iff-covered = accepted-covered;
+    covered-once = λ i j e f p x d k g h. covered-once c [] s t d k g h;
+    empty-iff-quiet = empty-quiet;
+    fails-decided = fails-decided;
+    failing-quiet = λ d. d;
   }
 
   taken-rest : (p : Path) (x : Action) (o : Option (TaskOf c × Store)) → handle c [] s t p x ≡ o → All (GoodHandling Σ [] τ c [] s t p x) o → (t₁ : TaskOf c) × (s₁ : Store) × Leaves c t s (touch p x) t₁ s₁ × Rest Σ c τ t₁ s₁

@@ -1,17 +1,18 @@
 -- Striding and normalising do not change whether a task fails: one with a value does not fail, one that fails does not
 -- move, and what has moved does not fail, in the store that it leaves. Rests on Progress.
-use mathlib.Core.Path.{_≡_, refl, sym, ap₂, _∙_}
+use mathlib.Core.Path.{_≡_, refl, sym, ap, ap₂, _∙_}
 use mathlib.Core.Bool.{Bool, true, false, _&&_, _||_}
 use mathlib.Core.Option.{Option, none, some}
 use mathlib.Core.List.{_∷_}
 use Prim.Native.Nat.{ℕ, zero, suc, _<_}
 use native.Mathlib.Omega.{arith}
-use Rattle.tophat.specs.Syntax.{moves, Code, edit, enter, update, then, next, fail, and, or, xor, if, let', Val, Env, Store}
-use Rattle.tophat.specs.Syntax.{TaskOf, before, after, both, either, orLeft, orRight, unpicked, pickedLeft, pickedRight, ifTrue, ifFalse, bound}
+use Rattle.tophat.specs.Syntax.{moves, Code, then, or, xor, Val, Env, Store}
+use Rattle.tophat.specs.Syntax.{TaskOf, unpicked}
 use Rattle.tophat.specs.Normalising.{pairOf, firstOf, value}
 use Rattle.tophat.proofs.Basics.{apart, by-truth, no-some}
 use Rattle.tophat.proofs.ComputeEvaluation.{evaluate}
 use Rattle.tophat.proofs.ComputeNormalising.{unlessStill, strides, goOn, goOnWith, chooseRight, chooseLeft, failing, stride, normalise, settle}
+use Rattle.tophat.proofs.Became.{alike, Formed, of-became, of-edit, of-enter, of-update, of-then, of-next, of-fail, of-and, of-or, of-xor, formed}
 use Rattle.tophat.proofs.Progress.{flag-is}
 
 and-left : (x y : Bool) → x && y ≡ true → x ≡ true
@@ -36,27 +37,22 @@ unfolding firstOf
 chosen none p x y {v} h k e = right-false x y (k v e)
 chosen (some w) p x y h k e = let l = h w refl in rw l
 
+lives : {c : Code} {ρ : Env} {t : TaskOf c} → Formed c ρ t → (s : Store) (v : Val) → value c t s ≡ some v → failing c ρ s t ≡ false
+unfolding value failing
+lives (of-became {u = u} b d) s v h = alike b .fails s u ∙ lives d s v (sym (alike b .values s u) ∙ h)
+lives of-edit s v h = refl
+lives of-enter s v h = refl
+lives of-update s v h = refl
+lives (of-then d e) s v h = no-some h
+lives (of-next d e) s v h = no-some h
+lives of-fail s v h = no-some h
+lives (of-and d e) s v h = paired _ _ _ _ (λ w k. lives d s w k) h
+lives (of-or d e) s v h = chosen _ _ _ _ (λ w k. lives d s w k) (λ w k. lives e s w k) h
+lives (of-xor d e) s v h = no-some h
+
 -- a task with a value does not fail
 pub value-lives : (c : Code) (ρ : Env) (s : Store) (t : TaskOf c) (v : Val) → value c t s ≡ some v → failing c ρ s t ≡ false
-unfolding value failing
-value-lives (edit e) ρ s t v h = refl
-value-lives (enter τ) ρ s t v h = refl
-value-lives (update n) ρ s t v h = refl
-value-lives (then a b) ρ s (before t) v h = no-some h
-value-lives (then a b) ρ s (after w u) v h = value-lives b (w ∷ ρ) s u v h
-value-lives (next a b) ρ s (before t) v h = no-some h
-value-lives (next a b) ρ s (after w u) v h = value-lives b (w ∷ ρ) s u v h
-value-lives (fail τ) ρ s t v h = no-some h
-value-lives (and a b) ρ s (both t u) v h = paired (value a t s) (value b u s) (failing a ρ s t) (failing b ρ s u) (value-lives a ρ s t) h
-value-lives (or a b) ρ s (either t u) v h = chosen (value a t s) (value b u s) (failing a ρ s t) (failing b ρ s u) (value-lives a ρ s t) (value-lives b ρ s u) h
-value-lives (or a b) ρ s (orLeft t) v h = value-lives a ρ s t v h
-value-lives (or a b) ρ s (orRight u) v h = value-lives b ρ s u v h
-value-lives (xor a b) ρ s unpicked v h = no-some h
-value-lives (xor a b) ρ s (pickedLeft t) v h = value-lives a ρ s t v h
-value-lives (xor a b) ρ s (pickedRight u) v h = value-lives b ρ s u v h
-value-lives (if e a b) ρ s (ifTrue t) v h = value-lives a ρ s t v h
-value-lives (if e a b) ρ s (ifFalse u) v h = value-lives b ρ s u v h
-value-lives (let' e b) ρ s (bound w u) v h = value-lives b (w ∷ ρ) s u v h
+value-lives c ρ s t = lives (formed c ρ t) s
 
 none-else : (o : Option Val) → ((v : Val) → o ≡ some v → none ≡ some v) → o ≡ none
 none-else none f = refl
@@ -66,39 +62,34 @@ none-else (some v) f = no-some (f v refl)
 no-value : (c : Code) (ρ : Env) (s : Store) (t : TaskOf c) → failing c ρ s t ≡ true → stride c ρ s t .2 ≡ false → value c (stride c ρ s t .0) (stride c ρ s t .1) ≡ none
 no-value c ρ s t h k = let q = flag-is c ρ s t .0 k in ap₂ (value c) (q .0) (q .1) ∙ none-else (value c t s) (λ v e. apart h (value-lives c ρ s t v e))
 
--- a task that fails does not move
-pub failing-still : (c : Code) (ρ : Env) (s : Store) (t : TaskOf c) → failing c ρ s t ≡ true → stride c ρ s t .2 ≡ false
+still : {c : Code} {ρ : Env} {t : TaskOf c} → Formed c ρ t → (s : Store) → failing c ρ s t ≡ true → stride c ρ s t .2 ≡ false
 unfolding failing stride goOnWith chooseLeft chooseRight
-failing-still (edit e) ρ s t h = refl
-failing-still (enter τ) ρ s t h = refl
-failing-still (update n) ρ s t h = refl
-failing-still (then a b) ρ s (before t) h = let k = failing-still a ρ s t h in let e = no-value a ρ s t h k in rw (e, k)
-failing-still (then a b) ρ s (after v u) h = failing-still b (v ∷ ρ) s u h
-failing-still (next a b) ρ s (before t) h = failing-still a ρ s t h
-failing-still (next a b) ρ s (after v u) h = failing-still b (v ∷ ρ) s u h
-failing-still (fail τ) ρ s t h = refl
-failing-still (and a b) ρ s (both t u) h =
-    let k = failing-still a ρ s t (and-left (failing a ρ s t) (failing b ρ s u) h) in
-    let e = flag-is a ρ s t .0 k .1 in
-    let l = failing-still b ρ s u (and-right (failing a ρ s t) (failing b ρ s u) h) in
-    rw (k, e, l)
-failing-still (or a b) ρ s (either t u) h =
+still (of-became {u = u} b d) s h = ap (λ r. r .2) (alike b .strides s u) ∙ still d s (sym (alike b .fails s u) ∙ h)
+still of-edit s h = refl
+still of-enter s h = refl
+still of-update s h = refl
+still (of-then {ρ = ρ} {a = a} {t = t} d e) s h = let k = still d s h in let e = no-value a ρ s t h k in rw (e, k)
+still (of-next d e) s h = still d s h
+still of-fail s h = refl
+still (of-and {ρ = ρ} {a = a} {b = b} {t = t} {u = u} d e) s h =
+    let k = still d s (and-left (failing a ρ s t) (failing b ρ s u) h) in
+    let i = flag-is a ρ s t .0 k .1 in
+    let l = still e s (and-right (failing a ρ s t) (failing b ρ s u) h) in
+    rw (k, i, l)
+still (of-or {ρ = ρ} {a = a} {b = b} {t = t} {u = u} d e) s h =
     let f = and-left (failing a ρ s t) (failing b ρ s u) h in
     let g = and-right (failing a ρ s t) (failing b ρ s u) h in
-    let k = failing-still a ρ s t f in
-    let l = failing-still b ρ s u g in
+    let k = still d s f in
+    let l = still e s g in
     let i = no-value a ρ s t f k in
     let j = no-value b ρ s u g l in
-    let e = flag-is a ρ s t .0 k .1 in
-    rw (i, e, j, k, l)
-failing-still (or a b) ρ s (orLeft t) h = failing-still a ρ s t h
-failing-still (or a b) ρ s (orRight u) h = failing-still b ρ s u h
-failing-still (xor a b) ρ s unpicked h = refl
-failing-still (xor a b) ρ s (pickedLeft t) h = failing-still a ρ s t h
-failing-still (xor a b) ρ s (pickedRight u) h = failing-still b ρ s u h
-failing-still (if e a b) ρ s (ifTrue t) h = failing-still a ρ s t h
-failing-still (if e a b) ρ s (ifFalse u) h = failing-still b ρ s u h
-failing-still (let' e b) ρ s (bound v u) h = failing-still b (v ∷ ρ) s u h
+    let m = flag-is a ρ s t .0 k .1 in
+    rw (i, m, j, k, l)
+still (of-xor d e) s h = refl
+
+-- a task that fails does not move
+pub failing-still : (c : Code) (ρ : Env) (s : Store) (t : TaskOf c) → failing c ρ s t ≡ true → stride c ρ s t .2 ≡ false
+failing-still c ρ s t = still (formed c ρ t) s
 
 -- what a stride leaves, where it moved
 abbrev LivesIfMoved : (c : Code) → Env → TaskOf c × Store × Bool → Type 0
@@ -142,31 +133,27 @@ module _ (a b : Code) (ρ : Env) where
   choose-left none t s m u f h k = choose-right (value b (stride b ρ s u .0) (stride b ρ s u .1)) t s m u refl h k
   choose-left (some v) t s m u f h k = λ e. value-lives a ρ s t v f
 
+goes : {c : Code} {ρ : Env} {t : TaskOf c} → Formed c ρ t → (s : Store) → LivesIfMoved c ρ (stride c ρ s t)
+unfolding failing stride
+goes (of-became {u = u} b d) s h =
+    let e = alike b .strides s u in
+    let k = goes d s (sym (ap (λ r. r .2) e) ∙ h) in
+    rw e (alike b .fails _ _ ∙ k)
+goes of-edit s h = refl
+goes of-enter s h = refl
+goes of-update s h = refl
+goes (of-then {ρ = ρ} {a = a} {b = b} {t = t} d e) s h =
+    go-on-with a b ρ (value a (stride a ρ s t .0) (stride a ρ s t .1)) (stride a ρ s t .0) (stride a ρ s t .1) (stride a ρ s t .2) (λ k. goes d s k) h
+goes (of-next d e) s h = goes d s h
+goes of-fail s h = sym h
+goes (of-and {ρ = ρ} {a = a} {b = b} {t = t} {u = u} d e) s h = two a b ρ (stride a ρ s t .0) (stride a ρ s t .1) (stride a ρ s t .2) u (λ k. goes d s k) (λ k. goes e (stride a ρ s t .1) k) h
+goes (of-or {ρ = ρ} {a = a} {b = b} {t = t} {u = u} d e) s h =
+    choose-left a b ρ (value a (stride a ρ s t .0) (stride a ρ s t .1)) (stride a ρ s t .0) (stride a ρ s t .1) (stride a ρ s t .2) u refl (λ k. goes d s k) (λ k. goes e (stride a ρ s t .1) k) h
+goes (of-xor d e) s h = apart h refl
+
 -- a stride that moved leaves a task that does not fail, in the store that it leaves
 pub moved-lives : (c : Code) (ρ : Env) (s : Store) (t : TaskOf c) → stride c ρ s t .2 ≡ true → failing c ρ (stride c ρ s t .1) (stride c ρ s t .0) ≡ false
-unfolding failing stride
-moved-lives (edit e) ρ s t h = refl
-moved-lives (enter τ) ρ s t h = refl
-moved-lives (update n) ρ s t h = refl
-moved-lives (then a b) ρ s (before t) h =
-    go-on-with a b ρ (value a (stride a ρ s t .0) (stride a ρ s t .1)) (stride a ρ s t .0) (stride a ρ s t .1) (stride a ρ s t .2) (moved-lives a ρ s t) h
-moved-lives (then a b) ρ s (after v u) h = moved-lives b (v ∷ ρ) s u h
-moved-lives (next a b) ρ s (before t) h = moved-lives a ρ s t h
-moved-lives (next a b) ρ s (after v u) h = moved-lives b (v ∷ ρ) s u h
-moved-lives (fail τ) ρ s t h = sym h
-moved-lives (and a b) ρ s (both t u) h =
-    two a b ρ (stride a ρ s t .0) (stride a ρ s t .1) (stride a ρ s t .2) u (moved-lives a ρ s t) (moved-lives b ρ (stride a ρ s t .1) u) h
-moved-lives (or a b) ρ s (either t u) h =
-    choose-left a b ρ (value a (stride a ρ s t .0) (stride a ρ s t .1)) (stride a ρ s t .0) (stride a ρ s t .1) (stride a ρ s t .2) u refl
-    (moved-lives a ρ s t) (moved-lives b ρ (stride a ρ s t .1) u) h
-moved-lives (or a b) ρ s (orLeft t) h = moved-lives a ρ s t h
-moved-lives (or a b) ρ s (orRight u) h = moved-lives b ρ s u h
-moved-lives (xor a b) ρ s unpicked h = apart h refl
-moved-lives (xor a b) ρ s (pickedLeft t) h = moved-lives a ρ s t h
-moved-lives (xor a b) ρ s (pickedRight u) h = moved-lives b ρ s u h
-moved-lives (if e a b) ρ s (ifTrue t) h = moved-lives a ρ s t h
-moved-lives (if e a b) ρ s (ifFalse u) h = moved-lives b ρ s u h
-moved-lives (let' e b) ρ s (bound v u) h = moved-lives b (v ∷ ρ) s u h
+moved-lives c ρ s t = goes (formed c ρ t) s
 
 module _ (c : Code) (ρ : Env) where
   -- a stride does not change whether a task fails

@@ -6,12 +6,14 @@ use mathlib.Core.List.{[], _∷_}
 use Rattle.decimal.specs.Path.{Path}
 use Rattle.tophat.specs.Syntax.{Code, Val, Env, Store, TaskOf}
 use Rattle.tophat.specs.Normalising.{value}
-use Rattle.tophat.specs.Handling.{continue, left, right, Action, give, press, Handles, h-change, h-fill, h-update, h-pass-then, h-then-after, h-pass-next, h-next, h-next-after}
-use Rattle.tophat.specs.Handling.{h-first-and, h-second-and, h-first-or, h-second-or, h-or-left, h-or-right, h-pick-left, h-pick-right, h-picked-left, h-picked-right, h-if-true, h-if-false, h-let}
+use Rattle.tophat.specs.Handling.{h-became}
+use Rattle.tophat.specs.Handling.{continue, left, right, Action, give, press, Handles, h-change, h-fill, h-update, h-pass-then, h-pass-next, h-next}
+use Rattle.tophat.specs.Handling.{h-first-and, h-second-and, h-first-or, h-second-or, h-pick-left, h-pick-right}
 use Rattle.tophat.specs.Runs.{Refuses}
 use Rattle.tophat.proofs.Basics.{no-some}
 use Rattle.tophat.proofs.ComputeNormalising.{settle}
 use Rattle.tophat.proofs.ComputeHandling.{mapTask, thenSome, atEditor, atMark, atSides, atContinue, unlessFailing, handle}
+use Rattle.tophat.proofs.Became.{alike}
 use Rattle.tophat.proofs.EvaluationAgrees.{at-getD}
 use Rattle.tophat.proofs.TaskEvaluationAgrees.{evaluate-is}
 use Rattle.tophat.proofs.NormalisingComplete.{fails-is, normalises-is}
@@ -39,25 +41,17 @@ handles-is (h-change h g) = let e = type-of h in let f = gives-given g in rw (e,
 handles-is (h-fill g) = let f = gives-given g in rw f
 handles-is (h-update d h g) = let k = at-getD d in let e = type-of h in let f = gives-given g in rw (k, e, f)
 handles-is (h-pass-then d) = let e = handles-is d in rw e
-handles-is (h-then-after d) = let e = handles-is d in rw e
 handles-is (h-pass-next {ρ = ρ} {s = s} {a = a} {t = t} {p = p} {x = x} d) =
     let e = handles-is d in
     passes p x (value a t s) _ (λ v. no-continue a ρ s t p x e) (rw e)
 handles-is (h-next h d f) = let e = evaluate-is d in let k = fails-is f in rw (h, e, k)
-handles-is (h-next-after d) = let e = handles-is d in rw e
 handles-is (h-first-and d) = let e = handles-is d in rw e
 handles-is (h-second-and d) = let e = handles-is d in rw e
 handles-is (h-first-or d) = let e = handles-is d in rw e
 handles-is (h-second-or d) = let e = handles-is d in rw e
-handles-is (h-or-left d) = let e = handles-is d in rw e
-handles-is (h-or-right d) = let e = handles-is d in rw e
 handles-is (h-pick-left d n f) = let e = evaluate-is d in let k = normalises-is n in let l = fails-is f in rw (e, k, l)
 handles-is (h-pick-right d n f) = let e = evaluate-is d in let k = normalises-is n in let l = fails-is f in rw (e, k, l)
-handles-is (h-picked-left d) = let e = handles-is d in rw e
-handles-is (h-picked-right d) = let e = handles-is d in rw e
-handles-is (h-if-true d) = let e = handles-is d in rw e
-handles-is (h-if-false d) = let e = handles-is d in rw e
-handles-is (h-let d) = let e = handles-is d in rw e
+handles-is (h-became {s = s} {u = u} {p = p} {x = x} b d) = let q = ap (λ f. f p x) (alike b .handles s u) in let e = handles-is d in rw (q, e)
 
 -- an event has at most one outcome
 pub handles-one : {c : Code} {ρ : Env} {s s₁ s₂ : Store} {t t₁ t₂ : TaskOf c} {p : Path} {x : Action} → Handles c ρ s t p x t₁ s₁ → Handles c ρ s t p x t₂ s₂ → (t₁ ≡ t₂) × (s₁ ≡ s₂)

@@ -1,23 +1,26 @@
 -- What `handle` answers for a typed task is derived by the rules and keeps types. Rests on Leaves, Preservation and
 -- NormalisingSound.
-use mathlib.Core.Path.{_≡_, refl}
+use mathlib.Core.Path.{_≡_, refl, ap}
 use mathlib.Core.Bool.{Bool, true, false}
 use mathlib.Core.Option.{Option, none, some}
 use mathlib.Core.List.{List, [], _∷_}
 use lib.IntN.{ℤ}
 use lib.ListN.{getD}
 use Rattle.decimal.specs.Path.{first, second, Path}
-use Rattle.tophat.specs.Syntax.{Ty, pair, Code, edit, enter, update, then, next, fail, and, or, xor, if, let', Val, vunit, Env, Store}
-use Rattle.tophat.specs.Syntax.{TaskOf, filled, blank, entered, shared, before, after, both, either, orLeft, orRight, unpicked, pickedLeft, pickedRight, ifTrue, ifFalse, bound}
-use Rattle.tophat.specs.Typing.{ValueType, ValueTypes, v-cons}
-use Rattle.tophat.specs.Typing.{TaskType, k-filled, k-blank, k-entered, k-shared, k-then-before, k-then-after, k-next-before, k-next-after, k-both, k-either, k-or-left, k-or-right}
-use Rattle.tophat.specs.Typing.{k-unpicked, k-picked-left, k-picked-right, k-if-true, k-if-false, k-bound}
+use Rattle.tophat.specs.Syntax.{Ty, pair, Code, edit, enter, update, next, and, or, xor, Val, vunit, Env, Store}
+use Rattle.tophat.specs.Syntax.{TaskOf, filled, blank, entered, shared, before, after, both, either, unpicked, pickedLeft, pickedRight}
+use Rattle.tophat.specs.Typing.{ValueType, ValueTypes, v-cons, typeOf}
+use Rattle.tophat.specs.Typing.{TaskType, k-filled, k-blank, k-entered, k-shared, k-then-before, k-next-before, k-next-after, k-both, k-either}
+use Rattle.tophat.specs.Typing.{k-unpicked, k-picked-left, k-picked-right}
 use Rattle.tophat.specs.Normalising.{value}
-use Rattle.tophat.specs.Handling.{continue, left, right, Action, give, press, Gives, Handles, h-change, h-fill, h-update, h-pass-then, h-then-after, h-pass-next, h-next, h-next-after}
-use Rattle.tophat.specs.Handling.{h-first-and, h-second-and, h-first-or, h-second-or, h-or-left, h-or-right, h-pick-left, h-pick-right, h-picked-left, h-picked-right, h-if-true, h-if-false, h-let}
+use Rattle.tophat.specs.Handling.{h-became}
+use Rattle.tophat.specs.Handling.{continue, left, right, Action, give, press, Handles, h-change, h-fill, h-update, h-pass-then, h-pass-next, h-next}
+use Rattle.tophat.specs.Leaves.{Gives, given}
+use Rattle.tophat.specs.Handling.{h-first-and, h-second-and, h-first-or, h-second-or, h-pick-left, h-pick-right}
 use Rattle.tophat.proofs.Basics.{All, all-none, all-some}
 use Rattle.tophat.proofs.ComputeNormalising.{settle}
-use Rattle.tophat.proofs.ComputeHandling.{typeOf, given, mapTask, thenSome, atEditor, atMark, atSides, atContinue, unlessFailing, handle}
+use Rattle.tophat.proofs.ComputeHandling.{mapTask, thenSome, atEditor, atMark, atSides, atContinue, unlessFailing, handle}
+use Rattle.tophat.proofs.Became.{alike, Formed, of-became, of-edit, of-enter, of-update, of-then, of-next, of-fail, of-and, of-or, of-xor, formed, inner}
 use Rattle.tophat.proofs.EvaluationAgrees.{look-up, put}
 use Rattle.tophat.proofs.TaskEvaluationAgrees.{evaluate-good}
 use Rattle.tophat.proofs.Preservation.{task-code, option-is, value-type}
@@ -81,50 +84,44 @@ fits : {w v : Val} {τ : Ty} {ls : List ℤ} → ValueType w τ → Gives ls (ty
 fits h g = rw (type-of h) at g
 
 module _ {Σ : List Ty} where
-  -- what `handle` answers for a typed task is derived, and keeps types
-  pub handles-sound : (c : Code) {Γ : List Ty} {τ : Ty} (ρ : Env) (s : Store) (t : TaskOf c) (p : Path) (x : Action) → TaskType Σ Γ c t τ → ValueTypes ρ Γ → ValueTypes s Σ → All (GoodHandling Σ Γ τ c ρ s t p x) (handle c ρ s t p x)
+  good : {c : Code} {ρ : Env} {t : TaskOf c} {Γ : List Ty} {τ : Ty} → Formed c ρ t → (s : Store) (p : Path) (x : Action) → TaskType Σ Γ c t τ → ValueTypes ρ Γ → ValueTypes s Σ → All (GoodHandling Σ Γ τ c ρ s t p x) (handle c ρ s t p x)
   unfolding handle settle
-  handles-sound (edit e) {Γ} {τ} ρ s (filled w) p x (k-filled d k) g h =
+  good (of-became {K = K} {u = u} b f) s p x k g h =
+      let i = inner b u k in
+      rw (ap (λ f. f p x) (alike b .handles s u)) (map-all K (good f s p x (i .task) (i .env g) h) (λ t s q. record { derived = h-became b (q .derived); task = i .back (q .task); store = q .store }))
+  good {Γ = Γ} {τ = τ} (of-edit {ρ = ρ} {e = e} {v = w}) s p x (k-filled d k) g h =
       editor-all (GoodHandling Σ Γ τ (edit e) ρ s (filled w)) p x _
       (λ ls. given-all (typeOf w) _ _ refl (λ v z. let y = fits k z in record { derived = h-change k y; task = k-filled d (y .0); store = h }))
-  handles-sound (enter τ) {Γ} ρ s blank p x (k-blank l) g h =
+  good {Γ = Γ} (of-enter {ρ = ρ} {τ = τ}) s p x (k-blank l) g h =
       editor-all (GoodHandling Σ Γ τ (enter τ) ρ s blank) p x _
       (λ ls. given-all τ _ _ refl (λ v z. record { derived = h-fill z; task = k-entered l (z .0); store = h }))
-  handles-sound (enter τ) {Γ} ρ s (entered w) p x (k-entered l k) g h =
+  good {Γ = Γ} (of-enter {ρ = ρ} {τ = τ}) s p x (k-entered {v = w} l k) g h =
       editor-all (GoodHandling Σ Γ τ (enter τ) ρ s (entered w)) p x _
       (λ ls. given-all τ _ _ refl (λ v z. record { derived = h-fill z; task = k-entered l (z .0); store = h }))
-  handles-sound (update n) {Γ} {τ} ρ s shared p x (k-shared d) g h =
+  good {Γ = Γ} {τ = τ} (of-update {ρ = ρ} {n = n}) s p x (k-shared d) g h =
       let (i, k) = look-up h d in
       editor-all (GoodHandling Σ Γ τ (update n) ρ s shared) p x _
       (λ ls. given-all (typeOf (getD s n vunit)) _ _ refl (λ v z. let y = fits k z in record { derived = h-update i k y; task = k-shared d; store = put h d (y .0) }))
-  handles-sound (then a b) ρ s (before t) p x (k-then-before d e) g h =
-      map-all before (handles-sound a ρ s t p x d g h) (λ t s q. record { derived = h-pass-then (q .derived); task = k-then-before (q .task) e; store = q .store })
-  handles-sound (then a b) ρ s (after v u) p x (k-then-after d k e) g h =
-      map-all (after v) (handles-sound b (v ∷ ρ) s u p x e (v-cons k g) h) (λ t s q. record { derived = h-then-after (q .derived); task = k-then-after d k (q .task); store = q .store })
-  handles-sound (next a b) {Γ} {τ} ρ s (before t) p x (k-next-before d e) g h =
+  good (of-then f f₁) s p x (k-then-before d e) g h =
+      map-all before (good f s p x d g h) (λ t s q. record { derived = h-pass-then (q .derived); task = k-then-before (q .task) e; store = q .store })
+  good {Γ = Γ} {τ = τ} (of-next {ρ = ρ} {a = a} {b = b} {t = t} f f₁) s p x (k-next-before d e) g h =
       continue-all (GoodHandling Σ Γ τ (next a b) ρ s (before t)) p x (value a t s) _ _
       (λ v z.
       let k = option-is (value-type d h) z in
       let q = evaluate-good e (v ∷ ρ) s (v-cons k g) h in
-      let f = fails-sound b (v ∷ ρ) _ _ (q .task) (v-cons k g) (q .store) in
-      unless-all _ (after v) _ _ (λ y. record { derived = h-next z (q .derived) (rw y at f); task = k-next-after (task-code d) k (q .task); store = q .store }))
-      (map-all before (handles-sound a ρ s t p x d g h) (λ t s q. record { derived = h-pass-next (q .derived); task = k-next-before (q .task) e; store = q .store }))
-  handles-sound (next a b) ρ s (after v u) p x (k-next-after d k e) g h =
-      map-all (after v) (handles-sound b (v ∷ ρ) s u p x e (v-cons k g) h) (λ t s q. record { derived = h-next-after (q .derived); task = k-next-after d k (q .task); store = q .store })
-  handles-sound (fail τ) ρ s t p x d g h = all-none
-  handles-sound (and a b) {Γ} ρ s (both t u) p x (k-both {τ = τ} {υ = υ} d e l) g h =
+      let l = fails-sound b (v ∷ ρ) _ _ (q .task) (v-cons k g) (q .store) in
+      unless-all _ (after v) _ _ (λ y. record { derived = h-next z (q .derived) (rw y at l); task = k-next-after (task-code d) k (q .task); store = q .store }))
+      (map-all before (good f s p x d g h) (λ t s q. record { derived = h-pass-next (q .derived); task = k-next-before (q .task) e; store = q .store }))
+  good of-fail s p x d g h = all-none
+  good {Γ = Γ} (of-and {ρ = ρ} {a = a} {b = b} {t = t} {u = u} f f₁) s p x (k-both {τ = τ} {υ = υ} d e l) g h =
       mark-all (λ p. GoodHandling Σ Γ (pair τ υ) (and a b) ρ s (both t u) p x) p _ _
-      (λ q. map-all (λ t. both t u) (handles-sound a ρ s t q x d g h) (λ t s r. record { derived = h-first-and (r .derived); task = k-both (r .task) e l; store = r .store }))
-      (λ q. map-all (λ u. both t u) (handles-sound b ρ s u q x e g h) (λ u s r. record { derived = h-second-and (r .derived); task = k-both d (r .task) l; store = r .store }))
-  handles-sound (or a b) {Γ} {τ} ρ s (either t u) p x (k-either d e) g h =
+      (λ q. map-all (λ t. both t u) (good f s q x d g h) (λ t s r. record { derived = h-first-and (r .derived); task = k-both (r .task) e l; store = r .store }))
+      (λ q. map-all (λ u. both t u) (good f₁ s q x e g h) (λ u s r. record { derived = h-second-and (r .derived); task = k-both d (r .task) l; store = r .store }))
+  good {Γ = Γ} {τ = τ} (of-or {ρ = ρ} {a = a} {b = b} {t = t} {u = u} f f₁) s p x (k-either d e) g h =
       mark-all (λ p. GoodHandling Σ Γ τ (or a b) ρ s (either t u) p x) p _ _
-      (λ q. map-all (λ t. either t u) (handles-sound a ρ s t q x d g h) (λ t s r. record { derived = h-first-or (r .derived); task = k-either (r .task) e; store = r .store }))
-      (λ q. map-all (λ u. either t u) (handles-sound b ρ s u q x e g h) (λ u s r. record { derived = h-second-or (r .derived); task = k-either d (r .task); store = r .store }))
-  handles-sound (or a b) ρ s (orLeft t) p x (k-or-left d e) g h =
-      map-all orLeft (handles-sound a ρ s t p x d g h) (λ t s q. record { derived = h-or-left (q .derived); task = k-or-left (q .task) e; store = q .store })
-  handles-sound (or a b) ρ s (orRight u) p x (k-or-right d e) g h =
-      map-all orRight (handles-sound b ρ s u p x e g h) (λ t s q. record { derived = h-or-right (q .derived); task = k-or-right d (q .task); store = q .store })
-  handles-sound (xor a b) {Γ} {τ} ρ s unpicked p x (k-unpicked d e) g h =
+      (λ q. map-all (λ t. either t u) (good f s q x d g h) (λ t s r. record { derived = h-first-or (r .derived); task = k-either (r .task) e; store = r .store }))
+      (λ q. map-all (λ u. either t u) (good f₁ s q x e g h) (λ u s r. record { derived = h-second-or (r .derived); task = k-either d (r .task); store = r .store }))
+  good {Γ = Γ} {τ = τ} (of-xor {ρ = ρ} {a = a} {b = b} f f₁) s p x (k-unpicked d e) g h =
       let k = evaluate-good d ρ s g h in
       let l = evaluate-good e ρ s g h in
       let m = normalise-sound a ρ _ _ (k .task) g (k .store) in
@@ -134,13 +131,7 @@ module _ {Σ : List Ty} where
       sides-all (GoodHandling Σ Γ τ (xor a b) ρ s unpicked) p x _ _
       (unless-all _ pickedLeft _ _ (λ z. record { derived = h-pick-left (k .derived) (m .derived) (rw z at i); task = k-picked-left (m .task) e; store = m .store }))
       (unless-all _ pickedRight _ _ (λ z. record { derived = h-pick-right (l .derived) (n .derived) (rw z at j); task = k-picked-right d (n .task); store = n .store }))
-  handles-sound (xor a b) ρ s (pickedLeft t) p x (k-picked-left d e) g h =
-      map-all pickedLeft (handles-sound a ρ s t p x d g h) (λ t s q. record { derived = h-picked-left (q .derived); task = k-picked-left (q .task) e; store = q .store })
-  handles-sound (xor a b) ρ s (pickedRight u) p x (k-picked-right d e) g h =
-      map-all pickedRight (handles-sound b ρ s u p x e g h) (λ t s q. record { derived = h-picked-right (q .derived); task = k-picked-right d (q .task); store = q .store })
-  handles-sound (if e a b) ρ s (ifTrue t) p x (k-if-true i d k) g h =
-      map-all ifTrue (handles-sound a ρ s t p x d g h) (λ t s q. record { derived = h-if-true (q .derived); task = k-if-true i (q .task) k; store = q .store })
-  handles-sound (if e a b) ρ s (ifFalse u) p x (k-if-false i d k) g h =
-      map-all ifFalse (handles-sound b ρ s u p x k g h) (λ t s q. record { derived = h-if-false (q .derived); task = k-if-false i d (q .task); store = q .store })
-  handles-sound (let' e b) ρ s (bound v u) p x (k-bound i k d) g h =
-      map-all (bound v) (handles-sound b (v ∷ ρ) s u p x d (v-cons k g) h) (λ t s q. record { derived = h-let (q .derived); task = k-bound i k (q .task); store = q .store })
+
+  -- what `handle` answers for a typed task is derived, and keeps types
+  pub handles-sound : (c : Code) {Γ : List Ty} {τ : Ty} (ρ : Env) (s : Store) (t : TaskOf c) (p : Path) (x : Action) → TaskType Σ Γ c t τ → ValueTypes ρ Γ → ValueTypes s Σ → All (GoodHandling Σ Γ τ c ρ s t p x) (handle c ρ s t p x)
+  handles-sound c ρ s t p x k g h = good (formed c ρ t) s p x k g h

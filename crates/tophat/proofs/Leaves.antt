@@ -12,11 +12,9 @@ use lib.ListN.{length, length-append, drop, replicate}
 use Rattle.word.proofs.Order.{eqZ-true}
 use Rattle.word.specs.Word.{half, eqZ}
 use Rattle.tophat.specs.Syntax.{maxLeaves, Ty, unit, truth, number, pair, leaves, Val, vunit, vtruth, vnumber, vpair}
-use Rattle.tophat.specs.Typing.{ValueType, v-unit, v-truth, v-number, v-pair}
-use Rattle.tophat.specs.Handling.{leavesOf, padded, Gives}
-use Rattle.tophat.specs.Showing.{Leaf, noLeaf, unitLeaf, truthLeaf, numberLeaf, leafKinds, Meets, m-end, m-none, m-unit, m-false, m-true, m-number}
+use Rattle.tophat.specs.Typing.{ValueType, v-unit, v-truth, v-number, v-pair, typeOf}
+use Rattle.tophat.specs.Leaves.{leavesOf, padded, Gives, Leaf, noLeaf, unitLeaf, truthLeaf, numberLeaf, leafKinds, Meets, m-end, m-none, m-unit, m-false, m-true, m-number, valueOf, meetsLeaf, meets, given}
 use Rattle.tophat.proofs.Basics.{no-some}
-use Rattle.tophat.proofs.ComputeHandling.{typeOf, valueOf, meetsLeaf, meets, given}
 
 -- a value has one type
 pub type-of : {v : Val} {τ : Ty} → ValueType v τ → typeOf v ≡ τ
@@ -67,7 +65,7 @@ meets-is (m-true d) = meets-is d
 meets-is (m-number {n = n} h d) = let p = test (ltb (mag n) half) (lt→ltb (mag n) half h) in let q = meets-is d in rw (p, q)
 
 -- as many kinds as leaves
-length-kinds : (τ : Ty) → length (leafKinds τ) ≡ leaves τ
+pub length-kinds : (τ : Ty) → length (leafKinds τ) ≡ leaves τ
 unfolding leafKinds leaves
 length-kinds unit = refl
 length-kinds truth = refl

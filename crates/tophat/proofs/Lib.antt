@@ -3,6 +3,7 @@ pub mod ComputeEvaluation
 pub mod ComputeNormalising
 pub mod ComputeHandling
 pub mod ComputeEntries
+pub mod Became
 pub mod Leaves
 pub mod EvaluationAgrees
 pub mod TaskEvaluationAgrees
@@ -14,10 +15,11 @@ pub mod Preservation
 pub mod ComputeTyping
 pub mod TypingAgrees
 pub mod TypeLeaves
+pub mod ResidualTyped
 pub mod NormalisingSound
 pub mod NormalisingComplete
 pub mod Cases
-pub mod EntriesFailing
+pub mod EntriesQuiet
 pub mod EntriesBound
 pub mod Bound
 pub mod HandlingComplete

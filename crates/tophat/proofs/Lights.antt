@@ -11,10 +11,11 @@ use Rattle.decimal.specs.Path.{Mark, first, second, Path}
 use Rattle.tophat.specs.Syntax.{Ty, Val, Store}
 use Rattle.tophat.specs.Typing.{At, here, there}
 use Rattle.tophat.specs.Handling.{Button, continue, left, right, Action, give, press}
-use Rattle.tophat.specs.Showing.{Entry, Covers, c-fill, c-button, marked, offers, lit}
+use Rattle.tophat.specs.Showing.{Entry, Covers, c-fill, c-button, marked, offers, buttonIf}
 use Rattle.tophat.proofs.Basics.{no-some}
-use Rattle.tophat.proofs.ComputeHandling.{given, mapTask, thenSome, atEditor, atMark, atSides, atContinue, unlessFailing}
-use Rattle.tophat.proofs.ComputeEntries.{litContinue}
+use Rattle.tophat.proofs.ComputeHandling.{mapTask, thenSome, atEditor, atMark, atSides, atContinue, unlessFailing}
+use Rattle.tophat.specs.Leaves.{given}
+use Rattle.tophat.proofs.ComputeEntries.{continueIf}
 use Rattle.tophat.proofs.Leaves.{given-gives, gives-given, gives-meets, meets-gives}
 
 -- an entry covers the event
@@ -138,11 +139,11 @@ module _ {X : Type 0} where
 
   -- a button, for a function that takes nothing else
   lit-lights : (b : Button) (f : Path → Action → Option X) {y : Bool} {o : Option X} → Open y o → f [] (press b) ≡ o
-      → ((p : Path) (x : Action) (r : X) → f p x ≡ some r → (p ≡ []) × (x ≡ press b)) → Lights (lit (not y) b) f
-  unfolding lit
+      → ((p : Path) (x : Action) (r : X) → f p x ≡ some r → (p ≡ []) × (x ≡ press b)) → Lights (buttonIf (not y) b) f
+  unfolding buttonIf
   lit-lights b f (opened {r = r}) e only = record { taken = λ d c. takes d c; covered = λ p x h. let (k, l) = only p x _ h in rw (k, l) (0, _, here, c-button); once = λ d k _ _. one-place d k }
     where
-      takes : {i : ℕ} {n : Entry} {p : Path} {x : Action} → At (lit true b) i n → Covers n p x → (q : X) × (f p x ≡ some q)
+      takes : {i : ℕ} {n : Entry} {p : Path} {x : Action} → At (buttonIf true b) i n → Covers n p x → (q : X) × (f p x ≡ some q)
       takes here c-button = (r, e)
       takes (there d) k = absurd (nowhere d)
   lit-lights b f shut e only = record { taken = λ d c. absurd (nowhere d); covered = λ p x h. finds p x h; once = λ d k _ _. absurd (nowhere d) }
@@ -229,7 +230,7 @@ module _ {X : Type 0} where
       agree (second ∷ p) x = refl
 
   -- 48: Left and Right, each where its branch does not fail
-  pub sides-light : {y z : Bool} {o q : Option X} → Open y o → Open z q → Lights (lit (not y) left ++ lit (not z) right) (λ p x. atSides p x (λ _. o) (λ _. q))
+  pub sides-light : {y z : Bool} {o q : Option X} → Open y o → Open z q → Lights (buttonIf (not y) left ++ buttonIf (not z) right) (λ p x. atSides p x (λ _. o) (λ _. q))
   unfolding atSides orElse
   sides-light {o = o} {q = q} l k = same-light (join-lights (lit-lights left one l refl one-left) (lit-lights right two k refl two-right) apart) agree
     where
@@ -270,8 +271,8 @@ module _ {X : Type 0} where
   -- 44: A's entries, then Continue where A has a value; then A does not take it
   pub next-lights : {es : List Entry} {f : Path → Action → Option X} (g : Val → Option X) (F : Val → Bool) (o : Option Val)
       → Lights es f → ((v : Val) → Open (F v) (g v)) → ((v : Val) → o ≡ some v → f [] (press continue) ≡ none)
-      → Lights (es ++ litContinue o F) (λ p x. atContinue p x o g (λ _. f p x))
-  unfolding litContinue atContinue orElse
+      → Lights (es ++ continueIf o F) (λ p x. atContinue p x o g (λ _. f p x))
+  unfolding continueIf atContinue orElse
   next-lights {f = f} g F none l k n = same-light (join-lights l none-lights (λ p x r q h e. no-some e)) agree
     where
       agree : (p : Path) (x : Action) → orElse (f p x) none ≡ atContinue p x none g (λ _. f p x)

@@ -6,13 +6,15 @@ use mathlib.Core.Logic.{inl, inr}
 use Prim.Native.Nat.{ℕ, zero, suc, _<_}
 use native.Mathlib.Omega.{arith}
 use Rattle.tophat.specs.Syntax.{moves, Code, Env, Store, TaskOf}
-use Rattle.tophat.specs.Normalising.{Fails, f-edit, f-enter, f-update, f-then, f-then-after, f-next, f-next-after, f-fail, f-and, f-or, f-or-left, f-or-right}
-use Rattle.tophat.specs.Normalising.{f-xor, f-picked-left, f-picked-right, f-if-true, f-if-false, f-let}
-use Rattle.tophat.specs.Normalising.{Strides, s-edit, s-fill, s-update, s-fail, s-then-stay, s-then-fail, s-then-cont, s-then-after, s-next, s-next-after, s-and, s-or-left, s-or-right, s-or-none}
-use Rattle.tophat.specs.Normalising.{s-or-left-on, s-or-right-on, s-xor, s-picked-left, s-picked-right, s-if-true, s-if-false, s-let, Normalises, n-done, n-repeat}
-use Rattle.tophat.proofs.ComputeNormalising.{unlessStill, strides, goOn, goOnWith, chooseRight, chooseLeft, failing, stride, normalise}
+use Rattle.tophat.specs.Normalising.{Fails, f-edit, f-enter, f-update, f-then, f-next, f-fail, f-and, f-or}
+use Rattle.tophat.specs.Normalising.{f-became, s-became, f-xor, RightFails, r-evaluated, BranchFails, b-normalised}
+use Rattle.tophat.specs.Normalising.{Strides, s-edit, s-fill, s-update, s-fail, s-then-stay, s-then-fail, s-then-cont, s-next, s-and, s-or-left, s-or-right, s-or-none}
+use Rattle.tophat.specs.Normalising.{s-xor, Normalises, n-done, n-repeat}
+use Rattle.tophat.proofs.ComputeNormalising.{remaining, unlessStill, strides, goOn, goOnWith, chooseRight, chooseLeft, failing, stride, normalise, settle, rightFails, branchFails}
+use Rattle.tophat.proofs.ComputeEvaluation.{evaluate}
+use Rattle.tophat.proofs.Became.{alike}
 use Rattle.tophat.proofs.TaskEvaluationAgrees.{evaluate-is}
-use Rattle.tophat.proofs.Progress.{remaining, remaining-moves, Progress, progress}
+use Rattle.tophat.proofs.Progress.{remaining-moves, Progress, progress}
 
 -- `stride` answers t₁ and s₁, with some flag
 abbrev pub StridesAs : (c : Code) → Env → Store → TaskOf c → TaskOf c → Store → Type 0
@@ -53,27 +55,24 @@ mutual
   fails-is f-enter = refl
   fails-is f-update = refl
   fails-is (f-then d) = fails-is d
-  fails-is (f-then-after d) = fails-is d
   fails-is (f-next d) = fails-is d
-  fails-is (f-next-after d) = fails-is d
   fails-is f-fail = refl
   fails-is (f-and d d₁ e) = ap₂ _&&_ (fails-is d) (fails-is d₁) ∙ e
   fails-is (f-or d d₁ e) = ap₂ _&&_ (fails-is d) (fails-is d₁) ∙ e
-  fails-is (f-or-left d) = fails-is d
-  fails-is (f-or-right d) = fails-is d
-  fails-is (f-xor {a = a} {b = b} {t = t} {u = u} p q r p₁ q₁ r₁ z) =
-      let e = evaluate-is p in
-      let e₁ = evaluate-is p₁ in
-      let h = strides-end-is q (suc (moves a)) (let k = remaining-moves a t in omega arith) in
-      let h₁ = strides-end-is q₁ (suc (moves b)) (let k = remaining-moves b u in omega arith) in
-      let k = fails-is r in
-      let k₁ = fails-is r₁ in
-      rw (e, e₁, h, h₁, k, k₁) z
-  fails-is (f-picked-left d) = fails-is d
-  fails-is (f-picked-right d) = fails-is d
-  fails-is (f-if-true d) = fails-is d
-  fails-is (f-if-false d) = fails-is d
-  fails-is (f-let d) = fails-is d
+  fails-is (f-xor p q z) = let h = branch-fails-is p in let k = branch-fails-is q in rw (h, k) z
+  fails-is (f-became {s = s} {u = u} b k d) = let p = alike b .fails s u in let q = fails-is d in rw (← k) (p ∙ q)
+
+  -- the answers derived on what is tried are the functions'
+  right-fails-is : {b : Code} {ρ : Env} {s : Store} {x : Bool} → RightFails b ρ s x → (let (u, s₁) = evaluate b ρ s in failing b ρ s₁ u) ≡ x
+  right-fails-is (r-evaluated d f) = let e = evaluate-is d in let k = fails-is f in rw (e, k)
+
+  branch-fails-is : {c : Code} {ρ : Env} {s : Store} {x : Bool} → BranchFails c ρ s x
+      → (let (t, s₁) = evaluate c ρ s in let (t₁, s₂, n) = strides (λ s t. stride c ρ s t) (suc (moves c)) s₁ t in failing c ρ s₂ t₁) ≡ x
+  branch-fails-is (b-normalised {c = c} {t = t} d n f) =
+      let e = evaluate-is d in
+      let h = strides-end-is n (suc (moves c)) (let k = remaining-moves c t in omega arith) in
+      let k = fails-is f in
+      rw (e, h, k)
 
   -- the stride derived is the function's
   pub strides-as : {c : Code} {ρ : Env} {s s₁ : Store} {t t₁ : TaskOf c} → Strides c ρ s t t₁ s₁ → StridesAs c ρ s t t₁ s₁
@@ -82,23 +81,15 @@ mutual
   strides-as s-update = (false, refl)
   strides-as s-fail = (false, refl)
   strides-as (s-then-stay d e) = let (m, p) = strides-as d in (m, rw (p, e))
-  strides-as (s-then-fail d e k l) = let (m, p) = strides-as d in let q = evaluate-is k in let r = fails-is l in (m, rw (p, e, q, r))
+  strides-as (s-then-fail d e k) = let (m, p) = strides-as d in let q = right-fails-is k in (m, rw (p, e, q))
   strides-as (s-then-cont d e k l) = let (m, p) = strides-as d in let q = evaluate-is k in let r = fails-is l in (true, rw (p, e, q, r))
-  strides-as (s-then-after d) = let (m, p) = strides-as d in (m, rw p)
   strides-as (s-next d) = let (m, p) = strides-as d in (m, rw p)
-  strides-as (s-next-after d) = let (m, p) = strides-as d in (m, rw p)
   strides-as (s-and d d₁) = let (m, p) = strides-as d in let (n, q) = strides-as d₁ in (m || n, rw (p, q))
   strides-as (s-or-left d e) = let (m, p) = strides-as d in (true, rw (p, e))
   strides-as (s-or-right d e d₁ e₁) = let (m, p) = strides-as d in let (n, q) = strides-as d₁ in (true, rw (p, e, q, e₁))
   strides-as (s-or-none d e d₁ e₁) = let (m, p) = strides-as d in let (n, q) = strides-as d₁ in (m || n, rw (p, e, q, e₁))
-  strides-as (s-or-left-on d) = let (m, p) = strides-as d in (m, rw p)
-  strides-as (s-or-right-on d) = let (m, p) = strides-as d in (m, rw p)
   strides-as s-xor = (false, refl)
-  strides-as (s-picked-left d) = let (m, p) = strides-as d in (m, rw p)
-  strides-as (s-picked-right d) = let (m, p) = strides-as d in (m, rw p)
-  strides-as (s-if-true d) = let (m, p) = strides-as d in (m, rw p)
-  strides-as (s-if-false d) = let (m, p) = strides-as d in (m, rw p)
-  strides-as (s-let d) = let (m, p) = strides-as d in (m, rw p)
+  strides-as (s-became {s = s} {u = u} b k l d) = let q = alike b .strides s u in let (m, p) = strides-as d in (m, rw (← k, ← l, q, p))
 
   -- with a limit above what can still move, the strides derived are the function's
   strides-end-is : {c : Code} {ρ : Env} {s s₁ : Store} {t t₁ : TaskOf c} {i : ℕ} → Normalises c ρ s t t₁ s₁ i → (n : ℕ) → remaining c t < n
@@ -119,6 +110,13 @@ strides-is d = let (m, p) = strides-as d in (ap (λ r. r .0) p, ap (λ r. r .1) 
 pub normalises-is : {c : Code} {ρ : Env} {s s₁ : Store} {t t₁ : TaskOf c} {n : ℕ} → Normalises c ρ s t t₁ s₁ n → normalise c ρ s t ≡ (t₁, s₁, n)
 unfolding normalise
 normalises-is {c} {t = t} d = let h = remaining-moves c t in strides-end-is d (suc (moves c)) (omega arith)
+
+pub right-is : {b : Code} {ρ : Env} {s : Store} {x : Bool} → RightFails b ρ s x → rightFails b ρ s ≡ x
+right-is d = right-fails-is d
+
+pub branch-is : {c : Code} {ρ : Env} {s : Store} {x : Bool} → BranchFails c ρ s x → branchFails c ρ s ≡ x
+unfolding settle normalise
+branch-is d = branch-fails-is d
 
 -- each relation has at most one answer
 pub fails-one : {c : Code} {ρ : Env} {s : Store} {t : TaskOf c} {x y : Bool} → Fails c ρ s t x → Fails c ρ s t y → x ≡ y

@@ -7,21 +7,23 @@ use mathlib.Core.Logic.{inl, inr}
 use mathlib.Core.List.{List, _∷_}
 use Prim.Native.Nat.{ℕ, zero, suc, _<_}
 use native.Mathlib.Omega.{arith}
-use Rattle.tophat.specs.Syntax.{moves, Ty, Code, edit, enter, update, then, next, fail, and, or, xor, if, let', Val, Env, Store}
+use Rattle.tophat.specs.Syntax.{moves, Ty, Code, then, or, Val, Env, Store}
 use Rattle.tophat.specs.Syntax.{TaskOf, before, either}
-use Rattle.tophat.specs.Typing.{ValueTypes, v-cons}
-use Rattle.tophat.specs.Typing.{TaskType, k-then-before, k-then-after, k-next-before, k-next-after, k-both, k-either, k-or-left, k-or-right}
-use Rattle.tophat.specs.Typing.{k-unpicked, k-picked-left, k-picked-right, k-if-true, k-if-false, k-bound}
+use Rattle.tophat.specs.Typing.{CodeType, ValueTypes, v-cons}
+use Rattle.tophat.specs.Typing.{TaskType, k-then-before, k-next-before, k-both, k-either}
+use Rattle.tophat.specs.Typing.{k-unpicked}
 use Rattle.tophat.specs.Evaluation.{EvaluatesTask}
-use Rattle.tophat.specs.Normalising.{value, Fails, f-edit, f-enter, f-update, f-then, f-then-after, f-next, f-next-after, f-fail, f-and, f-or, f-or-left, f-or-right}
-use Rattle.tophat.specs.Normalising.{f-xor, f-picked-left, f-picked-right, f-if-true, f-if-false, f-let}
-use Rattle.tophat.specs.Normalising.{Strides, s-edit, s-fill, s-update, s-fail, s-then-stay, s-then-fail, s-then-cont, s-then-after, s-next, s-next-after, s-and, s-or-left, s-or-right, s-or-none}
-use Rattle.tophat.specs.Normalising.{s-or-left-on, s-or-right-on, s-xor, s-picked-left, s-picked-right, s-if-true, s-if-false, s-let, Normalises, n-done, n-repeat}
+use Rattle.tophat.specs.Normalising.{f-became, s-became}
+use Rattle.tophat.specs.Normalising.{value, Fails, f-edit, f-enter, f-update, f-then, f-next, f-fail, f-and, f-or}
+use Rattle.tophat.specs.Normalising.{f-xor, RightFails, r-evaluated, BranchFails, b-normalised}
+use Rattle.tophat.specs.Normalising.{Strides, s-edit, s-fill, s-update, s-fail, s-then-stay, s-then-fail, s-then-cont, s-next, s-and, s-or-left, s-or-right, s-or-none}
+use Rattle.tophat.specs.Normalising.{s-xor, Normalises, n-done, n-repeat}
 use Rattle.tophat.proofs.ComputeEvaluation.{evaluate}
-use Rattle.tophat.proofs.ComputeNormalising.{unlessStill, strides, goOn, goOnWith, chooseRight, chooseLeft, failing, stride, normalise}
+use Rattle.tophat.proofs.ComputeNormalising.{remaining, unlessStill, strides, goOn, goOnWith, chooseRight, chooseLeft, failing, stride, normalise, settle, rightFails, branchFails}
+use Rattle.tophat.proofs.Became.{alike, Formed, of-became, of-edit, of-enter, of-update, of-then, of-next, of-fail, of-and, of-or, of-xor, formed, inner}
 use Rattle.tophat.proofs.TaskEvaluationAgrees.{evaluate-good}
 use Rattle.tophat.proofs.Preservation.{option-is, value-type, KeptBy, stride-kept}
-use Rattle.tophat.proofs.Progress.{remaining, remaining-moves, Progress, progress}
+use Rattle.tophat.proofs.Progress.{remaining-moves, Progress, progress}
 
 -- an answer of `stride` is derived
 abbrev pub StridesTo : (c : Code) → Env → Store → TaskOf c → TaskOf c × Store × Bool → Type 0
@@ -65,7 +67,7 @@ go-on : {a b : Code} {ρ : Env} {s s₁ : Store} {t t₁ : TaskOf a} (v : Val) (
     → Strides a ρ s t t₁ s₁ → value a t₁ s₁ ≡ some v → EvaluatesTask b (v ∷ ρ) s₁ (r .0) (r .1) → Fails b (v ∷ ρ) (r .1) (r .0) x
     → StridesTo (then a b) ρ s (before t) (goOn v t₁ s₁ m r x)
 unfolding goOn
-go-on v m r true h e k l = s-then-fail h e k l
+go-on v m r true h e k l = s-then-fail h e (r-evaluated k l)
 go-on v m r false h e k l = s-then-cont h e k l
 
 go-on-with : {a b : Code} {ρ : Env} {s s₁ : Store} {t t₁ : TaskOf a} (o : Option Val) (m : Bool) (E : Val → TaskOf b × Store) (F : Val → TaskOf b × Store → Bool)
@@ -91,62 +93,71 @@ unfolding chooseLeft
 choose-left none m G h e k = choose-right _ _ h e k refl
 choose-left (some v) m G h e k = s-or-left h e
 
+-- whether a task fails, and where it strides to, are derived
+record Sound (c : Code) (ρ : Env) (s : Store) (t : TaskOf c) : Type 0 where
+  fails : Fails c ρ s t (failing c ρ s t)
+  strides : StridesTo c ρ s t (stride c ρ s t)
+
 module _ {Σ : List Ty} where
-  mutual
-    unfolding failing evaluate
+  sound : {c : Code} {ρ : Env} {t : TaskOf c} {Γ : List Ty} {τ : Ty} → Formed c ρ t → (s : Store) → TaskType Σ Γ c t τ → ValueTypes ρ Γ → ValueTypes s Σ → Sound c ρ s t
+  unfolding failing stride evaluate
+  sound (of-became {u = u} b d) s k g h =
+      let i = inner b u k in
+      let p = sound d s (i .task) (i .env g) h in
+      record { fails = rw (alike b .fails s u) (f-became b refl (p .fails)); strides = rw (alike b .strides s u) (s-became b refl refl (p .strides)) }
+  sound of-edit s k g h = record { fails = f-edit; strides = s-edit }
+  sound of-enter s k g h = record { fails = f-enter; strides = s-fill }
+  sound of-update s k g h = record { fails = f-update; strides = s-update }
+  sound (of-then {ρ = ρ} d f) s (k-then-before k e) g h =
+      let p = sound d s k g h in
+      let q = stride-kept k ρ s g h in
+      let o = value-type (q .task) (q .store) in
+      record {
+        fails = f-then (p .fails);
+        strides = go-on-with _ _ _ _ (p .strides) refl
+            (λ v z. let r = evaluate-good e (v ∷ ρ) _ (v-cons (option-is o z) g) (q .store) in (r .derived, sound (f v _) _ (r .task) (v-cons (option-is o z) g) (r .store) .fails));
+      }
+  sound (of-next d f) s (k-next-before k e) g h = let p = sound d s k g h in record { fails = f-next (p .fails); strides = s-next (p .strides) }
+  sound of-fail s k g h = record { fails = f-fail; strides = s-fail }
+  sound (of-and {ρ = ρ} d e) s (k-both k m l) g h =
+      let p = sound d s k g h in
+      record { fails = f-and (p .fails) (sound e s m g h .fails) refl; strides = s-and (p .strides) (sound e _ m g (stride-kept k ρ s g h .store) .strides) }
+  sound (of-or {ρ = ρ} d e) s (k-either k m) g h =
+      let p = sound d s k g h in
+      record { fails = f-or (p .fails) (sound e s m g h .fails) refl; strides = choose-left _ _ _ (p .strides) refl (sound e _ m g (stride-kept k ρ s g h .store) .strides) }
+  sound (of-xor {ρ = ρ} {a = a} {b = b} d e) s (k-unpicked k m) g h =
+      let p = evaluate-good k ρ s g h in
+      let q = evaluate-good m ρ s g h in
+      let x = normal-good a ρ g (λ s t k h. sound (d t) s k g h .strides) _ _ (p .task) (p .store) in
+      let y = normal-good b ρ g (λ s u m h. sound (e u) s m g h .strides) _ _ (q .task) (q .store) in
+      record {
+        fails = f-xor
+            (b-normalised (p .derived) (x .derived) (sound (d _) _ (x .task) g (x .store) .fails))
+            (b-normalised (q .derived) (y .derived) (sound (e _) _ (y .task) g (y .store) .fails))
+            refl;
+        strides = s-xor;
+      }
 
-    -- whether a typed task fails is derived
-    pub fails-sound : (c : Code) {Γ : List Ty} {τ : Ty} (ρ : Env) (s : Store) (t : TaskOf c) → TaskType Σ Γ c t τ → ValueTypes ρ Γ → ValueTypes s Σ → Fails c ρ s t (failing c ρ s t)
-    fails-sound (edit e) ρ s t d g h = f-edit
-    fails-sound (enter τ) ρ s t d g h = f-enter
-    fails-sound (update n) ρ s t d g h = f-update
-    fails-sound (then a b) ρ s w (k-then-before {t = t} d k) g h = f-then (fails-sound a ρ s t d g h)
-    fails-sound (then a b) ρ s w (k-then-after {v = v} {u = u} k x d) g h = f-then-after (fails-sound b (v ∷ ρ) s u d (v-cons x g) h)
-    fails-sound (next a b) ρ s w (k-next-before {t = t} d k) g h = f-next (fails-sound a ρ s t d g h)
-    fails-sound (next a b) ρ s w (k-next-after {v = v} {u = u} k x d) g h = f-next-after (fails-sound b (v ∷ ρ) s u d (v-cons x g) h)
-    fails-sound (fail τ) ρ s t d g h = f-fail
-    fails-sound (and a b) ρ s w (k-both {t = t} {u = u} d e l) g h = f-and (fails-sound a ρ s t d g h) (fails-sound b ρ s u e g h) refl
-    fails-sound (or a b) ρ s w (k-either {t = t} {u = u} d e) g h = f-or (fails-sound a ρ s t d g h) (fails-sound b ρ s u e g h) refl
-    fails-sound (or a b) ρ s w (k-or-left {t = t} d e) g h = f-or-left (fails-sound a ρ s t d g h)
-    fails-sound (or a b) ρ s w (k-or-right {u = u} d e) g h = f-or-right (fails-sound b ρ s u e g h)
-    fails-sound (xor a b) ρ s w (k-unpicked d e) g h =
-        let p = evaluate-good d ρ s g h in
-        let q = evaluate-good e ρ s g h in
-        let x = normal-good a ρ g (λ s t d h. strides-sound a ρ s t d g h) _ _ (p .task) (p .store) in
-        let y = normal-good b ρ g (λ s u e h. strides-sound b ρ s u e g h) _ _ (q .task) (q .store) in
-        f-xor (p .derived) (x .derived) (fails-sound a ρ _ _ (x .task) g (x .store)) (q .derived) (y .derived) (fails-sound b ρ _ _ (y .task) g (y .store)) refl
-    fails-sound (xor a b) ρ s w (k-picked-left {t = t} d e) g h = f-picked-left (fails-sound a ρ s t d g h)
-    fails-sound (xor a b) ρ s w (k-picked-right {u = u} d e) g h = f-picked-right (fails-sound b ρ s u e g h)
-    fails-sound (if x a b) ρ s w (k-if-true {t = t} k d e) g h = f-if-true (fails-sound a ρ s t d g h)
-    fails-sound (if x a b) ρ s w (k-if-false {u = u} k d e) g h = f-if-false (fails-sound b ρ s u e g h)
-    fails-sound (let' x b) ρ s w (k-bound {v = v} {u = u} k y d) g h = f-let (fails-sound b (v ∷ ρ) s u d (v-cons y g) h)
+  -- whether a typed task fails is derived
+  pub fails-sound : (c : Code) {Γ : List Ty} {τ : Ty} (ρ : Env) (s : Store) (t : TaskOf c) → TaskType Σ Γ c t τ → ValueTypes ρ Γ → ValueTypes s Σ → Fails c ρ s t (failing c ρ s t)
+  fails-sound c ρ s t k g h = sound (formed c ρ t) s k g h .fails
 
-    -- where a typed task strides to is derived
-    pub strides-sound : (c : Code) {Γ : List Ty} {τ : Ty} (ρ : Env) (s : Store) (t : TaskOf c) → TaskType Σ Γ c t τ → ValueTypes ρ Γ → ValueTypes s Σ → StridesTo c ρ s t (stride c ρ s t)
-    strides-sound (edit e) ρ s t d g h = s-edit
-    strides-sound (enter τ) ρ s t d g h = s-fill
-    strides-sound (update n) ρ s t d g h = s-update
-    strides-sound (then a b) ρ s w (k-then-before {t = t} d k) g h =
-        let p = stride-kept d ρ s g h in
-        let o = value-type (p .task) (p .store) in
-        go-on-with _ _ _ _ (strides-sound a ρ s t d g h) refl
-        (λ v e. let q = evaluate-good k (v ∷ ρ) _ (v-cons (option-is o e) g) (p .store) in (q .derived, fails-sound b (v ∷ ρ) _ _ (q .task) (v-cons (option-is o e) g) (q .store)))
-    strides-sound (then a b) ρ s w (k-then-after {v = v} {u = u} k x d) g h = s-then-after (strides-sound b (v ∷ ρ) s u d (v-cons x g) h)
-    strides-sound (next a b) ρ s w (k-next-before {t = t} d k) g h = s-next (strides-sound a ρ s t d g h)
-    strides-sound (next a b) ρ s w (k-next-after {v = v} {u = u} k x d) g h = s-next-after (strides-sound b (v ∷ ρ) s u d (v-cons x g) h)
-    strides-sound (fail τ) ρ s t d g h = s-fail
-    strides-sound (and a b) ρ s w (k-both {t = t} {u = u} d e l) g h = s-and (strides-sound a ρ s t d g h) (strides-sound b ρ _ u e g (stride-kept d ρ s g h .store))
-    strides-sound (or a b) ρ s w (k-either {t = t} {u = u} d e) g h = choose-left _ _ _ (strides-sound a ρ s t d g h) refl (strides-sound b ρ _ u e g (stride-kept d ρ s g h .store))
-    strides-sound (or a b) ρ s w (k-or-left {t = t} d e) g h = s-or-left-on (strides-sound a ρ s t d g h)
-    strides-sound (or a b) ρ s w (k-or-right {u = u} d e) g h = s-or-right-on (strides-sound b ρ s u e g h)
-    strides-sound (xor a b) ρ s w (k-unpicked d e) g h = s-xor
-    strides-sound (xor a b) ρ s w (k-picked-left {t = t} d e) g h = s-picked-left (strides-sound a ρ s t d g h)
-    strides-sound (xor a b) ρ s w (k-picked-right {u = u} d e) g h = s-picked-right (strides-sound b ρ s u e g h)
-    strides-sound (if x a b) ρ s w (k-if-true {t = t} k d e) g h = s-if-true (strides-sound a ρ s t d g h)
-    strides-sound (if x a b) ρ s w (k-if-false {u = u} k d e) g h = s-if-false (strides-sound b ρ s u e g h)
-    strides-sound (let' x b) ρ s w (k-bound {v = v} {u = u} k y d) g h = s-let (strides-sound b (v ∷ ρ) s u d (v-cons y g) h)
+  -- where a typed task strides to is derived
+  pub strides-sound : (c : Code) {Γ : List Ty} {τ : Ty} (ρ : Env) (s : Store) (t : TaskOf c) → TaskType Σ Γ c t τ → ValueTypes ρ Γ → ValueTypes s Σ → StridesTo c ρ s t (stride c ρ s t)
+  strides-sound c ρ s t k g h = sound (formed c ρ t) s k g h .strides
 
   -- what a typed task normalises to is derived, and of its type
   pub normalise-sound : (c : Code) {Γ : List Ty} {τ : Ty} (ρ : Env) (s : Store) (t : TaskOf c) → TaskType Σ Γ c t τ → ValueTypes ρ Γ → ValueTypes s Σ → GoodNormal Σ Γ c ρ s t τ (normalise c ρ s t)
   unfolding normalise
   normalise-sound c ρ s t d g h = normal-good c ρ g (λ s t d h. strides-sound c ρ s t d g h) s t d h
+
+  -- whether a typed right side, and a typed branch, fail is derived
+  pub right-sound : (b : Code) {Γ : List Ty} {τ : Ty} (ρ : Env) (s : Store) → CodeType Σ Γ b τ → ValueTypes ρ Γ → ValueTypes s Σ → RightFails b ρ s (rightFails b ρ s)
+  right-sound b ρ s d g h = let q = evaluate-good d ρ s g h in r-evaluated (q .derived) (fails-sound b ρ _ _ (q .task) g (q .store))
+
+  pub branch-sound : (c : Code) {Γ : List Ty} {τ : Ty} (ρ : Env) (s : Store) → CodeType Σ Γ c τ → ValueTypes ρ Γ → ValueTypes s Σ → BranchFails c ρ s (branchFails c ρ s)
+  unfolding settle
+  branch-sound c ρ s d g h =
+      let q = evaluate-good d ρ s g h in
+      let n = normalise-sound c ρ _ _ (q .task) g (q .store) in
+      b-normalised (q .derived) (n .derived) (fails-sound c ρ _ _ (n .task) g (n .store))

@@ -3,42 +3,38 @@
 use mathlib.Core.Path.{_≡_}
 use mathlib.Core.Bool.{Bool, true, false}
 use mathlib.Core.Option.{Option, none, some}
-use mathlib.Core.List.{List, _∷_}
+use mathlib.Core.List.{List, [], _∷_}
 use Prim.Native.Nat.{ℕ}
 use native.Mathlib.Omega.{arith}
 use Rattle.tophat.specs.Syntax.{Ty, pair, Exp, Code, then, or, Val, Env, Store, TaskOf}
-use Rattle.tophat.specs.Typing.{HasType, CodeType, t-edit, t-enter, t-update, t-then, t-next, t-fail, t-and, t-or, t-xor, t-if-task, t-let-task}
+use Rattle.tophat.specs.Typing.{HasType, CodeType, t-edit, t-enter, t-update, t-then, t-next, t-fail, t-and, t-or, t-xor}
 use Rattle.tophat.specs.Typing.{ValueType, v-pair, ValueTypes, v-cons}
-use Rattle.tophat.specs.Typing.{TaskType, k-filled, k-blank, k-entered, k-shared, k-then-before, k-then-after, k-next-before, k-next-after, k-failed, k-both, k-either, k-or-left, k-or-right}
-use Rattle.tophat.specs.Typing.{k-unpicked, k-picked-left, k-picked-right, k-if-true, k-if-false, k-bound}
+use Rattle.tophat.specs.Typing.{TaskType, k-filled, k-blank, k-entered, k-shared, k-then-before, k-then-after, k-next-before, k-failed, k-both, k-either, k-or-left, k-or-right}
+use Rattle.tophat.specs.Typing.{k-unpicked}
 use Rattle.tophat.specs.Evaluation.{Evaluates, EvaluatesTask}
 use Rattle.tophat.specs.Normalising.{pairOf, firstOf, value, Strides, Normalises, n-done, n-repeat}
 use Rattle.tophat.proofs.ComputeNormalising.{goOn, goOnWith, chooseRight, chooseLeft, stride}
+use Rattle.tophat.proofs.Became.{alike, Formed, of-became, of-edit, of-enter, of-update, of-then, of-next, of-fail, of-and, of-or, of-xor, formed, inner}
 use Rattle.tophat.proofs.EvaluationAgrees.{look-up, eval-good, eval-is}
 use Rattle.tophat.proofs.TaskEvaluationAgrees.{evaluate-good, evaluate-is}
 use Rattle.tophat.proofs.NormalisingComplete.{strides-as}
 
+code-typed : {Σ Γ : List Ty} {c : Code} {ρ : Env} {t : TaskOf c} {τ : Ty} → Formed c ρ t → TaskType Σ Γ c t τ → CodeType Σ Γ c τ
+code-typed (of-became {u = u} b d) k = let i = inner b u k in i .code (code-typed d (i .task))
+code-typed of-edit (k-filled e v) = t-edit e
+code-typed of-enter (k-blank l) = t-enter l
+code-typed of-enter (k-entered l v) = t-enter l
+code-typed of-update (k-shared d) = t-update d
+code-typed (of-then d f) (k-then-before k e) = t-then (code-typed d k) e
+code-typed (of-next d f) (k-next-before k e) = t-next (code-typed d k) e
+code-typed of-fail (k-failed l) = t-fail l
+code-typed (of-and d e) (k-both k m l) = t-and (code-typed d k) (code-typed e m) l
+code-typed (of-or d e) (k-either k m) = t-or (code-typed d k) (code-typed e m)
+code-typed (of-xor d e) (k-unpicked k m) = t-xor k m
+
 -- the code of a typed running task is typed
 pub task-code : {Σ Γ : List Ty} {c : Code} {t : TaskOf c} {τ : Ty} → TaskType Σ Γ c t τ → CodeType Σ Γ c τ
-task-code (k-filled e v) = t-edit e
-task-code (k-blank l) = t-enter l
-task-code (k-entered l v) = t-enter l
-task-code (k-shared d) = t-update d
-task-code (k-then-before d e) = t-then (task-code d) e
-task-code (k-then-after d v e) = t-then d (task-code e)
-task-code (k-next-before d e) = t-next (task-code d) e
-task-code (k-next-after d v e) = t-next d (task-code e)
-task-code (k-failed l) = t-fail l
-task-code (k-both d e l) = t-and (task-code d) (task-code e) l
-task-code (k-either d e) = t-or (task-code d) (task-code e)
-task-code (k-or-left d e) = t-or (task-code d) e
-task-code (k-or-right d e) = t-or d (task-code e)
-task-code (k-unpicked d e) = t-xor d e
-task-code (k-picked-left d e) = t-xor (task-code d) e
-task-code (k-picked-right d e) = t-xor d (task-code e)
-task-code (k-if-true x d e) = t-if-task x (task-code d) e
-task-code (k-if-false x d e) = t-if-task x d (task-code e)
-task-code (k-bound x v d) = t-let-task x (task-code d)
+task-code {c = c} {t = t} k = code-typed (formed c [] t) k
 
 -- a value of the type, if there is one
 pub data OptionType : Option Val → Ty → Type 0 where
@@ -60,28 +56,23 @@ unfolding firstOf
 first-type o-none h = h
 first-type (o-some g) h = o-some g
 
+value-typed : {Σ Γ : List Ty} {c : Code} {ρ : Env} {t : TaskOf c} {τ : Ty} {s : Store} → Formed c ρ t → TaskType Σ Γ c t τ → ValueTypes s Σ → OptionType (value c t s) τ
+unfolding value
+value-typed {s = s} (of-became {u = u} b d) k h = rw (alike b .values s u) (value-typed d (inner b u k .task) h)
+value-typed of-edit (k-filled e v) h = o-some v
+value-typed of-enter (k-blank l) h = o-none
+value-typed of-enter (k-entered l v) h = o-some v
+value-typed of-update (k-shared d) h = o-some (look-up h d .1)
+value-typed (of-then d f) k h = o-none
+value-typed (of-next d f) k h = o-none
+value-typed of-fail k h = o-none
+value-typed (of-and d e) (k-both k m l) h = pair-type (value-typed d k h) (value-typed e m h)
+value-typed (of-or d e) (k-either k m) h = first-type (value-typed d k h) (value-typed e m h)
+value-typed (of-xor d e) k h = o-none
+
 -- a typed task's value is of its type
 pub value-type : {Σ Γ : List Ty} {c : Code} {t : TaskOf c} {τ : Ty} {s : Store} → TaskType Σ Γ c t τ → ValueTypes s Σ → OptionType (value c t s) τ
-unfolding value
-value-type (k-filled e v) h = o-some v
-value-type (k-blank l) h = o-none
-value-type (k-entered l v) h = o-some v
-value-type (k-shared d) h = o-some (look-up h d .1)
-value-type (k-then-before d e) h = o-none
-value-type (k-then-after d v e) h = value-type e h
-value-type (k-next-before d e) h = o-none
-value-type (k-next-after d v e) h = value-type e h
-value-type (k-failed l) h = o-none
-value-type (k-both d e l) h = pair-type (value-type d h) (value-type e h)
-value-type (k-either d e) h = first-type (value-type d h) (value-type e h)
-value-type (k-or-left d e) h = value-type d h
-value-type (k-or-right d e) h = value-type e h
-value-type (k-unpicked d e) h = o-none
-value-type (k-picked-left d e) h = value-type d h
-value-type (k-picked-right d e) h = value-type e h
-value-type (k-if-true x d e) h = value-type d h
-value-type (k-if-false x d e) h = value-type e h
-value-type (k-bound x v d) h = value-type d h
+value-type {c = c} {t = t} k h = value-typed (formed c [] t) k h
 
 -- a task of the type, in a store of the cells' types
 pub record Kept (Σ Γ : List Ty) (c : Code) (τ : Ty) (t : TaskOf c) (s : Store) : Type 0 where
@@ -119,34 +110,31 @@ module _ {Σ Γ : List Ty} {a b : Code} where
   left-kept m none G W d e h q = right-kept _ _ d (q .task) (q .store)
   left-kept m (some v) G W d e h q = record { task = k-or-left d (task-code e); store = h }
 
--- a stride keeps types
-pub stride-kept : {Σ Γ : List Ty} {c : Code} {t : TaskOf c} {τ : Ty} → TaskType Σ Γ c t τ → (ρ : Env) (s : Store) → ValueTypes ρ Γ → ValueTypes s Σ → KeptBy Σ Γ c τ (stride c ρ s t)
+kept : {Σ Γ : List Ty} {c : Code} {ρ : Env} {t : TaskOf c} {τ : Ty} → Formed c ρ t → TaskType Σ Γ c t τ → (s : Store) → ValueTypes ρ Γ → ValueTypes s Σ → KeptBy Σ Γ c τ (stride c ρ s t)
 unfolding stride
-stride-kept (k-filled e v) ρ s g h = record { task = k-filled e v; store = h }
-stride-kept (k-blank l) ρ s g h = record { task = k-blank l; store = h }
-stride-kept (k-entered l v) ρ s g h = record { task = k-entered l v; store = h }
-stride-kept (k-shared d) ρ s g h = record { task = k-shared d; store = h }
-stride-kept (k-then-before {b = b} d e) ρ s g h =
-    let p = stride-kept d ρ s g h in
+kept (of-became {u = u} b d) k s g h =
+    let i = inner b u k in
+    let p = kept d (i .task) s (i .env g) h in
+    rw (alike b .strides s u) (record { task = i .back (p .task); store = p .store })
+kept of-edit k s g h = record { task = k; store = h }
+kept of-enter k s g h = record { task = k; store = h }
+kept of-update k s g h = record { task = k; store = h }
+kept (of-then {ρ = ρ} d f) (k-then-before k e) s g h =
+    let p = kept d k s g h in
     go-on-with-kept _ _ _ (p .task) (p .store) e (value-type (p .task) (p .store))
     (λ v k. let q = evaluate-good e (v ∷ ρ) _ (v-cons k g) (p .store) in record { task = q .task; store = q .store })
-stride-kept (k-then-after d v e) ρ s g h = let p = stride-kept e _ s (v-cons v g) h in record { task = k-then-after d v (p .task); store = p .store }
-stride-kept (k-next-before d e) ρ s g h = let p = stride-kept d ρ s g h in record { task = k-next-before (p .task) e; store = p .store }
-stride-kept (k-next-after d v e) ρ s g h = let p = stride-kept e _ s (v-cons v g) h in record { task = k-next-after d v (p .task); store = p .store }
-stride-kept (k-failed l) ρ s g h = record { task = k-failed l; store = h }
-stride-kept (k-both d e l) ρ s g h =
-    let p = stride-kept d ρ s g h in
-    let q = stride-kept e ρ _ g (p .store) in
+kept (of-next d f) (k-next-before k e) s g h = let p = kept d k s g h in record { task = k-next-before (p .task) e; store = p .store }
+kept of-fail k s g h = record { task = k; store = h }
+kept (of-and d e) (k-both k m l) s g h =
+    let p = kept d k s g h in
+    let q = kept e m _ g (p .store) in
     record { task = k-both (p .task) (q .task) l; store = q .store }
-stride-kept (k-either d e) ρ s g h = let p = stride-kept d ρ s g h in left-kept _ _ _ _ (p .task) e (p .store) (stride-kept e ρ _ g (p .store))
-stride-kept (k-or-left d e) ρ s g h = let p = stride-kept d ρ s g h in record { task = k-or-left (p .task) e; store = p .store }
-stride-kept (k-or-right d e) ρ s g h = let p = stride-kept e ρ s g h in record { task = k-or-right d (p .task); store = p .store }
-stride-kept (k-unpicked d e) ρ s g h = record { task = k-unpicked d e; store = h }
-stride-kept (k-picked-left d e) ρ s g h = let p = stride-kept d ρ s g h in record { task = k-picked-left (p .task) e; store = p .store }
-stride-kept (k-picked-right d e) ρ s g h = let p = stride-kept e ρ s g h in record { task = k-picked-right d (p .task); store = p .store }
-stride-kept (k-if-true x d e) ρ s g h = let p = stride-kept d ρ s g h in record { task = k-if-true x (p .task) e; store = p .store }
-stride-kept (k-if-false x d e) ρ s g h = let p = stride-kept e ρ s g h in record { task = k-if-false x d (p .task); store = p .store }
-stride-kept (k-bound x v d) ρ s g h = let p = stride-kept d _ s (v-cons v g) h in record { task = k-bound x v (p .task); store = p .store }
+kept (of-or d e) (k-either k m) s g h = let p = kept d k s g h in left-kept _ _ _ _ (p .task) m (p .store) (kept e m _ g (p .store))
+kept (of-xor d e) k s g h = record { task = k; store = h }
+
+-- a stride keeps types
+pub stride-kept : {Σ Γ : List Ty} {c : Code} {t : TaskOf c} {τ : Ty} → TaskType Σ Γ c t τ → (ρ : Env) (s : Store) → ValueTypes ρ Γ → ValueTypes s Σ → KeptBy Σ Γ c τ (stride c ρ s t)
+stride-kept {c = c} {t = t} k ρ s g h = kept (formed c ρ t) k s g h
 
 -- Preservation, for what the rules derive: a typed expression evaluates to a value of its type
 pub evaluates-kept : {Σ Γ : List Ty} {ρ : Env} {s s₁ : Store} {e : Exp} {v : Val} {τ : Ty}

@@ -4,57 +4,32 @@ use mathlib.Core.Path.{_≡_, refl, ap, ap₂, _∙_}
 use mathlib.Core.Bool.{Bool, true, false, _||_}
 use mathlib.Core.Option.{Option, none, some}
 use mathlib.Core.Logic.{_⊎_, inl, inr, _↔_}
-use mathlib.Core.List.{_∷_}
+use mathlib.Core.List.{[]}
 use Prim.Native.Nat.{ℕ, zero, suc, _+_, _≤_, _<_}
 use native.Mathlib.Omega.{arith}
-use Rattle.tophat.specs.Syntax.{moves, Code, edit, enter, update, then, next, fail, and, or, xor, if, let', Val, Env, Store}
-use Rattle.tophat.specs.Syntax.{TaskOf, before, after, both, either, orLeft, orRight, unpicked, pickedLeft, pickedRight, ifTrue, ifFalse, bound}
+use Rattle.tophat.specs.Syntax.{moves, Code, then, next, and, or, Val, Env, Store}
+use Rattle.tophat.specs.Syntax.{TaskOf, before, both, either}
 use Rattle.tophat.specs.Normalising.{value}
 use Rattle.tophat.proofs.Basics.{apart}
-use Rattle.tophat.proofs.ComputeNormalising.{unlessStill, strides, goOn, goOnWith, chooseRight, chooseLeft, stride, normalise}
+use Rattle.tophat.proofs.ComputeNormalising.{unlessStill, strides, goOn, goOnWith, chooseRight, chooseLeft, stride, normalise, remaining}
+use Rattle.tophat.proofs.Became.{alike, Formed, of-became, of-edit, of-enter, of-update, of-then, of-next, of-fail, of-and, of-or, of-xor, formed}
 
--- the rows of kind 43 and 47 that a task can still move
-unfoldable pub remaining : (c : Code) → TaskOf c → ℕ
-remaining (edit e) t = 0
-remaining (enter τ) t = 0
-remaining (update n) t = 0
-remaining (then a b) (before t) = 1 + remaining a t + moves b
-remaining (then a b) (after v u) = remaining b u
-remaining (next a b) (before t) = remaining a t
-remaining (next a b) (after v u) = remaining b u
-remaining (fail τ) t = 0
-remaining (and a b) (both t u) = remaining a t + remaining b u
-remaining (or a b) (either t u) = 1 + remaining a t + remaining b u
-remaining (or a b) (orLeft t) = remaining a t
-remaining (or a b) (orRight u) = remaining b u
-remaining (xor a b) unpicked = 0
-remaining (xor a b) (pickedLeft t) = remaining a t
-remaining (xor a b) (pickedRight u) = remaining b u
-remaining (if e a b) (ifTrue t) = remaining a t
-remaining (if e a b) (ifFalse u) = remaining b u
-remaining (let' e b) (bound v u) = remaining b u
+held : {c : Code} {ρ : Env} {t : TaskOf c} → Formed c ρ t → remaining c t ≤ moves c
+unfolding remaining moves
+held (of-became {u = u} b d) = let h = held d in let e = alike b .remains u in let k = alike b .moved in omega arith
+held of-edit = omega arith
+held of-enter = omega arith
+held of-update = omega arith
+held (of-then d f) = let h = held d in omega arith
+held (of-next d f) = let h = held d in omega arith
+held of-fail = omega arith
+held (of-and d e) = let h = held d in let k = held e in omega arith
+held (of-or d e) = let h = held d in let k = held e in omega arith
+held (of-xor d e) = omega arith
 
 -- no more can still move than the code has
 pub remaining-moves : (c : Code) (t : TaskOf c) → remaining c t ≤ moves c
-unfolding remaining moves
-remaining-moves (edit e) t = omega arith
-remaining-moves (enter τ) t = omega arith
-remaining-moves (update n) t = omega arith
-remaining-moves (then a b) (before t) = let h = remaining-moves a t in omega arith
-remaining-moves (then a b) (after v u) = let h = remaining-moves b u in omega arith
-remaining-moves (next a b) (before t) = let h = remaining-moves a t in omega arith
-remaining-moves (next a b) (after v u) = let h = remaining-moves b u in omega arith
-remaining-moves (fail τ) t = omega arith
-remaining-moves (and a b) (both t u) = let h = remaining-moves a t in let k = remaining-moves b u in omega arith
-remaining-moves (or a b) (either t u) = let h = remaining-moves a t in let k = remaining-moves b u in omega arith
-remaining-moves (or a b) (orLeft t) = let h = remaining-moves a t in omega arith
-remaining-moves (or a b) (orRight u) = let h = remaining-moves b u in omega arith
-remaining-moves (xor a b) unpicked = omega arith
-remaining-moves (xor a b) (pickedLeft t) = let h = remaining-moves a t in omega arith
-remaining-moves (xor a b) (pickedRight u) = let h = remaining-moves b u in omega arith
-remaining-moves (if e a b) (ifTrue t) = let h = remaining-moves a t in omega arith
-remaining-moves (if e a b) (ifFalse u) = let h = remaining-moves b u in omega arith
-remaining-moves (let' e b) (bound v u) = remaining-moves b u
+remaining-moves c t = held (formed c [] t)
 
 -- what a stride does: nothing, and it says so; or it moves, and fewer can still move
 pub record Still (c : Code) (t : TaskOf c) (s : Store) (r : TaskOf c × Store × Bool) : Type 0 where
@@ -123,27 +98,22 @@ module _ (a b : Code) where
   choose-left t u s r none G W p k = choose-right t u s r (G (r .1) u) (W (G (r .1) u .0) (G (r .1) u .1)) p (k (r .1))
   choose-left t u s r (some v) G W p k = let h = no-more a t s r p in inr (record { flag = refl; fewer = omega arith })
 
+goes : {c : Code} {ρ : Env} {t : TaskOf c} → Formed c ρ t → (s : Store) → Progress c t s (stride c ρ s t)
+unfolding stride remaining
+goes (of-became {c = c} {c₁ = c₁} {ρ₁ = ρ₁} {K = K} {u = u} b d) s = rw (alike b .strides s u) (lift c₁ c K (alike b .remains) u s (stride c₁ ρ₁ s u) (goes d s))
+goes of-edit s = inl (record { flag = refl; task = refl; store = refl })
+goes of-enter s = inl (record { flag = refl; task = refl; store = refl })
+goes of-update s = inl (record { flag = refl; task = refl; store = refl })
+goes (of-then {ρ = ρ} {a = a} {b = b} {t = t} d f) s = go-on-with a b t s (stride a ρ s t) (value a (stride a ρ s t .0) (stride a ρ s t .1)) _ _ (goes d s)
+goes (of-next {ρ = ρ} {a = a} {b = b} {t = t} d f) s = lift a (next a b) before (λ t. refl) t s (stride a ρ s t) (goes d s)
+goes of-fail s = inl (record { flag = refl; task = refl; store = refl })
+goes (of-and {ρ = ρ} {a = a} {b = b} {t = t} {u = u} d e) s = join a b (and a b) both 0 (λ t u. omega arith) t u s (stride a ρ s t) (stride b ρ (stride a ρ s t .1) u) (goes d s) (goes e (stride a ρ s t .1))
+goes (of-or {ρ = ρ} {a = a} {b = b} {t = t} {u = u} d e) s = choose-left a b t u s (stride a ρ s t) (value a (stride a ρ s t .0) (stride a ρ s t .1)) (λ s u. stride b ρ s u) (λ u s. value b u s) (goes d s) (λ s. goes e s)
+goes (of-xor d e) s = inl (record { flag = refl; task = refl; store = refl })
+
 -- every stride changes nothing, and says so, or moves and leaves fewer that can
 pub progress : (c : Code) (ρ : Env) (s : Store) (t : TaskOf c) → Progress c t s (stride c ρ s t)
-unfolding stride remaining
-progress (edit e) ρ s t = inl (record { flag = refl; task = refl; store = refl })
-progress (enter τ) ρ s t = inl (record { flag = refl; task = refl; store = refl })
-progress (update n) ρ s t = inl (record { flag = refl; task = refl; store = refl })
-progress (then a b) ρ s (before t) = go-on-with a b t s (stride a ρ s t) (value a (stride a ρ s t .0) (stride a ρ s t .1)) _ _ (progress a ρ s t)
-progress (then a b) ρ s (after v u) = lift b (then a b) (after v) (λ u. refl) u s (stride b (v ∷ ρ) s u) (progress b (v ∷ ρ) s u)
-progress (next a b) ρ s (before t) = lift a (next a b) before (λ t. refl) t s (stride a ρ s t) (progress a ρ s t)
-progress (next a b) ρ s (after v u) = lift b (next a b) (after v) (λ u. refl) u s (stride b (v ∷ ρ) s u) (progress b (v ∷ ρ) s u)
-progress (fail τ) ρ s t = inl (record { flag = refl; task = refl; store = refl })
-progress (and a b) ρ s (both t u) = join a b (and a b) both 0 (λ t u. omega arith) t u s (stride a ρ s t) (stride b ρ (stride a ρ s t .1) u) (progress a ρ s t) (progress b ρ (stride a ρ s t .1) u)
-progress (or a b) ρ s (either t u) = choose-left a b t u s (stride a ρ s t) (value a (stride a ρ s t .0) (stride a ρ s t .1)) (λ s u. stride b ρ s u) (λ u s. value b u s) (progress a ρ s t) (λ s. progress b ρ s u)
-progress (or a b) ρ s (orLeft t) = lift a (or a b) orLeft (λ t. refl) t s (stride a ρ s t) (progress a ρ s t)
-progress (or a b) ρ s (orRight u) = lift b (or a b) orRight (λ u. refl) u s (stride b ρ s u) (progress b ρ s u)
-progress (xor a b) ρ s unpicked = inl (record { flag = refl; task = refl; store = refl })
-progress (xor a b) ρ s (pickedLeft t) = lift a (xor a b) pickedLeft (λ t. refl) t s (stride a ρ s t) (progress a ρ s t)
-progress (xor a b) ρ s (pickedRight u) = lift b (xor a b) pickedRight (λ u. refl) u s (stride b ρ s u) (progress b ρ s u)
-progress (if e a b) ρ s (ifTrue t) = lift a (if e a b) ifTrue (λ t. refl) t s (stride a ρ s t) (progress a ρ s t)
-progress (if e a b) ρ s (ifFalse u) = lift b (if e a b) ifFalse (λ u. refl) u s (stride b ρ s u) (progress b ρ s u)
-progress (let' e b) ρ s (bound v u) = lift b (let' e b) (bound v) (λ u. refl) u s (stride b (v ∷ ρ) s u) (progress b (v ∷ ρ) s u)
+progress c ρ s t = goes (formed c ρ t) s
 
 flag-of : (c : Code) (t : TaskOf c) (s : Store) (r : TaskOf c × Store × Bool) → Progress c t s r → (r .2 ≡ false) ↔ ((r .0 ≡ t) × (r .1 ≡ s))
 flag-of c t s r (inl p) = ((λ e. (p .task, p .store)), (λ q. p .flag))

@@ -1,15 +1,12 @@
 -- 01: "A type has at most 4 leaves": where the cells' and the binders' types have, every derived type has. Rests on Typing.
-use mathlib.Core.List.{List, [], _∷_}
+use mathlib.Core.List.{List}
 use Prim.Native.Nat.{ℕ, _≤_}
 use native.Mathlib.Omega.{arith}
 use Rattle.tophat.specs.Syntax.{maxLeaves, Ty, leaves, Op, Exp, Code}
+use Rattle.tophat.specs.Typing.{AllSmall, small-cons}
 use Rattle.tophat.specs.Typing.{At, here, there, OpType, o-sum, o-difference, o-product, o-less, o-less-equal, o-equal, o-and, o-or}
 use Rattle.tophat.specs.Typing.{HasType, t-unit, t-truth, t-number, t-var, t-op, t-if, t-pair, t-fst, t-snd, t-deref, t-assign, t-let}
 use Rattle.tophat.specs.Typing.{CodeType, t-edit, t-enter, t-update, t-then, t-next, t-fail, t-and, t-or, t-xor, t-if-task, t-let-task}
-
-pub data AllSmall : List Ty → Type 0 where
-  small-nil : AllSmall []
-  small-cons : {τ : Ty} {τs : List Ty} → leaves τ ≤ maxLeaves → AllSmall τs → AllSmall (τ ∷ τs)
 
 pub at-leaves : {τs : List Ty} {i : ℕ} {τ : Ty} → At τs i τ → AllSmall τs → leaves τ ≤ maxLeaves
 at-leaves here (small-cons l h) = l

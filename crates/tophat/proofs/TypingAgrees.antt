@@ -1,7 +1,7 @@
 -- The typing functions give exactly the types that the rules derive: so a type is unique, and none is derived exactly
 -- where none is computed. Rests on Typing and ComputeTyping.
 use mathlib.Core.Path.{_≡_, refl, sym, _∙_}
-use mathlib.Core.Option.{Option, none, some}
+use mathlib.Core.Option.{Option, none, some, bind}
 use mathlib.Core.Logic.{_↔_}
 use mathlib.Core.List.{List, [], _∷_}
 use Prim.Native.Nat.{ℕ, zero, suc, _≤_}
@@ -14,14 +14,14 @@ use Rattle.tophat.specs.Typing.{At, here, there, OpType, o-sum, o-differ
 use Rattle.tophat.specs.Typing.{HasType, t-unit, t-truth, t-number, t-var, t-op, t-if, t-pair, t-fst, t-snd, t-deref, t-assign, t-let}
 use Rattle.tophat.specs.Typing.{CodeType, t-edit, t-enter, t-update, t-then, t-next, t-fail, t-and, t-or, t-xor, t-if-task, t-let-task}
 use Rattle.tophat.proofs.Basics.{no-some, some-is, All, all-none, all-some, all-is, all-map}
-use Rattle.tophat.proofs.ComputeTyping.{bind, ask, nth, takes, gives, numberTo, opTo, sameTo, ifTo, typeTo, firstTo, secondTo, assignTo, infer, inferTask}
+use Rattle.tophat.proofs.ComputeTyping.{ask, nth, takes, gives, numberTo, opTo, sameTo, ifTo, typeTo, firstTo, secondTo, assignTo, infer, inferTask}
 
 ask-yes : {P X : Type 0} (d : Dec P) (o : Option X) → P → ask d o ≡ o
 unfolding ask
 ask-yes (yes p) o h = refl
 ask-yes (no p) o h = absurd (p h)
 
-at-nth : {X : Type 0} {xs : List X} {n : ℕ} {x : X} → At xs n x → nth xs n ≡ some x
+pub at-nth : {X : Type 0} {xs : List X} {n : ℕ} {x : X} → At xs n x → nth xs n ≡ some x
 unfolding nth
 at-nth here = refl
 at-nth (there d) = at-nth d

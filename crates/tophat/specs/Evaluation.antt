@@ -38,8 +38,10 @@ pub data Evaluates : Env → Store → Exp → Val → Store → Type 0 where
       → Evaluates ρ s e (vtruth false) s₁ → Evaluates ρ s₁ b v s₂ → Evaluates ρ s (eif e a b) v s₂
   e-pair : {ρ : Env} {s s₁ s₂ : Store} {a b : Exp} {v w : Val}
       → Evaluates ρ s a v s₁ → Evaluates ρ s₁ b w s₂ → Evaluates ρ s (epair a b) (vpair v w) s₂
-  e-fst : {ρ : Env} {s s₁ : Store} {a : Exp} {v w : Val} → Evaluates ρ s a (vpair v w) s₁ → Evaluates ρ s (efst a) v s₁
-  e-snd : {ρ : Env} {s s₁ : Store} {a : Exp} {v w : Val} → Evaluates ρ s a (vpair v w) s₁ → Evaluates ρ s (esnd a) w s₁
+  e-fst : {ρ : Env} {s s₁ : Store} {a : Exp} {v w : Val}
+      → Evaluates ρ s a (vpair v w) s₁ → Evaluates ρ s (efst a) v s₁
+  e-snd : {ρ : Env} {s s₁ : Store} {a : Exp} {v w : Val}
+      → Evaluates ρ s a (vpair v w) s₁ → Evaluates ρ s (esnd a) w s₁
   e-deref : {ρ : Env} {s : Store} {n : ℕ} {v : Val} → At s n v → Evaluates ρ s (ederef n) v s
   e-assign : {ρ : Env} {s s₁ : Store} {n : ℕ} {a : Exp} {v : Val}
       → Evaluates ρ s a v s₁ → Evaluates ρ s (eassign n a) vunit (set s₁ n v)
@@ -49,11 +51,14 @@ pub data Evaluates : Env → Store → Exp → Val → Store → Type 0 where
 
 -- tasks. 01: "Steps evaluate A only; 48 evaluates neither branch"
 pub data EvaluatesTask : (c : Code) → Env → Store → TaskOf c → Store → Type 0 where
-  e-edit : {ρ : Env} {s s₁ : Store} {e : Exp} {v : Val} → Evaluates ρ s e v s₁ → EvaluatesTask (edit e) ρ s (filled v) s₁
+  e-edit : {ρ : Env} {s s₁ : Store} {e : Exp} {v : Val}
+      → Evaluates ρ s e v s₁ → EvaluatesTask (edit e) ρ s (filled v) s₁
   e-enter : {ρ : Env} {s : Store} {τ : Ty} → EvaluatesTask (enter τ) ρ s blank s
   e-update : {ρ : Env} {s : Store} {n : ℕ} → EvaluatesTask (update n) ρ s shared s
-  e-then : {ρ : Env} {s s₁ : Store} {a b : Code} {t : TaskOf a} → EvaluatesTask a ρ s t s₁ → EvaluatesTask (then a b) ρ s (before t) s₁
-  e-next : {ρ : Env} {s s₁ : Store} {a b : Code} {t : TaskOf a} → EvaluatesTask a ρ s t s₁ → EvaluatesTask (next a b) ρ s (before t) s₁
+  e-then : {ρ : Env} {s s₁ : Store} {a b : Code} {t : TaskOf a}
+      → EvaluatesTask a ρ s t s₁ → EvaluatesTask (then a b) ρ s (before t) s₁
+  e-next : {ρ : Env} {s s₁ : Store} {a b : Code} {t : TaskOf a}
+      → EvaluatesTask a ρ s t s₁ → EvaluatesTask (next a b) ρ s (before t) s₁
   e-fail : {ρ : Env} {s : Store} {τ : Ty} → EvaluatesTask (fail τ) ρ s failed s
   e-and : {ρ : Env} {s s₁ s₂ : Store} {a b : Code} {t : TaskOf a} {u : TaskOf b}
       → EvaluatesTask a ρ s t s₁ → EvaluatesTask b ρ s₁ u s₂ → EvaluatesTask (and a b) ρ s (both t u) s₂

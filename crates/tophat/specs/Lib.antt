@@ -1,7 +1,10 @@
 pub mod Syntax
 pub mod Typing
+pub mod Leaves
 pub mod Evaluation
 pub mod Normalising
+pub mod Quiet
 pub mod Handling
 pub mod Showing
+pub mod Residual
 pub mod Runs

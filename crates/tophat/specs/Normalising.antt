@@ -44,33 +44,48 @@ value (if e a b) (ifTrue t) s = value a t s
 value (if e a b) (ifFalse u) s = value b u s
 value (let' e b) (bound v u) s = value b u s
 
+-- `Became c ρ c₁ ρ₁ K`: K u, a task of c under ρ, has become u, a task of c₁ under ρ₁
+pub data Became : (c : Code) → Env → (c₁ : Code) → Env → (TaskOf c₁ → TaskOf c) → Type 0 where
+  b-then : {ρ : Env} {a b : Code} {v : Val} → Became (then a b) ρ b (v ∷ ρ) (after v)
+  b-next : {ρ : Env} {a b : Code} {v : Val} → Became (next a b) ρ b (v ∷ ρ) (after v)
+  b-or-left : {ρ : Env} {a b : Code} → Became (or a b) ρ a ρ orLeft
+  b-or-right : {ρ : Env} {a b : Code} → Became (or a b) ρ b ρ orRight
+  b-xor-left : {ρ : Env} {a b : Code} → Became (xor a b) ρ a ρ pickedLeft
+  b-xor-right : {ρ : Env} {a b : Code} → Became (xor a b) ρ b ρ pickedRight
+  b-if-true : {ρ : Env} {e : Exp} {a b : Code} → Became (if e a b) ρ a ρ ifTrue
+  b-if-false : {ρ : Env} {e : Exp} {a b : Code} → Became (if e a b) ρ b ρ ifFalse
+  b-let : {ρ : Env} {e : Exp} {b : Code} {v : Val} → Became (let' e b) ρ b (v ∷ ρ) (bound v)
+
 mutual
   -- `Fails c ρ s t x`: the paper's ℱ(t, s) is x
   pub data Fails : (c : Code) → Env → Store → TaskOf c → Bool → Type 0 where
     f-edit : {ρ : Env} {s : Store} {e : Exp} {t : TaskOf (edit e)} → Fails (edit e) ρ s t false
     f-enter : {ρ : Env} {s : Store} {τ : Ty} {t : TaskOf (enter τ)} → Fails (enter τ) ρ s t false
     f-update : {ρ : Env} {s : Store} {n : ℕ} {t : TaskOf (update n)} → Fails (update n) ρ s t false
-    f-then : {ρ : Env} {s : Store} {a b : Code} {t : TaskOf a} {x : Bool} → Fails a ρ s t x → Fails (then a b) ρ s (before t) x
-    f-then-after : {ρ : Env} {s : Store} {a b : Code} {v : Val} {u : TaskOf b} {x : Bool} → Fails b (v ∷ ρ) s u x → Fails (then a b) ρ s (after v u) x
-    f-next : {ρ : Env} {s : Store} {a b : Code} {t : TaskOf a} {x : Bool} → Fails a ρ s t x → Fails (next a b) ρ s (before t) x
-    f-next-after : {ρ : Env} {s : Store} {a b : Code} {v : Val} {u : TaskOf b} {x : Bool} → Fails b (v ∷ ρ) s u x → Fails (next a b) ρ s (after v u) x
+    f-then : {ρ : Env} {s : Store} {a b : Code} {t : TaskOf a} {x : Bool}
+        → Fails a ρ s t x → Fails (then a b) ρ s (before t) x
+    f-next : {ρ : Env} {s : Store} {a b : Code} {t : TaskOf a} {x : Bool}
+        → Fails a ρ s t x → Fails (next a b) ρ s (before t) x
     f-fail : {ρ : Env} {s : Store} {τ : Ty} {t : TaskOf (fail τ)} → Fails (fail τ) ρ s t true
     f-and : {ρ : Env} {s : Store} {a b : Code} {t : TaskOf a} {u : TaskOf b} {x y z : Bool}
         → Fails a ρ s t x → Fails b ρ s u y → x && y ≡ z → Fails (and a b) ρ s (both t u) z
     f-or : {ρ : Env} {s : Store} {a b : Code} {t : TaskOf a} {u : TaskOf b} {x y z : Bool}
         → Fails a ρ s t x → Fails b ρ s u y → x && y ≡ z → Fails (or a b) ρ s (either t u) z
-    f-or-left : {ρ : Env} {s : Store} {a b : Code} {t : TaskOf a} {x : Bool} → Fails a ρ s t x → Fails (or a b) ρ s (orLeft t) x
-    f-or-right : {ρ : Env} {s : Store} {a b : Code} {u : TaskOf b} {x : Bool} → Fails b ρ s u x → Fails (or a b) ρ s (orRight u) x
     -- 01: "48 if both branches, each normalised from the present store, fail"
-    f-xor : {ρ : Env} {s s₁ s₂ s₃ s₄ : Store} {a b : Code} {t t₁ : TaskOf a} {u u₁ : TaskOf b} {m n : ℕ} {x y z : Bool}
-        → EvaluatesTask a ρ s t s₁ → Normalises a ρ s₁ t t₁ s₂ m → Fails a ρ s₂ t₁ x
-        → EvaluatesTask b ρ s u s₃ → Normalises b ρ s₃ u u₁ s₄ n → Fails b ρ s₄ u₁ y
-        → x && y ≡ z → Fails (xor a b) ρ s unpicked z
-    f-picked-left : {ρ : Env} {s : Store} {a b : Code} {t : TaskOf a} {x : Bool} → Fails a ρ s t x → Fails (xor a b) ρ s (pickedLeft t) x
-    f-picked-right : {ρ : Env} {s : Store} {a b : Code} {u : TaskOf b} {x : Bool} → Fails b ρ s u x → Fails (xor a b) ρ s (pickedRight u) x
-    f-if-true : {ρ : Env} {s : Store} {e : Exp} {a b : Code} {t : TaskOf a} {x : Bool} → Fails a ρ s t x → Fails (if e a b) ρ s (ifTrue t) x
-    f-if-false : {ρ : Env} {s : Store} {e : Exp} {a b : Code} {u : TaskOf b} {x : Bool} → Fails b ρ s u x → Fails (if e a b) ρ s (ifFalse u) x
-    f-let : {ρ : Env} {s : Store} {e : Exp} {b : Code} {v : Val} {u : TaskOf b} {x : Bool} → Fails b (v ∷ ρ) s u x → Fails (let' e b) ρ s (bound v u) x
+    f-xor : {ρ : Env} {s : Store} {a b : Code} {x y z : Bool}
+        → BranchFails a ρ s x → BranchFails b ρ s y → x && y ≡ z → Fails (xor a b) ρ s unpicked z
+    f-became : {ρ ρ₁ : Env} {s : Store} {c c₁ : Code} {K : TaskOf c₁ → TaskOf c} {t : TaskOf c} {u : TaskOf c₁} {x : Bool}
+        → Became c ρ c₁ ρ₁ K → K u ≡ t → Fails c₁ ρ₁ s u x → Fails c ρ s t x
+
+  -- `RightFails b ρ s x`: whether the right side b of a step, evaluated from s, fails is x
+  pub data RightFails : Code → Env → Store → Bool → Type 0 where
+    r-evaluated : {ρ : Env} {s s₁ : Store} {b : Code} {u : TaskOf b} {x : Bool}
+        → EvaluatesTask b ρ s u s₁ → Fails b ρ s₁ u x → RightFails b ρ s x
+
+  -- `BranchFails c ρ s x`: whether the branch c of a 48, evaluated from s and normalised, fails is x
+  pub data BranchFails : Code → Env → Store → Bool → Type 0 where
+    b-normalised : {ρ : Env} {s s₁ s₂ : Store} {c : Code} {t t₁ : TaskOf c} {n : ℕ} {x : Bool}
+        → EvaluatesTask c ρ s t s₁ → Normalises c ρ s₁ t t₁ s₂ n → Fails c ρ s₂ t₁ x → BranchFails c ρ s x
 
   -- `Strides c ρ s t t₁ s₁`: one stride takes t in s to t₁ in s₁
   pub data Strides : (c : Code) → Env → Store → TaskOf c → TaskOf c → Store → Type 0 where
@@ -81,15 +96,13 @@ mutual
     s-then-stay : {ρ : Env} {s s₁ : Store} {a b : Code} {t t₁ : TaskOf a}
         → Strides a ρ s t t₁ s₁ → value a t₁ s₁ ≡ none → Strides (then a b) ρ s (before t) (before t₁) s₁
     -- 01: "if that fails, its store is dropped and the step waits"
-    s-then-fail : {ρ : Env} {s s₁ s₂ : Store} {a b : Code} {t t₁ : TaskOf a} {u : TaskOf b} {v : Val}
-        → Strides a ρ s t t₁ s₁ → value a t₁ s₁ ≡ some v → EvaluatesTask b (v ∷ ρ) s₁ u s₂ → Fails b (v ∷ ρ) s₂ u true
-        → Strides (then a b) ρ s (before t) (before t₁) s₁
+    s-then-fail : {ρ : Env} {s s₁ : Store} {a b : Code} {t t₁ : TaskOf a} {v : Val}
+        → Strides a ρ s t t₁ s₁ → value a t₁ s₁ ≡ some v → RightFails b (v ∷ ρ) s₁ true → Strides (then a b) ρ s (before t) (before t₁) s₁
     s-then-cont : {ρ : Env} {s s₁ s₂ : Store} {a b : Code} {t t₁ : TaskOf a} {u : TaskOf b} {v : Val}
         → Strides a ρ s t t₁ s₁ → value a t₁ s₁ ≡ some v → EvaluatesTask b (v ∷ ρ) s₁ u s₂ → Fails b (v ∷ ρ) s₂ u false
         → Strides (then a b) ρ s (before t) (after v u) s₂
-    s-then-after : {ρ : Env} {s s₁ : Store} {a b : Code} {v : Val} {u u₁ : TaskOf b} → Strides b (v ∷ ρ) s u u₁ s₁ → Strides (then a b) ρ s (after v u) (after v u₁) s₁
-    s-next : {ρ : Env} {s s₁ : Store} {a b : Code} {t t₁ : TaskOf a} → Strides a ρ s t t₁ s₁ → Strides (next a b) ρ s (before t) (before t₁) s₁
-    s-next-after : {ρ : Env} {s s₁ : Store} {a b : Code} {v : Val} {u u₁ : TaskOf b} → Strides b (v ∷ ρ) s u u₁ s₁ → Strides (next a b) ρ s (after v u) (after v u₁) s₁
+    s-next : {ρ : Env} {s s₁ : Store} {a b : Code} {t t₁ : TaskOf a}
+        → Strides a ρ s t t₁ s₁ → Strides (next a b) ρ s (before t) (before t₁) s₁
     s-and : {ρ : Env} {s s₁ s₂ : Store} {a b : Code} {t t₁ : TaskOf a} {u u₁ : TaskOf b}
         → Strides a ρ s t t₁ s₁ → Strides b ρ s₁ u u₁ s₂ → Strides (and a b) ρ s (both t u) (both t₁ u₁) s₂
     s-or-left : {ρ : Env} {s s₁ : Store} {a b : Code} {t t₁ : TaskOf a} {u : TaskOf b} {v : Val}
@@ -100,14 +113,9 @@ mutual
     s-or-none : {ρ : Env} {s s₁ s₂ : Store} {a b : Code} {t t₁ : TaskOf a} {u u₁ : TaskOf b}
         → Strides a ρ s t t₁ s₁ → value a t₁ s₁ ≡ none → Strides b ρ s₁ u u₁ s₂ → value b u₁ s₂ ≡ none
         → Strides (or a b) ρ s (either t u) (either t₁ u₁) s₂
-    s-or-left-on : {ρ : Env} {s s₁ : Store} {a b : Code} {t t₁ : TaskOf a} → Strides a ρ s t t₁ s₁ → Strides (or a b) ρ s (orLeft t) (orLeft t₁) s₁
-    s-or-right-on : {ρ : Env} {s s₁ : Store} {a b : Code} {u u₁ : TaskOf b} → Strides b ρ s u u₁ s₁ → Strides (or a b) ρ s (orRight u) (orRight u₁) s₁
     s-xor : {ρ : Env} {s : Store} {a b : Code} → Strides (xor a b) ρ s unpicked unpicked s
-    s-picked-left : {ρ : Env} {s s₁ : Store} {a b : Code} {t t₁ : TaskOf a} → Strides a ρ s t t₁ s₁ → Strides (xor a b) ρ s (pickedLeft t) (pickedLeft t₁) s₁
-    s-picked-right : {ρ : Env} {s s₁ : Store} {a b : Code} {u u₁ : TaskOf b} → Strides b ρ s u u₁ s₁ → Strides (xor a b) ρ s (pickedRight u) (pickedRight u₁) s₁
-    s-if-true : {ρ : Env} {s s₁ : Store} {e : Exp} {a b : Code} {t t₁ : TaskOf a} → Strides a ρ s t t₁ s₁ → Strides (if e a b) ρ s (ifTrue t) (ifTrue t₁) s₁
-    s-if-false : {ρ : Env} {s s₁ : Store} {e : Exp} {a b : Code} {u u₁ : TaskOf b} → Strides b ρ s u u₁ s₁ → Strides (if e a b) ρ s (ifFalse u) (ifFalse u₁) s₁
-    s-let : {ρ : Env} {s s₁ : Store} {e : Exp} {b : Code} {v : Val} {u u₁ : TaskOf b} → Strides b (v ∷ ρ) s u u₁ s₁ → Strides (let' e b) ρ s (bound v u) (bound v u₁) s₁
+    s-became : {ρ ρ₁ : Env} {s s₁ : Store} {c c₁ : Code} {K : TaskOf c₁ → TaskOf c} {t t₁ : TaskOf c} {u u₁ : TaskOf c₁}
+        → Became c ρ c₁ ρ₁ K → K u ≡ t → K u₁ ≡ t₁ → Strides c₁ ρ₁ s u u₁ s₁ → Strides c ρ s t t₁ s₁
 
   -- `Normalises c ρ s t t₁ s₁ n`: n strides, the last included, take t in s to rest at t₁ in s₁
   pub data Normalises : (c : Code) → Env → Store → TaskOf c → TaskOf c → Store → ℕ → Type 0 where

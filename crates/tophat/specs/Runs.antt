@@ -1,5 +1,5 @@
 -- Lists of look and handle calls on trees (01, "Four lines on the contracts", 3), and what holds after any of them.
--- proofs/EveryRun is the theorem; the crate `calls` carries it to bytes and words. Rests on Showing.
+-- proofs/EveryRun is the theorem; the crate `call_definitions` carries it to bytes and words. Rests on Showing.
 use mathlib.Core.Path.{_≡_}
 use mathlib.Core.Bool.{true, false}
 use mathlib.Core.Logic.{_⊎_, _↔_}
@@ -9,6 +9,7 @@ use Rattle.decimal.specs.Path.{Path}
 use Rattle.tophat.specs.Syntax.{Ty, Code, TaskOf, Store, moves}
 use Rattle.tophat.specs.Typing.{At, ValueTypes, TaskType}
 use Rattle.tophat.specs.Normalising.{Fails, Normalises}
+use Rattle.tophat.specs.Quiet.{Quiet}
 use Rattle.tophat.specs.Handling.{Action, Handles}
 use Rattle.tophat.specs.Showing.{Entry, Covers, Shows}
 
@@ -29,7 +30,8 @@ pub data Leaves (c : Code) : TaskOf c → Store → Call → TaskOf c → Store 
   l-look : {t : TaskOf c} {s : Store} → Leaves c t s look t s
   l-taken : {t t₁ t₂ : TaskOf c} {s s₁ s₂ : Store} {p : Path} {x : Action} {n : ℕ}
       → Handles c [] s t p x t₁ s₁ → Normalises c [] s₁ t₁ t₂ s₂ n → Leaves c t s (touch p x) t₂ s₂
-  l-refused : {t : TaskOf c} {s : Store} {p : Path} {x : Action} → Refuses c t s p x → Leaves c t s (touch p x) t s
+  l-refused : {t : TaskOf c} {s : Store} {p : Path} {x : Action}
+      → Refuses c t s p x → Leaves c t s (touch p x) t s
 
 -- what a list of calls leaves
 pub data Runs (c : Code) : TaskOf c → Store → List Call → TaskOf c → Store → Type 0 where
@@ -58,9 +60,11 @@ pub record Stands (Σ : List Ty) (c : Code) (τ : Ty) (t : TaskOf c) (s : Store)
   pub shows : Shows c [] s t shown
   pub sole : (es : List Entry) → Shows c [] s t es → shown ≡ es
   -- it covers exactly the accepted events
-  pub lit : (p : Path) (x : Action) → Accepts c t s p x ↔ ((i : ℕ) × (e : Entry) × At shown i e × Covers e p x)
+  pub accepted-iff-covered : (p : Path) (x : Action) → Accepts c t s p x ↔ ((i : ℕ) × (e : Entry) × At shown i e × Covers e p x)
   -- each by just one entry
-  pub once : (i j : ℕ) (e f : Entry) (p : Path) (x : Action) → At shown i e → At shown j f → Covers e p x → Covers f p x → i ≡ j
-  -- it is empty exactly when the flow is failing, and the rules say whether it is
-  pub dark : (shown ≡ []) ↔ Fails c [] s t true
-  pub live : (shown ≡ [] → ⊥) ↔ Fails c [] s t false
+  pub covered-once : (i j : ℕ) (e f : Entry) (p : Path) (x : Action) → At shown i e → At shown j f → Covers e p x → Covers f p x → i ≡ j
+  -- it is empty exactly when the task is quiet
+  pub empty-iff-quiet : (shown ≡ []) ↔ Quiet c [] s t
+  -- the rules say whether the task fails, and one that fails is quiet
+  pub fails-decided : Fails c [] s t true ⊎ Fails c [] s t false
+  pub failing-quiet : Fails c [] s t true → Quiet c [] s t

@@ -145,3 +145,17 @@ moves (or a b) = 1 + moves a + moves b
 moves (xor a b) = moves a + moves b
 moves (if e a b) = moves a + moves b
 moves (let' e b) = moves b
+
+-- the rows that are tasks, which bound the entries of a list
+unfoldable pub taskRows : Code → ℕ
+taskRows (edit e) = 1
+taskRows (enter τ) = 1
+taskRows (update n) = 1
+taskRows (then a b) = 1 + taskRows a + taskRows b
+taskRows (next a b) = 1 + taskRows a + taskRows b
+taskRows (fail τ) = 1
+taskRows (and a b) = 1 + taskRows a + taskRows b
+taskRows (or a b) = 1 + taskRows a + taskRows b
+taskRows (xor a b) = 1 + taskRows a + taskRows b
+taskRows (if e a b) = 1 + taskRows a + taskRows b
+taskRows (let' e b) = 1 + taskRows b

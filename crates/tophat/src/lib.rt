@@ -4,6 +4,15 @@
 // 01: "A type has at most 4 leaves"
 pub const MAX_LEAVES: usize = 4;
 
+// 01: leaf kinds "(1, 2, 3; 0 unused)". A leaf's digit in a type's number (crate shape) is its kind.
+pub const NO_LEAF: u32 = 0;
+
+pub const UNIT: u32 = 1;
+
+pub const TRUTH: u32 = 2;
+
+pub const NUMBER: u32 = 3;
+
 // 01: "action (1 value, 2 Continue, 3 Left, 4 Right)"
 pub const GIVE: u32 = 1;
 

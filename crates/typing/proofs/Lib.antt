@@ -3,6 +3,5 @@ pub mod TypeLaws
 pub mod TaskLaws
 pub mod Cells
 pub mod Steps
-pub mod NoCode
 pub mod Agree
 pub mod TypeRows

@@ -1,18 +1,19 @@
 -- Rows as nodes: the arms of `node_from`, and that the rows which a node names are lower. Rests on Nodes, and on the
--- crates ranges and rows.
+-- crates match_laws and rows.
 use mathlib.Core.Path.{_≡_, refl, sym, ap, subst, _∙_}
 use mathlib.Core.Bool.{Bool, true, false, cond}
+use mathlib.Core.Option.{Option, none, some}
 use mathlib.Core.List.{List, [], _∷_}
-use Prim.Native.Nat.{ℕ, _+_, _<_, _≤_}
+use Prim.Native.Nat.{ℕ, suc, _+_, _<_, _≤_}
 use native.Mathlib.Omega.{arith}
 use lib.Dec.{ltb}
 use types.Run.{OneOf}
 use borrow.Author.Tests.{ltb-true}
-use Rattle.ranges.proofs.Ranges.{nothing, AllOf, one-of, Each, in-range, NoneOf, in-gap}
-use Rattle.rows.specs.Kinds.{Kind, kindOf, unitK, truthK, numberK, pairK, cellK, eunitK, etruthK, enumberK, ebinderK, eopK, ifK, epairK, efstK, esndK, ederefK, eassignK, letK}
-use Rattle.rows.specs.Kinds.{editK, enterK, updateK, thenK, nextK, failK, andK, orK, xorK, unknownK}
+use Rattle.match_laws.proofs.Ranges.{AllOf, one-of, Each, in-range, NoneOf, in-gap}
+use Rattle.rows.specs.Kinds.{Kind, typeK, unitK, truthK, numberK, pairK, cellK, plainK, eunitK, etruthK, enumberK, ebinderK, eopK, epairK, efstK, esndK, ederefK, eassignK}
+use Rattle.rows.specs.Kinds.{eitherK, ifK, letK, taskK, editK, enterK, updateK, thenK, nextK, failK, andK, orK, xorK, kindOf, numberOf, kindLimit}
 use Rattle.rows.specs.Rows.{word, opA, opB, opC}
-use Rattle.rows.proofs.KindGaps.{kind-gap, kind-past}
+use Rattle.rows.proofs.KindNumbers.{kind-gap, kind-past}
 use Rattle.typing.specs.Nodes.{lower1, lower2, lower3, nodeBy, nodeFrom, nodeOf, Below}
 use Rattle.typing.specs.declared.Node.{Node}
 use Rattle.typing.specs.declared.Node.the-variants.{Op, If, Pair, First, Second, Through, Assign, Bind, Same, Bad}
@@ -35,22 +36,22 @@ module _ (i a b c : ℕ) where
   pub node-range : {x : Node} (l n k : ℕ) → Each (Is x) l n → l ≤ k → k < l + n → x ≡ nodeFrom k i a b c
   node-range {x} l n k e p q = in-range (Is x) l n e p q
 
-  pub node-choice : {x : Node} (k : ℕ) → 45 ≤ k → k < 49 → NoneOf armKeys k → x ≡ lower2 i a b (Same a b) → x ≡ nodeFrom k i a b c
+  pub node-choice : {x : Node} (k : ℕ) → numberOf (taskK failK) ≤ k → k < suc (numberOf (taskK xorK)) → NoneOf armKeys k → x ≡ lower2 i a b (Same a b) → x ≡ nodeFrom k i a b c
   unfolding kindOf
-  node-choice {x} k l h g e = in-gap (Is x) armKeys 45 4 (nothing, (nothing, (e, (e, nothing)))) l h g
+  node-choice {x} k l h g e = in-gap (Is x) armKeys (numberOf (taskK failK)) 4 (tt, (tt, (e, (e, tt)))) l h g
 
-  pub node-none : (k : ℕ) → k < 40 → NoneOf armKeys k → Bad ≡ nodeFrom k i a b c
+  pub node-none : (k : ℕ) → k < numberOf (taskK editK) → NoneOf armKeys k → Bad ≡ nodeFrom k i a b c
   unfolding kindOf
-  node-none k l g = sym (ap (λ κ. nodeBy κ i a b c) (kind-gap 0 40 armKeys k refl (omega arith) (omega arith) g))
+  node-none k l g = sym (ap (λ κ. nodeBy κ i a b c) (kind-gap 0 (numberOf (taskK editK)) armKeys k refl (omega arith) (omega arith) g))
 
-  pub node-past : (k : ℕ) → 49 ≤ k → Bad ≡ nodeFrom k i a b c
+  pub node-past : (k : ℕ) → kindLimit ≤ k → Bad ≡ nodeFrom k i a b c
   node-past k h = sym (ap (λ κ. nodeBy κ i a b c) (kind-past k h))
 
 -- ---- the rows that a node names are lower
 
 below-by : (t : Bool) (i : ℕ) (x : Node) → (t ≡ true → Below x i) → Below (cond t x Bad) i
 below-by true i x h = h refl
-below-by false i x h = nothing
+below-by false i x h = tt
 
 lower1-below : (i a : ℕ) (x : Node) → (a < i → Below x i) → Below (lower1 i a x) i
 lower1-below i a x h = below-by (ltb a i) i x (λ e. h (ltb-true a i e))
@@ -61,34 +62,34 @@ lower2-below i a b x h = below-by (ltb a i) i (lower1 i b x) (λ e. lower1-below
 lower3-below : (i a b c : ℕ) (x : Node) → (a < i → b < i → c < i → Below x i) → Below (lower3 i a b c x) i
 lower3-below i a b c x h = below-by (ltb a i) i (lower2 i b c x) (λ e. lower2-below i b c x (h (ltb-true a i e)))
 
-node-below : (k : Kind) (i a b c : ℕ) → Below (nodeBy k i a b c) i
-node-below unitK i a b c = nothing
-node-below truthK i a b c = nothing
-node-below numberK i a b c = nothing
-node-below pairK i a b c = lower2-below i a b (Pair a b) (λ p q. (p, q))
-node-below cellK i a b c = lower1-below i a (Through a) (λ p. p)
-node-below eunitK i a b c = nothing
-node-below etruthK i a b c = nothing
-node-below enumberK i a b c = nothing
-node-below ebinderK i a b c = nothing
-node-below eopK i a b c = lower2-below i b c (Op a b c) (λ p q. (p, q))
-node-below ifK i a b c = lower3-below i a b c (If a b c) (λ p q r. (p, q, r))
-node-below epairK i a b c = lower2-below i a b (Pair a b) (λ p q. (p, q))
-node-below efstK i a b c = lower1-below i a (First a) (λ p. p)
-node-below esndK i a b c = lower1-below i a (Second a) (λ p. p)
-node-below ederefK i a b c = lower1-below i a (Through a) (λ p. p)
-node-below eassignK i a b c = lower2-below i a b (Assign a b) (λ p q. (p, q))
-node-below letK i a b c = lower2-below i a b (Bind a b) (λ p q. (p, q))
-node-below editK i a b c = lower1-below i a (Through a) (λ p. p)
-node-below enterK i a b c = lower1-below i a (Through a) (λ p. p)
-node-below updateK i a b c = lower1-below i a (Through a) (λ p. p)
-node-below thenK i a b c = lower2-below i a b (Bind a b) (λ p q. (p, q))
-node-below nextK i a b c = lower2-below i a b (Bind a b) (λ p q. (p, q))
-node-below failK i a b c = lower1-below i a (Through a) (λ p. p)
-node-below andK i a b c = lower2-below i a b (Pair a b) (λ p q. (p, q))
-node-below orK i a b c = lower2-below i a b (Same a b) (λ p q. (p, q))
-node-below xorK i a b c = lower2-below i a b (Same a b) (λ p q. (p, q))
-node-below unknownK i a b c = nothing
+node-below : (k : Option Kind) (i a b c : ℕ) → Below (nodeBy k i a b c) i
+node-below none i a b c = tt
+node-below (some (typeK unitK)) i a b c = tt
+node-below (some (typeK truthK)) i a b c = tt
+node-below (some (typeK numberK)) i a b c = tt
+node-below (some (typeK pairK)) i a b c = lower2-below i a b (Pair a b) (λ p q. (p, q))
+node-below (some cellK) i a b c = lower1-below i a (Through a) (λ p. p)
+node-below (some (plainK eunitK)) i a b c = tt
+node-below (some (plainK etruthK)) i a b c = tt
+node-below (some (plainK enumberK)) i a b c = tt
+node-below (some (plainK ebinderK)) i a b c = tt
+node-below (some (plainK eopK)) i a b c = lower2-below i b c (Op a b c) (λ p q. (p, q))
+node-below (some (eitherK ifK)) i a b c = lower3-below i a b c (If a b c) (λ p q r. (p, q, r))
+node-below (some (plainK epairK)) i a b c = lower2-below i a b (Pair a b) (λ p q. (p, q))
+node-below (some (plainK efstK)) i a b c = lower1-below i a (First a) (λ p. p)
+node-below (some (plainK esndK)) i a b c = lower1-below i a (Second a) (λ p. p)
+node-below (some (plainK ederefK)) i a b c = lower1-below i a (Through a) (λ p. p)
+node-below (some (plainK eassignK)) i a b c = lower2-below i a b (Assign a b) (λ p q. (p, q))
+node-below (some (eitherK letK)) i a b c = lower2-below i a b (Bind a b) (λ p q. (p, q))
+node-below (some (taskK editK)) i a b c = lower1-below i a (Through a) (λ p. p)
+node-below (some (taskK enterK)) i a b c = lower1-below i a (Through a) (λ p. p)
+node-below (some (taskK updateK)) i a b c = lower1-below i a (Through a) (λ p. p)
+node-below (some (taskK thenK)) i a b c = lower2-below i a b (Bind a b) (λ p q. (p, q))
+node-below (some (taskK nextK)) i a b c = lower2-below i a b (Bind a b) (λ p q. (p, q))
+node-below (some (taskK failK)) i a b c = lower1-below i a (Through a) (λ p. p)
+node-below (some (taskK andK)) i a b c = lower2-below i a b (Pair a b) (λ p q. (p, q))
+node-below (some (taskK orK)) i a b c = lower2-below i a b (Same a b) (λ p q. (p, q))
+node-below (some (taskK xorK)) i a b c = lower2-below i a b (Same a b) (λ p q. (p, q))
 
 pub node-is : (rs : List ℕ) (i k a b c : ℕ) (x : Node) → k ≡ word rs i 0 → a ≡ opA rs i → b ≡ opB rs i → c ≡ opC rs i → x ≡ nodeFrom k i a b c → (x ≡ nodeOf rs i) × Below x i
 unfolding nodeOf

@@ -2,8 +2,8 @@
 -- and on the crate shape.
 use mathlib.Core.Path.{_≡_, refl, sym, ap, ap₂, _∙_}
 use mathlib.Core.Bool.{Bool, true, false, cond}
-use mathlib.Core.Option.{Option, none, some}
-use mathlib.Core.Logic.{⊎-elim, _⊎_}
+use mathlib.Core.Option.{Option, none, some, bind}
+use mathlib.Core.Logic.{⊎-elim}
 use mathlib.Core.List.{List, [], _∷_}
 use Prim.Native.Nat.{ℕ, zero, suc, _-_, _<_, _≤_}
 use native.Mathlib.Numerals.{add-one}
@@ -13,15 +13,15 @@ use lib.Dec.{eqb}
 use lib.ListN.{length, getD, set, length-set}
 use lib.Seq.{getD-set-same, getD-set-other}
 use borrow.Author.Tests.{lt-ltb, le-ltb, le-leb, eq-eqb, ne-eqb}
-use Rattle.ranges.proofs.Ranges.{Nothing, nothing}
 use Rattle.tophat.specs.Syntax.{maxLeaves, Ty, unit, truth, number, pair, Ty-discrete, leaves, Op, sum, difference, product, less, lessEqual, equal, andOp, orOp}
-use Rattle.tophat.proofs.ComputeTyping.{bind, ask, nth, takes, gives, opTo, sameTo, ifTo, typeTo, firstTo, secondTo, assignTo}
+use Rattle.tophat.proofs.ComputeTyping.{ask, nth, takes, gives, opTo, sameTo, ifTo, typeTo, firstTo, secondTo, assignTo}
 use Rattle.shape.specs.Shape.{asShape, maybeShape, pairShape, firstShape, secondShape}
 use Rattle.shape.proofs.Puts.{shape-pos, shape-inj}
 use Rattle.shape.proofs.Shapes.{SmallO, pair-of, first-of, second-of}
 use Rattle.rows.specs.Enclosing.{maxBinders}
 use Rattle.rows.specs.Trees.{operatorOf}
 use Rattle.rows.proofs.Basics.{le-or-lt}
+use Rattle.typing.specs.BinderShapes.{EnvOf, BinderShapes}
 use Rattle.typing.specs.RowTypes.{bothAre, opShape, sameShape, ifShape, assignShape, binderShape, bindShape}
 
 -- r is the shape of the type, of at most maxLeaves leaves, or 0 for none
@@ -40,8 +40,8 @@ if-zero false = refl
 module _ (g : ℕ → ℕ → ℕ) (h : Ty → Ty → Option Ty) (z : (y : ℕ) → g 0 y ≡ 0) (w : (τ : Ty) → g (asShape τ) 0 ≡ 0) (k : (τ υ : Ty) → leaves τ ≤ maxLeaves → Good (h τ υ) (g (asShape τ) (asShape υ))) where
   lift2 : {o p : Option Ty} {x y : ℕ} → Good o x → Good p y → Good (bind o λ τ. bind p λ υ. h τ υ) (g x y)
   unfolding bind maybeShape
-  lift2 {o = none} {x = x} {y = y} a b = record { is = ap (λ x. g x y) (a .is) ∙ z y; small = nothing }
-  lift2 {o = some τ} {p = none} a b = record { is = ap₂ g (a .is) (b .is) ∙ w τ; small = nothing }
+  lift2 {o = none} {x = x} {y = y} a b = record { is = ap (λ x. g x y) (a .is) ∙ z y; small = tt }
+  lift2 {o = some τ} {p = none} a b = record { is = ap₂ g (a .is) (b .is) ∙ w τ; small = tt }
   lift2 {o = some τ} {p = some υ} a b = good-by (ap₂ g (a .is) (b .is)) (k τ υ (a .small))
 
 -- ---- tests of equal types
@@ -49,7 +49,7 @@ module _ (g : ℕ → ℕ → ℕ) (h : Ty → Ty → Option Ty) (z : (y : ℕ) 
 small-ask : {P : Type 0} (d : Dec P) (o : Option Ty) → SmallO o → SmallO (ask d o)
 unfolding ask
 small-ask (yes p) o h = h
-small-ask (no p) o h = nothing
+small-ask (no p) o h = tt
 
 eq-shape : (τ υ : Ty) (d : Dec (τ ≡ υ)) (o : Option Ty) → cond (eqb (asShape τ) (asShape υ)) (maybeShape o) 0 ≡ maybeShape (ask d o)
 unfolding ask maybeShape
@@ -139,9 +139,9 @@ if-zero-first t u = rw (ne-eqb 0 (asShape truth) (λ e. shape-pos truth (sym e))
 
 pub if-good : {m o p : Option Ty} {s x y : ℕ} → Good m s → Good o x → Good p y → Good (bind m λ κ. bind o λ τ. bind p λ υ. ifTo κ τ υ) (ifShape s x y)
 unfolding bind maybeShape
-if-good {m = none} {x = x} {y = y} c a b = record { is = ap (λ s. ifShape s x y) (c .is) ∙ if-zero-first x y; small = nothing }
-if-good {m = some κ} {o = none} {s = s} {x = x} {y = y} c a b = record { is = if-none s x y (ap (λ x. sameShape x y) (a .is) ∙ if-zero (eqb 0 y)); small = nothing }
-if-good {m = some κ} {o = some τ} {p = none} {s = s} {x = x} {y = y} c a b = record { is = if-none s x y (ap₂ sameShape (a .is) (b .is) ∙ same-none τ); small = nothing }
+if-good {m = none} {x = x} {y = y} c a b = record { is = ap (λ s. ifShape s x y) (c .is) ∙ if-zero-first x y; small = tt }
+if-good {m = some κ} {o = none} {s = s} {x = x} {y = y} c a b = record { is = if-none s x y (ap (λ x. sameShape x y) (a .is) ∙ if-zero (eqb 0 y)); small = tt }
+if-good {m = some κ} {o = some τ} {p = none} {s = s} {x = x} {y = y} c a b = record { is = if-none s x y (ap₂ sameShape (a .is) (b .is) ∙ same-none τ); small = tt }
 if-good {m = some κ} {o = some τ} {p = some υ} c a b = good-by (λ i. ifShape (c .is i) (a .is i) (b .is i)) (if-step κ τ υ (a .small))
 
 -- ---- pairs and components
@@ -152,12 +152,12 @@ small-type τ = by (decLe (leaves τ) maxLeaves)
   where
     by : (d : Dec (leaves τ ≤ maxLeaves)) → SmallO (ask d (some τ))
     by (yes p) = p
-    by (no n) = nothing
+    by (no n) = tt
 
 small-pair : (o p : Option Ty) → SmallO (bind o λ τ. bind p λ υ. typeTo (pair τ υ))
 unfolding bind
-small-pair none p = nothing
-small-pair (some τ) none = nothing
+small-pair none p = tt
+small-pair (some τ) none = tt
 small-pair (some τ) (some υ) = small-type (pair τ υ)
 
 pub pair-good : {o p : Option Ty} {x y : ℕ} → Good o x → Good p y → Good (bind o λ τ. bind p λ υ. typeTo (pair τ υ)) (pairShape x y)
@@ -165,18 +165,18 @@ pair-good {o} {p} a b = record { is = ap₂ pairShape (a .is) (b .is) ∙ pair-o
 
 small-first : (o : Option Ty) → SmallO o → SmallO (bind o firstTo)
 unfolding bind firstTo leaves
-small-first none h = nothing
-small-first (some unit) h = nothing
-small-first (some truth) h = nothing
-small-first (some number) h = nothing
+small-first none h = tt
+small-first (some unit) h = tt
+small-first (some truth) h = tt
+small-first (some number) h = tt
 small-first (some (pair τ υ)) h = omega arith
 
 small-second : (o : Option Ty) → SmallO o → SmallO (bind o secondTo)
 unfolding bind secondTo leaves
-small-second none h = nothing
-small-second (some unit) h = nothing
-small-second (some truth) h = nothing
-small-second (some number) h = nothing
+small-second none h = tt
+small-second (some unit) h = tt
+small-second (some truth) h = tt
+small-second (some number) h = tt
 small-second (some (pair τ υ)) h = omega arith
 
 pub first-good : {o : Option Ty} {x : ℕ} → Good o x → Good (bind o firstTo) (firstShape x)
@@ -186,17 +186,6 @@ pub second-good : {o : Option Ty} {x : ℕ} → Good o x → Good (bind o second
 second-good {o} a = record { is = ap secondShape (a .is) ∙ second-of o (a .small); small = small-second o (a .small) }
 
 -- ---- binders
-
--- env holds the shapes of the binders around, which Γ has nearest first
-abbrev pub EnvOf : List ℕ → List Ty → Type 0
-EnvOf env [] = Nothing
-EnvOf env (τ ∷ Γ) = (getD env (length Γ) 0 ≡ asShape τ) × (leaves τ ≤ maxLeaves) × EnvOf env Γ
-
--- env holds the shapes of the binders Γ
-pub record Around (env : List ℕ) (Γ : List Ty) : Type 0 where
-  pub long : length env ≡ maxBinders
-  pub few : length Γ ≤ maxBinders
-  pub held : EnvOf env Γ
 
 nth-in : (env : List ℕ) (Γ : List Ty) (a : ℕ) → EnvOf env Γ → a < length Γ → (τ : Ty) × (nth Γ a ≡ some τ) × (getD env (length Γ - 1 - a) 0 ≡ asShape τ) × (leaves τ ≤ maxLeaves)
 unfolding nth
@@ -213,24 +202,24 @@ nth-out (τ ∷ Γ) (suc a) l = nth-out Γ a (omega arith)
 pub binder-good : (env : List ℕ) (Γ : List Ty) (a : ℕ) → EnvOf env Γ → length Γ ≤ maxBinders → Good (nth Γ a) (binderShape env (length Γ) a)
 unfolding maybeShape
 binder-good env Γ a h l =
-    ⊎-elim (λ (g : length Γ ≤ a). let e = nth-out Γ a g in record { is = rw (le-ltb a (length Γ) g, e); small = rw e nothing })
+    ⊎-elim (λ (g : length Γ ≤ a). let e = nth-out Γ a g in record { is = rw (le-ltb a (length Γ) g, e); small = rw e tt })
     (λ (g : a < length Γ). let (τ, e, p, q) = nth-in env Γ a h g in record { is = rw (lt-ltb a (length Γ) g, le-leb (length Γ) maxBinders l, e) p; small = rw e q }) (le-or-lt (length Γ) a)
 
 env-set : (env : List ℕ) (Γ : List Ty) (k x : ℕ) → length Γ ≤ k → EnvOf env Γ → EnvOf (set env k x) Γ
-env-set env [] k x l h = nothing
+env-set env [] k x l h = tt
 env-set env (τ ∷ Γ) k x l h = (getD-set-other env k (length Γ) x 0 (λ e. omega arith) ∙ h .0, h .1, env-set env Γ k x (omega arith) (h .2))
 
 env-more : (env : List ℕ) (Γ : List Ty) (τ : Ty) → length env ≡ maxBinders → length Γ < maxBinders → leaves τ ≤ maxLeaves → EnvOf env Γ → EnvOf (set env (length Γ) (asShape τ)) (τ ∷ Γ)
 env-more env Γ τ e l s h = (getD-set-same env (length Γ) (asShape τ) 0 (omega arith), s, env-set env Γ (length Γ) (asShape τ) (omega arith) h)
 
-pub around-more : {env : List ℕ} {Γ : List Ty} (τ : Ty) → length Γ < maxBinders → leaves τ ≤ maxLeaves → Around env Γ → Around (set env (length Γ) (asShape τ)) (τ ∷ Γ)
+pub around-more : {env : List ℕ} {Γ : List Ty} (τ : Ty) → length Γ < maxBinders → leaves τ ≤ maxLeaves → BinderShapes env Γ → BinderShapes (set env (length Γ) (asShape τ)) (τ ∷ Γ)
 around-more {env} {Γ} τ l s h = record { long = length-set env (length Γ) (asShape τ) ∙ h .long; few = l; held = env-more env Γ τ (h .long) l s (h .held) }
 
 -- a binder more
 module _ (env : List ℕ) (Γ : List Ty) (h : Ty → Option Ty) (f : List ℕ → ℕ → ℕ) (el : length env ≡ maxBinders) (l : length Γ < maxBinders) (eh : EnvOf env Γ) (k : (e : List ℕ) (τ : Ty) → length e ≡ maxBinders → EnvOf e (τ ∷ Γ) → Good (h τ) (f e (suc (length Γ)))) where
   pub bind-good : {o : Option Ty} {x : ℕ} → Good o x → Good (bind o h) (bindShape f env (length Γ) x)
   unfolding bind maybeShape
-  bind-good {o = none} g = record { is = ap (bindShape f env (length Γ)) (g .is); small = nothing }
+  bind-good {o = none} g = record { is = ap (bindShape f env (length Γ)) (g .is); small = tt }
   bind-good {o = some τ} g =
       good-by (ap (bindShape f env (length Γ)) (g .is) ∙ rw (ne-eqb (asShape τ) 0 (shape-pos τ), lt-ltb (length Γ) maxBinders l, add-one))
       (k (set env (length Γ) (asShape τ)) τ (length-set env (length Γ) (asShape τ) ∙ el) (env-more env Γ τ el l (g .small) eh))

@@ -1,4 +1,4 @@
--- Which rows are tasks: `is_task` follows the B of 25 and 31. Rests on RowTypes, and on the crates ranges and rows.
+-- Which rows are tasks: `is_task` follows the B of 25 and 31. Rests on RowTypes, and on the crates match_laws and rows.
 use mathlib.Core.Path.{_≡_, refl, sym, ap, _∙_}
 use mathlib.Core.Bool.{Bool, true, false, not}
 use mathlib.Core.List.{List, [], _∷_}
@@ -7,34 +7,38 @@ use native.Mathlib.Omega.{arith}
 use lib.ListN.{replicate}
 use types.Run.{OneOf}
 use borrow.Author.Tests.{not-true}
-use Rattle.ranges.proofs.Ranges.{nothing, one-of, in-range, NoneOf, within}
-use Rattle.rows.specs.Kinds.{Sort, taskS, kindOf, shapeOf}
+use Rattle.match_laws.proofs.Ranges.{one-of, NoneOf, within}
+use Rattle.rows.specs.Kinds.{Sort, taskS, eitherK, ifK, letK, taskK, editK, asksOf, numberOf, kindLimit}
 use Rattle.rows.specs.Rows.{word, opB, sortBy, sortBelow, sortNumber, sameSort}
 use Rattle.rows.specs.Enclosing.{maxBinders}
-use Rattle.rows.proofs.KindGaps.{kind-past}
+use Rattle.rows.proofs.KindNumbers.{no-asks, kind-past}
 use Rattle.rows.proofs.Exists.{sortAt, sort-below, sort-past}
 use Rattle.typing.specs.RowTypes.{typeOf, isTask, flowShape}
 
 -- a kind with a B of sort s is a task
 abbrev taskBy : ℕ → Sort → Bool
-taskBy k s = sameSort (sortBy (shapeOf (kindOf k)) s) taskS
+taskBy k s = sameSort (sortBy (asksOf k) s) taskS
 
-branch-task : (s : Sort) (k : ℕ) → OneOf (25 ∷ 31 ∷ []) k → taskBy k s ≡ sameSort s taskS
-unfolding kindOf sortBy
-branch-task s k h = one-of (λ k. taskBy k s ≡ sameSort s taskS) (25 ∷ 31 ∷ []) (refl, (refl, nothing)) h
+-- the two that are what their B is
+abbrev eithers : List ℕ
+eithers = numberOf (eitherK ifK) ∷ numberOf (eitherK letK) ∷ []
 
-own-task : (s : Sort) (k : ℕ) → 40 ≤ k → k < 49 → taskBy k s ≡ true
-unfolding kindOf sortBy sortNumber
-own-task s k l h =
-    in-range (λ k. taskBy k s ≡ true) 40 9 (refl, (refl, (refl, (refl, (refl, (refl, (refl, (refl, (refl, nothing))))))))) l h
+branch-task : (s : Sort) (k : ℕ) → OneOf eithers k → taskBy k s ≡ sameSort s taskS
+unfolding asksOf sortBy
+branch-task s k h = one-of (λ k. taskBy k s ≡ sameSort s taskS) eithers (refl, (refl, tt)) h
 
-no-task : (s : Sort) (k : ℕ) → k < 40 → NoneOf ((25 ∷ 31 ∷ []) ∷ []) k → taskBy k s ≡ false
-unfolding kindOf sortBy sortNumber
-no-task s k h g = not-true _ (within (λ k. not (taskBy k s)) 0 40 ((25 ∷ 31 ∷ []) ∷ []) k refl (omega arith) (omega arith) g)
+-- the tasks' own kinds are the last of the table
+own-task : (s : Sort) (k : ℕ) → numberOf (taskK editK) ≤ k → k < kindLimit → taskBy k s ≡ true
+unfolding asksOf sortBy sortNumber
+own-task s k l h = within (λ k. taskBy k s) (numberOf (taskK editK)) (kindLimit - numberOf (taskK editK)) [] k refl l (omega arith) tt
 
-past-task : (s : Sort) (k : ℕ) → 49 ≤ k → taskBy k s ≡ false
+no-task : (s : Sort) (k : ℕ) → k < numberOf (taskK editK) → NoneOf (eithers ∷ []) k → taskBy k s ≡ false
+unfolding asksOf sortBy sortNumber
+no-task s k h g = not-true _ (within (λ k. not (taskBy k s)) 0 (numberOf (taskK editK)) (eithers ∷ []) k refl (omega arith) (omega arith) g)
+
+past-task : (s : Sort) (k : ℕ) → kindLimit ≤ k → taskBy k s ≡ false
 unfolding sortBy sortNumber
-past-task s k h = ap (λ κ. sameSort (sortBy (shapeOf κ) s) taskS) (kind-past k h)
+past-task s k h = ap (λ x. sameSort (sortBy x s) taskS) (no-asks k (kind-past k h))
 
 module _ (rs : List ℕ) (i : ℕ) where
   -- by the sort of the row, and by its kind and the sort of its B
@@ -47,22 +51,22 @@ module _ (rs : List ℕ) (i : ℕ) where
   task-by k e = task-sort ∙ sym (ap (λ k. taskBy k (sortBelow rs i (opB rs i))) e)
 
   module _ (k : ℕ) (e : k ≡ word rs i 0) where
-    pub task-branch : (b : ℕ) (r : Bool) → OneOf (25 ∷ 31 ∷ []) k → b ≡ opB rs i → b < i → r ≡ isTask rs b → r ≡ isTask rs i
+    pub task-branch : (b : ℕ) (r : Bool) → OneOf eithers k → b ≡ opB rs i → b < i → r ≡ isTask rs b → r ≡ isTask rs i
     unfolding isTask
     task-branch b r h f l g =
         g ∙ ap (λ s. sameSort s taskS) (sort-below rs (suc b) b (omega arith) ∙ sym (sort-below rs i b l) ∙ ap (sortBelow rs i) f) ∙ sym (task-by k e ∙ branch-task (sortBelow rs i (opB rs i)) k h)
 
-    pub task-high : (b : ℕ) → OneOf (25 ∷ 31 ∷ []) k → b ≡ opB rs i → i ≤ b → false ≡ isTask rs i
+    pub task-high : (b : ℕ) → OneOf eithers k → b ≡ opB rs i → i ≤ b → false ≡ isTask rs i
     unfolding sortNumber
     task-high b h f l = sym (task-by k e ∙ branch-task (sortBelow rs i (opB rs i)) k h ∙ ap (λ s. sameSort s taskS) (ap (sortBelow rs i) (sym f) ∙ sort-past rs i b l))
 
-    pub task-own : 40 ≤ k → k < 49 → true ≡ isTask rs i
+    pub task-own : numberOf (taskK editK) ≤ k → k < kindLimit → true ≡ isTask rs i
     task-own l h = sym (task-by k e ∙ own-task (sortBelow rs i (opB rs i)) k l h)
 
-    pub task-none : k < 40 → NoneOf ((25 ∷ 31 ∷ []) ∷ []) k → false ≡ isTask rs i
+    pub task-none : k < numberOf (taskK editK) → NoneOf (eithers ∷ []) k → false ≡ isTask rs i
     task-none h g = sym (task-by k e ∙ no-task (sortBelow rs i (opB rs i)) k h g)
 
-    pub task-past : 49 ≤ k → false ≡ isTask rs i
+    pub task-past : kindLimit ≤ k → false ≡ isTask rs i
     task-past h = sym (task-by k e ∙ past-task (sortBelow rs i (opB rs i)) k h)
 
 -- ---- flow_type

@@ -3,12 +3,12 @@
 use mathlib.Core.Path.{_≡_, refl, sym, ap, subst, _∙_}
 use mathlib.Core.Bool.{cond}
 use mathlib.Core.List.{List}
-use Prim.Native.Nat.{ℕ, zero, suc, _+_, _-_, _<_, _≤_}
+use Prim.Native.Nat.{ℕ, zero, suc, _+_, _<_, _≤_}
 use native.Mathlib.Omega.{arith}
 use lib.Dec.{ltb, eqb}
 use lib.ListN.{set}
 use borrow.Author.Tests.{lt-ltb, le-ltb, eq-eqb, ne-eqb}
-use Rattle.ranges.proofs.Ranges.{nothing, in-range, past}
+use Rattle.match_laws.proofs.Ranges.{in-range, past}
 use Rattle.tophat.specs.Syntax.{sum}
 use Rattle.tophat.proofs.ComputeTyping.{takes, gives}
 use Rattle.shape.specs.Shape.{put, asShape}
@@ -29,15 +29,15 @@ module _ (o t u r : ℕ) where
 
   pub op-number : o < 4 → r ≡ bothAre t u 3 3 → r ≡ opShape o t u
   unfolding opShape operatorOf takes gives asShape put
-  op-number h e = in-range OpIs 0 4 (e, (e, (e, (e, nothing)))) (omega arith) h
+  op-number h e = in-range OpIs 0 4 (e, (e, (e, (e, tt)))) (omega arith) h
 
   pub op-test : 4 ≤ o → o < 7 → r ≡ bothAre t u 3 2 → r ≡ opShape o t u
   unfolding opShape operatorOf takes gives asShape put
-  op-test h g e = in-range OpIs 4 3 (e, (e, (e, nothing))) h g
+  op-test h g e = in-range OpIs 4 3 (e, (e, (e, tt))) h g
 
   pub op-truth : 7 ≤ o → o < 9 → r ≡ bothAre t u 2 2 → r ≡ opShape o t u
   unfolding opShape operatorOf takes gives asShape put
-  op-truth h g e = in-range OpIs 7 2 (e, (e, nothing)) h g
+  op-truth h g e = in-range OpIs 7 2 (e, (e, tt)) h g
 
   pub op-past : 9 ≤ o → r ≡ bothAre t u 3 3 → r ≡ opShape o t u
   unfolding opShape operatorOf takes gives asShape put

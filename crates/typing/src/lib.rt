@@ -1,19 +1,24 @@
 // Typing of rows by shapes: each row is decoded once to what typing does with it, then typed by recursion on lower rows.
 
-use ranges;
+use match_laws;
 use rows::MAX_BINDERS;
 use rows::ROW_WORDS;
 use rows::ROWS_WORDS;
+use rows::get;
+use rows::kind;
+use rows::kinds;
+use rows::operand;
 use shape;
 use shape::TRUTH;
 use tophat;
 ghost use mathlib.Core.Path.{_≡_};
 ghost use mathlib.Core.Bool.{true};
-ghost use Prim.Native.Nat.{_+_, _*_, _<_, _≤_};
+ghost use Prim.Native.Nat.{_+_, _<_, _≤_};
 ghost use lib.ListN.{set};
-ghost use Rattle.shape.specs.Shape.{maybeShape};
-ghost use Rattle.rows.specs.Rows.{maxRows, rowWords, word};
+ghost use Rattle.shape.specs.Shape.{asShape, maybeShape};
+ghost use Rattle.rows.specs.Rows.{maxRows};
 ghost use Rattle.rows.specs.Enclosing.{maxBinders};
+ghost use Rattle.rows.specs.ComputeTrees.{contentType};
 ghost use Rattle.rows.specs.Ground.{flowType, passes4, passes6};
 ghost use Rattle.typing.specs.Nodes.{lower1, lower2, lower3, nodeFrom, nodeOf, Below};
 ghost use Rattle.typing.specs.RowTypes.{bothAre, opShape, sameShape, ifShape, assignShape, binderShape, typeOf, isTask, flowShape};
@@ -34,14 +39,6 @@ pub enum Node {
     Bind(usize, usize),
     Same(usize, usize),
     Bad,
-}
-
-// word k of a row
-fn get(rows: &[u32; ROWS_WORDS], row: usize, k: usize) -> u32
-    requires { ⌜ (row < maxRows) × (k < rowWords) ⌝ }
-    ensures { λ r. ⌜ r ≡ word (now (rows .entry)) row k ⌝ }
-{
-    rows[row * ROW_WORDS + k]
 }
 
 fn both_are(t: u32, u: u32, x: u32, r: u32) -> u32
@@ -247,7 +244,7 @@ pub fn is_task(rows: &[u32; ROWS_WORDS], row: usize) -> bool
     let k = get(rows, row, 0);
     match k {
         25 | 31 => {
-            let b = get(rows, row, 2) as usize;
+            let b = operand(rows, row, 2);
             if b < row {
                 return is_task(rows, b);
             }
@@ -256,6 +253,18 @@ pub fn is_task(rows: &[u32; ROWS_WORDS], row: usize) -> bool
         40..=48 => true,
         _ => false,
     }
+}
+
+// the shape of what a cell holds, by the kind of its type row
+pub fn cell_shape(rows: &[u32; ROWS_WORDS], row: usize) -> u32
+    requires { ⌜ row < maxRows ⌝ }
+    ensures { λ r. ⌜ r ≡ asShape (contentType (now (rows .entry)) row) ⌝ }
+{
+    let a = operand(rows, row, 1);
+    if kind(rows, a) == kinds::TRUTH {
+        return shape::TRUTH;
+    }
+    shape::NUMBER
 }
 
 // the shape of the type of the last of n rows as a task, 0 for none

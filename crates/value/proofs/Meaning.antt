@@ -1,10 +1,10 @@
 -- What the functions of this crate give on values of the calculus: an operator, a test, a pair and its parts are the
--- calculus', wherever leaves are words and a type has at most four of them. Rests on crate shape's laws.
-use mathlib.Core.Path.{_≡_, refl, sym, ap, ap₂, _∙_}
+-- calculus', wherever leaves are words and a type has at most `maxLeaves` of them. Rests on crate shape's laws.
+use mathlib.Core.Path.{_≡_, refl, sym, ap, ap₂, _∙_, subst}
 use mathlib.Core.Bool.{Bool, true, false, cond, false≢true}
-use mathlib.Core.Option.{Option, none, some}
-use mathlib.Core.List.{List, [], _∷_, _++_}
-use Prim.Native.Nat.{ℕ, zero, suc, _+_, _-_, _≤_, _<_}
+use mathlib.Core.Option.{Option, none, some, bind}
+use mathlib.Core.List.{List, [], _∷_, _++_, map}
+use Prim.Native.Nat.{ℕ, zero, suc, _+_, _-_, _≤_}
 use native.Mathlib.Omega.{arith}
 use lib.Dec.{ltb, lit<}
 use lib.IntN.{pos}
@@ -13,21 +13,23 @@ use lib.Seq.{getD-append-add}
 use borrow.Author.Tests.{ltb-true, ltb-false}
 use mir.Syntax.{w32}
 use mir.Val.{toZ, ofZ}
-use Rattle.word.specs.Word.{IsWord}
+use Rattle.word.specs.Word.{IsWord, AllWords}
+use Rattle.word.specs.Tabulate.{tabulate}
+use Rattle.word.proofs.Tabulate.{tabulate-is}
 use Rattle.word.proofs.TwosComplement.{number-bits}
+use Rattle.word.proofs.Lists.{numbers-bits}
 use Rattle.tophat.specs.Syntax.{maxLeaves, Ty, pair, leaves, Op, sum, difference, product, less, lessEqual, equal, andOp, orOp, Val, vunit, vtruth, vnumber, vpair}
-use Rattle.tophat.specs.Typing.{ValueType, v-unit, v-truth, v-number, v-pair}
-use Rattle.tophat.specs.Handling.{leavesOf, padded}
+use Rattle.tophat.specs.Typing.{ValueType, v-unit, v-truth, v-number, v-pair, typeOf}
+use Rattle.tophat.specs.Leaves.{leavesOf, padded}
 use Rattle.tophat.proofs.ComputeEvaluation.{leaf, isTrue, apply}
-use Rattle.tophat.proofs.ComputeHandling.{typeOf}
-use Rattle.tophat.proofs.ComputeTyping.{bind, firstTo, secondTo}
-use Rattle.shape.specs.Shape as shape
-use Rattle.shape.specs.Shape.{asShape, maybeShape, pairShape, firstShape, secondShape}
-use Rattle.ranges.proofs.Ranges.{past}
+use Rattle.tophat.proofs.ComputeTyping.{firstTo, secondTo}
+use Rattle.shape.specs.Shape.{asShape, maybeShape, pairShape, firstShape, secondShape, shapeLeaves}
+use Rattle.match_laws.proofs.Ranges.{past}
 use Rattle.shape.proofs.Puts.{by-test, leaves-pos, fits, as-type}
 use Rattle.shape.proofs.Counts.{shape-leaves}
 use Rattle.value.specs.declared.Found.{Found}
-use Rattle.value.specs.Values.{leafBits, asValue, asFound, noLeaves, leafNumber, four, joined, pairOf, firstOf, secondOf}
+use Rattle.value.specs.Values.{leafBits, asValue, noLeaves, firstNumber, joinedAt, pairValue, firstValue, secondValue}
+use Rattle.value.specs.Found.{asFound}
 
 -- ---- leaves by place
 
@@ -76,19 +78,32 @@ leaf-count v h =
     length-map (leavesOf v ++ replicate m (pos 0)) (ofZ w32) ∙ length-append (leavesOf v) (replicate m (pos 0))
     ∙ ap (λ n. length (leavesOf v) + n) (length-replicate m (pos 0)) ∙ omega (arith, leaves-length v)
 
-four-is : (l : List ℕ) (f : ℕ → ℕ) → length l ≡ maxLeaves → ((i : ℕ) → getD l i 0 ≡ f i) → four f ≡ l
-four-is [] f h e = absurd (omega arith)
-four-is (a ∷ []) f h e = absurd (omega arith)
-four-is (a ∷ b ∷ []) f h e = absurd (omega arith)
-four-is (a ∷ b ∷ c ∷ []) f h e = absurd (omega arith)
-four-is (a ∷ b ∷ c ∷ d ∷ []) f h e = λ i. sym (e 0) i ∷ sym (e 1) i ∷ sym (e 2) i ∷ sym (e 3) i ∷ []
-four-is (a ∷ b ∷ c ∷ d ∷ x ∷ l) f h e = absurd (omega arith)
+-- a value's leaves are words, and so are read back from their bits
+leaves-words : {v : Val} {τ : Ty} → ValueType v τ → AllWords (leavesOf v)
+unfolding leavesOf
+leaves-words v-unit zero = omega arith
+leaves-words v-unit (suc i) = omega arith
+leaves-words (v-truth {b = true}) zero = omega arith
+leaves-words (v-truth {b = true}) (suc i) = omega arith
+leaves-words (v-truth {b = false}) zero = omega arith
+leaves-words (v-truth {b = false}) (suc i) = omega arith
+leaves-words (v-number h) zero = h
+leaves-words (v-number h) (suc i) = omega arith
+leaves-words (v-pair {v = v} {w = w} g h) i =
+    let xs = leavesOf v in
+    subst IsWord (sym (append-at (pos 0) xs (leavesOf w) i)) (by-test IsWord (ltb i (length xs)) (λ _. leaves-words g i) (λ _. leaves-words h (i - length xs)))
 
--- a value of a shape and four leaves is a value of the calculus
+pub leaves-back : {v : Val} {τ : Ty} → ValueType v τ → map (toZ w32) (leafBits v) ≡ padded (pos 0) (leavesOf v)
+unfolding leafBits padded
+leaves-back {v} t =
+    let m = maxLeaves - length (leavesOf v) in
+    numbers-bits (leavesOf v ++ replicate m (pos 0)) (λ i. subst IsWord (sym (padded-at (pos 0) (leavesOf v) m i)) (leaves-words t i))
+
+-- a value of a shape and leaves by their places is a value of the calculus
 pub value-is : (v : Val) (s : ℕ) (f : ℕ → ℕ) → leaves (typeOf v) ≤ maxLeaves → s ≡ asShape (typeOf v) → ((i : ℕ) → f i ≡ ofZ w32 (getD (leavesOf v) i (pos 0)))
-    → record { shape = s; leaves = four f } ≡ asValue v
+    → record { shape = s; leaves = tabulate maxLeaves f } ≡ asValue v
 unfolding asValue
-value-is v s f h e g = λ i. record { shape = e i; leaves = four-is (leafBits v) f (leaf-count v h) (λ j. leaf-at v j ∙ sym (g j)) i }
+value-is v s f h e g = λ i. record { shape = e i; leaves = tabulate-is maxLeaves f (leafBits v) 0 (leaf-count v h) (λ j k. leaf-at v j ∙ sym (g j)) i }
 
 -- ---- pairs and their parts
 
@@ -115,29 +130,29 @@ module _ (v w : Val) (h : leaves (typeOf v) + leaves (typeOf w) ≤ maxLeaves) w
   unfolding secondShape bind maybeShape secondTo typeOf
   second-shape = rw (as-type (pair (typeOf v) (typeOf w)) small)
 
-  first-count : shape.leavesOf (asShape (typeOf v)) ≡ length (leavesOf v)
+  first-count : shapeLeaves (asShape (typeOf v)) ≡ length (leavesOf v)
   first-count = shape-leaves (typeOf v) first-small ∙ sym (leaves-length v)
 
-  part-count : shape.leavesOf (firstShape (asShape (typeOf (vpair v w)))) ≡ length (leavesOf v)
-  part-count = ap shape.leavesOf first-shape ∙ first-count
+  part-count : shapeLeaves (firstShape (asShape (typeOf (vpair v w)))) ≡ length (leavesOf v)
+  part-count = ap shapeLeaves first-shape ∙ first-count
 
-  pub pair-value : pairOf (asValue v) (asValue w) ≡ asValue (vpair v w)
+  pub pair-value : pairValue (asValue v) (asValue w) ≡ asValue (vpair v w)
   unfolding asValue leavesOf
-  pair-value = value-is (vpair v w) _ (joined (shape.leavesOf (asShape (typeOf v))) (leafBits v) (leafBits w)) small pair-shape
-      (λ i. ap (λ n. joined n (leafBits v) (leafBits w) i) first-count
+  pair-value = value-is (vpair v w) _ (joinedAt (shapeLeaves (asShape (typeOf v))) (leafBits v) (leafBits w)) small pair-shape
+      (λ i. ap (λ n. joinedAt n (leafBits v) (leafBits w) i) first-count
       ∙ (λ j. cond (ltb i (length (leavesOf v))) (leaf-at v i j) (leaf-at w (i - length (leavesOf v)) j))
       ∙ sym (cond-ap (ofZ w32) (ltb i (length (leavesOf v))) _ _) ∙ ap (ofZ w32) (sym (append-at (pos 0) (leavesOf v) (leavesOf w) i)))
 
-  pub first-value : firstOf (asValue (vpair v w)) ≡ asValue v
+  pub first-value : firstValue (asValue (vpair v w)) ≡ asValue v
   unfolding asValue leavesOf
-  first-value = value-is v _ (joined (shape.leavesOf (firstShape (asShape (typeOf (vpair v w))))) (leafBits (vpair v w)) noLeaves) first-small first-shape
-      (λ i. ap (λ n. joined n (leafBits (vpair v w)) noLeaves i) part-count
+  first-value = value-is v _ (joinedAt (shapeLeaves (firstShape (asShape (typeOf (vpair v w))))) (leafBits (vpair v w)) noLeaves) first-small first-shape
+      (λ i. ap (λ n. joinedAt n (leafBits (vpair v w)) noLeaves i) part-count
       ∙ (λ j. cond (ltb i (length (leavesOf v))) (leaf-at (vpair v w) i j) (zeros-at 0 maxLeaves (i - length (leavesOf v)) j))
       ∙ sym (cond-ap (ofZ w32) (ltb i (length (leavesOf v))) _ _) ∙ ap (ofZ w32) (front-at (pos 0) (leavesOf v) (leavesOf w) i))
 
-  pub second-value : secondOf (asValue (vpair v w)) ≡ asValue w
+  pub second-value : secondValue (asValue (vpair v w)) ≡ asValue w
   unfolding asValue leavesOf
-  second-value = value-is w _ (λ i. getD (leafBits (vpair v w)) (shape.leavesOf (firstShape (asShape (typeOf (vpair v w)))) + i) 0) second-small second-shape
+  second-value = value-is w _ (λ i. getD (leafBits (vpair v w)) (shapeLeaves (firstShape (asShape (typeOf (vpair v w)))) + i) 0) second-small second-shape
       (λ i. ap (λ n. getD (leafBits (vpair v w)) (n + i) 0) part-count ∙ leaf-at (vpair v w) (length (leavesOf v) + i) ∙ ap (ofZ w32) (getD-append-add (leavesOf v) (leavesOf w) i (pos 0)))
 
 -- ---- the first leaf
@@ -158,13 +173,13 @@ leaf-word (v-truth {b = false}) = lit< tt
 leaf-word (v-number h) = h
 leaf-word (v-pair g h) = leaf-word g
 
-leaf-number : (v : Val) → IsWord (leaf v) → leafNumber (asValue v) ≡ vnumber (leaf v)
+first-number : (v : Val) → IsWord (leaf v) → firstNumber (asValue v) ≡ vnumber (leaf v)
 unfolding asValue
-leaf-number v h = ap vnumber (ap (toZ w32) (leaf-at v 0 ∙ ap (ofZ w32) (first-leaf v)) ∙ number-bits (leaf v) h)
+first-number v h = ap vnumber (ap (toZ w32) (leaf-at v 0 ∙ ap (ofZ w32) (first-leaf v)) ∙ number-bits (leaf v) h)
 
-pub true-value : (v : Val) → IsWord (leaf v) → isTrue (leafNumber (asValue v)) ≡ isTrue v
+pub true-value : (v : Val) → IsWord (leaf v) → isTrue (firstNumber (asValue v)) ≡ isTrue v
 unfolding isTrue leaf
-true-value v h = ap isTrue (leaf-number v h)
+true-value v h = ap isTrue (first-number v h)
 
 by-leaf : (o : Op) (v w : Val) → apply o (vnumber (leaf v)) (vnumber (leaf w)) ≡ apply o v w
 unfolding apply isTrue leaf
@@ -177,8 +192,8 @@ by-leaf equal v w = refl
 by-leaf andOp v w = refl
 by-leaf orOp v w = refl
 
-pub apply-value : (o : Op) (v w : Val) → IsWord (leaf v) → IsWord (leaf w) → apply o (leafNumber (asValue v)) (leafNumber (asValue w)) ≡ apply o v w
-apply-value o v w h g = ap₂ (apply o) (leaf-number v h) (leaf-number w g) ∙ by-leaf o v w
+pub apply-value : (o : Op) (v w : Val) → IsWord (leaf v) → IsWord (leaf w) → apply o (firstNumber (asValue v)) (firstNumber (asValue w)) ≡ apply o v w
+apply-value o v w h g = ap₂ (apply o) (first-number v h) (first-number w g) ∙ by-leaf o v w
 
 -- ---- a value found, or none
 

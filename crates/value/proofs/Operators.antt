@@ -1,7 +1,6 @@
 -- Values of one leaf, and what the eight operators give on the bits of two numbers. Rests on crate word's laws.
 use mathlib.Core.Path.{_≡_, refl, sym, ap, ap₂, _∙_}
 use mathlib.Core.Bool.{Bool, true, false, _&&_, _||_}
-use mathlib.Core.List.{[], _∷_}
 use Prim.Native.Nat.{ℕ, zero, suc, _≤_, _<_}
 use native.Mathlib.Omega.{arith}
 use lib.IntN.{ℤ, _+ℤ_, _-ℤ_, _*ℤ_}
@@ -12,38 +11,41 @@ use Rattle.word.specs.Word.{words, wrap, eqZ}
 use Rattle.word.proofs.TwosComplement.{bits-number, number-bits}
 use Rattle.word.proofs.Wrap.{wrap-word}
 use Rattle.tophat.specs.Syntax.{sum, Val, vunit, vtruth, vnumber}
-use Rattle.tophat.specs.Handling.{leavesOf, padded}
+use Rattle.tophat.specs.Leaves.{leavesOf, padded, unitLeaf, truthLeaf, numberLeaf, leafNumber}
 use Rattle.tophat.proofs.ComputeEvaluation.{leaf, isTrue, apply}
-use Rattle.tophat.proofs.ComputeHandling.{typeOf}
-use Rattle.ranges.proofs.Ranges.{past}
+use Rattle.tophat.specs.Typing.{typeOf}
+use Rattle.match_laws.proofs.Ranges.{past}
 use Rattle.rows.specs.Trees.{operators, operatorOf}
 use Rattle.shape.specs.Shape.{put, asShape}
-use Rattle.value.specs.Values.{leafBits, asValue}
+use Rattle.value.specs.Values.{leafBits, asValue, single}
 
 -- ---- values of one leaf
 
 pub differ : {X : Type 0} → true ≡ false → X
 differ e = let z : _≡_ {A = ℕ} 0 1 = cc in absurd (omega arith)
 
-pub unit-is : record { shape = 1; leaves = 0 ∷ 0 ∷ 0 ∷ 0 ∷ [] } ≡ asValue vunit
+pub unit-is : single (leafNumber unitLeaf) 0 ≡ asValue vunit
 unfolding asValue asShape put leafBits padded typeOf leavesOf
 unit-is = refl
 
-pub truth-is : (b : Bool) (x : ℕ) → (b ≡ true → x ≡ 1) → (b ≡ false → x ≡ 0) → record { shape = 2; leaves = x ∷ 0 ∷ 0 ∷ 0 ∷ [] } ≡ asValue (vtruth b)
+pub true-is : {b : Bool} → b ≡ true → single (leafNumber truthLeaf) 1 ≡ asValue (vtruth b)
 unfolding asValue asShape put leafBits padded typeOf leavesOf
-truth-is true x h g = ap (λ x. record { shape = 2; leaves = x ∷ 0 ∷ 0 ∷ 0 ∷ [] }) (h refl)
-truth-is false x h g = ap (λ x. record { shape = 2; leaves = x ∷ 0 ∷ 0 ∷ 0 ∷ [] }) (g refl)
+true-is e = ap (λ b. asValue (vtruth b)) (sym e)
 
-pub number-is : (w : ℕ) → w < words → record { shape = 3; leaves = w ∷ 0 ∷ 0 ∷ 0 ∷ [] } ≡ asValue (vnumber (toZ w32 w))
+pub false-is : {b : Bool} → b ≡ false → single (leafNumber truthLeaf) 0 ≡ asValue (vtruth b)
 unfolding asValue asShape put leafBits padded typeOf leavesOf
-number-is w h = ap (λ x. record { shape = 3; leaves = x ∷ 0 ∷ 0 ∷ 0 ∷ [] }) (sym (bits-number w h))
+false-is e = ap (λ b. asValue (vtruth b)) (sym e)
+
+pub number-is : (w : ℕ) → w < words → single (leafNumber numberLeaf) w ≡ asValue (vnumber (toZ w32 w))
+unfolding asValue asShape put leafBits padded typeOf leavesOf
+number-is w h = ap (single (leafNumber numberLeaf)) (sym (bits-number w h))
 
 -- ---- the operators
 
 -- a test for 1 is whether the number is true's
-pub true-is : (x : ℕ) (r : Bool) → r ≡ eqZ (toZ w32 x) (toZ w32 1) → r ≡ isTrue (vnumber (toZ w32 x))
+pub tests-true : (x : ℕ) (r : Bool) → r ≡ eqZ (toZ w32 x) (toZ w32 1) → r ≡ isTrue (vnumber (toZ w32 x))
 unfolding isTrue leaf
-true-is x r e = e
+tests-true x r e = e
 
 wrapped : (r : ℕ) (z : ℤ) → r ≡ ofZ w32 (wrap z) → toZ w32 r ≡ wrap z
 wrapped r z e = ap (toZ w32) e ∙ number-bits (wrap z) (wrap-word z)
@@ -89,11 +91,11 @@ module _ (op x y : ℕ) where
   module _ (p q : Bool) (hp : p ≡ eqZ (toZ w32 x) (toZ w32 1)) (hq : q ≡ eqZ (toZ w32 y) (toZ w32 1)) where
     pub and-is : (r : Bool) → op ≡ 7 → r ≡ (p && q) → Is (vtruth r)
     unfolding apply operatorOf
-    and-is r h e = by-number 7 (vtruth r) h (ap vtruth (e ∙ ap₂ _&&_ (true-is x p hp) (true-is y q hq)))
+    and-is r h e = by-number 7 (vtruth r) h (ap vtruth (e ∙ ap₂ _&&_ (tests-true x p hp) (tests-true y q hq)))
 
     pub or-is : (r : Bool) → op ≡ 8 → r ≡ (p || q) → Is (vtruth r)
     unfolding apply operatorOf
-    or-is r h e = by-number 8 (vtruth r) h (ap vtruth (e ∙ ap₂ _||_ (true-is x p hp) (true-is y q hq)))
+    or-is r h e = by-number 8 (vtruth r) h (ap vtruth (e ∙ ap₂ _||_ (tests-true x p hp) (tests-true y q hq)))
 
   pub other-is : (r : ℕ) → (1 ≤ op → op ≤ 8 → ⊥) → r ≡ ofZ w32 (wrap (toZ w32 x +ℤ toZ w32 y)) → Is (vnumber (toZ w32 r))
   unfolding apply leaf

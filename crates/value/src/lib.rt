@@ -1,15 +1,16 @@
-// Values as the engine passes them: a shape, which is the value's type as one number, and four leaves, unused ones 0; and what
-// plain expressions do with them. Rests on crate word for numbers, on crate shape for types, and on specs/Values.antt for what
-// a value stands for.
-use shape::NUMBER;
-use shape::TRUTH;
-use shape::UNIT;
+// Values as the engine passes them: a shape, which is the value's type as one number, and its leaves, unused ones 0; a value or
+// none; and what plain expressions do with values. Rests on crate word for numbers, on crate shape for types, and on
+// specs/Values.antt for what a value stands for.
 use shape::first_shape;
 use shape::leaf_kinds;
 use shape::leaves_of;
 use shape::pair_shape;
 use shape::second_shape;
 use tophat::MAX_LEAVES;
+use tophat::NO_LEAF;
+use tophat::NUMBER;
+use tophat::TRUTH;
+use tophat::UNIT;
 use word::add;
 use word::at_most;
 use word::equal;
@@ -17,16 +18,19 @@ use word::less;
 use word::mul;
 use word::sub;
 ghost use mathlib.Core.Path.{_≡_};
-ghost use mathlib.Core.Bool.{_&&_};
-ghost use Prim.Native.Nat.{_≤_};
+ghost use mathlib.Core.Bool.{true};
+ghost use Prim.Native.Nat.{_≤_, _<_};
 ghost use lib.ListN.{getD};
 ghost use mir.Syntax.{w32};
 ghost use mir.Val.{toZ};
-ghost use Rattle.tophat.specs.Syntax.{vunit, vtruth, vnumber};
+ghost use Rattle.word.specs.Word.{words, AllBits};
+ghost use Rattle.tophat.specs.Syntax.{maxLeaves, vunit, vtruth, vnumber};
+ghost use Rattle.tophat.specs.Leaves.{leafAt, meetsLeaf};
 ghost use Rattle.tophat.proofs.ComputeEvaluation.{isTrue, apply};
 ghost use Rattle.rows.specs.Trees.{operatorOf};
-ghost use Rattle.value.specs.Fits.{MeetsOk, FitsOk};
-ghost use Rattle.value.specs.Values.{asValue, leafNumber, joined, pairOf, firstOf, secondOf};
+ghost use Rattle.value.specs.Fits.{fitsIn};
+ghost use Rattle.value.specs.Values.{asValue, firstNumber, single, joined, leavesFrom, pairValue, firstValue, secondValue};
+ghost use Rattle.value.specs.Found.{someFound, noneFound};
 
 pub struct Value {
     pub shape: u32,
@@ -39,42 +43,65 @@ pub struct Found {
     pub value: Value,
 }
 
+pub const NO_VALUE: Value = Value {
+    shape: 0,
+    leaves: [0; MAX_LEAVES],
+};
+
+pub fn some(v: Value) -> Found
+    ensures { λ r. ⌜ r ≡ someFound v ⌝ }
+{
+    Found {
+        has: true,
+        value: v,
+    }
+}
+
+pub fn none() -> Found
+    ensures { λ r. ⌜ r ≡ noneFound ⌝ }
+{
+    Found {
+        has: false,
+        value: NO_VALUE,
+    }
+}
+
+// A value of one leaf.
+fn single(shape: u32, w: u32) -> Value
+    ensures { λ r. ⌜ r ≡ single shape w ⌝ }
+{
+    let mut leaves = [0u32; MAX_LEAVES];
+    leaves[0] = w;
+    Value {
+        shape: shape,
+        leaves: leaves,
+    }
+}
+
 pub fn unit() -> Value
     ensures { λ r. ⌜ r ≡ asValue vunit ⌝ }
 {
-    Value {
-        shape: UNIT,
-        leaves: [0, 0, 0, 0],
-    }
+    single(UNIT, 0)
 }
 
 pub fn truth(b: bool) -> Value
     ensures { λ r. ⌜ r ≡ asValue (vtruth b) ⌝ }
 {
     if b {
-        return Value {
-            shape: TRUTH,
-            leaves: [1, 0, 0, 0],
-        };
+        return single(TRUTH, 1);
     }
-    Value {
-        shape: TRUTH,
-        leaves: [0, 0, 0, 0],
-    }
+    single(TRUTH, 0)
 }
 
 pub fn number(w: u32) -> Value
     ensures { λ r. ⌜ r ≡ asValue (vnumber (toZ w32 w)) ⌝ }
 {
-    Value {
-        shape: NUMBER,
-        leaves: [w, 0, 0, 0],
-    }
+    single(NUMBER, w)
 }
 
 // The number of a value's first leaf is that of true.
 pub fn is_true(a: Value) -> bool
-    ensures { λ r. ⌜ r ≡ isTrue (leafNumber a) ⌝ }
+    ensures { λ r. ⌜ r ≡ isTrue (firstNumber a) ⌝ }
 {
     let leaves = a.leaves;
     equal(leaves[0], 1)
@@ -119,7 +146,7 @@ fn connected(op: u32, x: u32, y: u32) -> bool
 
 // An operator on the first leaves of two values; what is no operator is the sum.
 pub fn apply(op: u32, a: Value, b: Value) -> Value
-    ensures { λ r. ⌜ r ≡ asValue (apply (operatorOf op) (leafNumber a) (leafNumber b)) ⌝ }
+    ensures { λ r. ⌜ r ≡ asValue (apply (operatorOf op) (firstNumber a) (firstNumber b)) ⌝ }
 {
     let xs = a.leaves;
     let ys = b.leaves;
@@ -145,77 +172,75 @@ pub fn apply(op: u32, a: Value, b: Value) -> Value
 fn leaf(leaves: [u32; MAX_LEAVES], i: usize) -> u32
     ensures { λ r. ⌜ r ≡ getD leaves i 0 ⌝ }
 {
-    if i < 4 {
+    if i < MAX_LEAVES {
         return leaves[i];
     }
     0
 }
 
-// Leaf i of the first n leaves of xs with ys after them.
-fn joined(xs: [u32; MAX_LEAVES], ys: [u32; MAX_LEAVES], n: usize, i: usize) -> u32
-    ensures { λ r. ⌜ r ≡ joined n xs ys i ⌝ }
+// The first n leaves of xs with those of ys after them.
+fn joined(n: usize, xs: [u32; MAX_LEAVES], ys: [u32; MAX_LEAVES]) -> [u32; MAX_LEAVES]
+    ensures { λ r. ⌜ r ≡ joined n xs ys ⌝ }
 {
-    if i < n {
-        return leaf(xs, i);
+    let mut leaves = ys;
+    for i in 0..MAX_LEAVES {
+        leaves[i] = if i < n { xs[i] } else { leaf(ys, i - n) };
     }
-    leaf(ys, i - n)
+    leaves
+}
+
+// The leaves of xs from n on.
+fn leaves_from(n: usize, xs: [u32; MAX_LEAVES]) -> [u32; MAX_LEAVES]
+    requires { ⌜ n ≤ maxLeaves ⌝ }
+    ensures { λ r. ⌜ r ≡ leavesFrom n xs ⌝ }
+{
+    let mut leaves = xs;
+    for i in 0..MAX_LEAVES {
+        leaves[i] = leaf(xs, n + i);
+    }
+    leaves
 }
 
 pub fn pair(a: Value, b: Value) -> Value
-    ensures { λ r. ⌜ r ≡ pairOf a b ⌝ }
+    ensures { λ r. ⌜ r ≡ pairValue a b ⌝ }
 {
-    let shape = pair_shape(a.shape, b.shape);
-    let n = leaves_of(a.shape);
     let xs = a.leaves;
     let ys = b.leaves;
-    let x = joined(xs, ys, n, 0);
-    let y = joined(xs, ys, n, 1);
-    let z = joined(xs, ys, n, 2);
-    let w = joined(xs, ys, n, 3);
+    let leaves = joined(leaves_of(a.shape), xs, ys);
     Value {
-        shape: shape,
-        leaves: [x, y, z, w],
+        shape: pair_shape(a.shape, b.shape),
+        leaves: leaves,
     }
 }
 
 // The first part of a pair.
 pub fn first(a: Value) -> Value
-    ensures { λ r. ⌜ r ≡ firstOf a ⌝ }
+    ensures { λ r. ⌜ r ≡ firstValue a ⌝ }
 {
     let shape = first_shape(a.shape);
-    let n = leaves_of(shape);
     let xs = a.leaves;
-    let none = [0u32; MAX_LEAVES];
-    let x = joined(xs, none, n, 0);
-    let y = joined(xs, none, n, 1);
-    let z = joined(xs, none, n, 2);
-    let w = joined(xs, none, n, 3);
+    let leaves = joined(leaves_of(shape), xs, [0; MAX_LEAVES]);
     Value {
         shape: shape,
-        leaves: [x, y, z, w],
+        leaves: leaves,
     }
 }
 
 // The second part of a pair.
 pub fn second(a: Value) -> Value
-    ensures { λ r. ⌜ r ≡ secondOf a ⌝ }
+    ensures { λ r. ⌜ r ≡ secondValue a ⌝ }
 {
-    let shape = second_shape(a.shape);
-    let n = leaves_of(first_shape(a.shape));
     let xs = a.leaves;
-    let x = leaf(xs, n);
-    let y = leaf(xs, n + 1);
-    let z = leaf(xs, n + 2);
-    let w = leaf(xs, n + 3);
+    let leaves = leaves_from(leaves_of(first_shape(a.shape)), xs);
     Value {
-        shape: shape,
-        leaves: [x, y, z, w],
+        shape: second_shape(a.shape),
+        leaves: leaves,
     }
 }
 
 // Is the leaf of that kind? Of a unit, and where none is used, it is 0.
 fn meets(kind: u32, leaf: u32) -> bool
-    ensures { λ r. ⌜ MeetsOk kind leaf r ⌝ }
+    ensures { λ r. ⌜ (r ≡ meetsLeaf (leafAt kind) (toZ w32 leaf)) × (leaf < words) ⌝ }
 {
     if kind == NUMBER {
         return true;
@@ -229,36 +254,24 @@ fn meets(kind: u32, leaf: u32) -> bool
     false
 }
 
-fn all(a: bool, b: bool, c: bool, d: bool) -> bool
-    ensures { λ r. ⌜ r ≡ (a && (b && (c && d))) ⌝ }
+// Is it a value of the type with that shape? A number that is no type's shape has no leaf kinds, and no value. (Of a struct's array
+// nothing says that its elements are words until they are read.)
+pub fn fits(v: Value, shape: u32) -> bool
+    ensures { λ r. ⌜ r ≡ fitsIn v shape ⌝ }
+    ensures { λ r. ⌜ (r ≡ true → AllBits (v .leaves)) ⌝ }
 {
-    if a {
-        if b {
-            if c {
-                return d;
-            }
+    if v.shape != shape {
+        return false;
+    }
+    let kinds = leaf_kinds(shape);
+    if kinds[0] == NO_LEAF {
+        return false;
+    }
+    let leaves = v.leaves;
+    for i in 0..MAX_LEAVES {
+        if !meets(kinds[i], leaves[i]) {
             return false;
         }
-        return false;
     }
-    false
-}
-
-// Is it a value of the type with that shape?
-pub fn fits(v: Value, shape: u32) -> bool
-    ensures { λ r. ⌜ FitsOk v shape r ⌝ }
-{
-    if shape == 0 {
-        return false;
-    }
-    if v.shape == shape {
-        let kinds = leaf_kinds(shape);
-        let leaves = v.leaves;
-        let x = meets(kinds[0], leaves[0]);
-        let y = meets(kinds[1], leaves[1]);
-        let z = meets(kinds[2], leaves[2]);
-        let w = meets(kinds[3], leaves[3]);
-        return all(x, y, z, w);
-    }
-    false
+    true
 }

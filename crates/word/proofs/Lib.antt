@@ -5,4 +5,5 @@ pub mod Wrap
 pub mod Order
 pub mod Laid
 pub mod Lists
+pub mod Tabulate
 pub mod Examples

@@ -1,27 +1,54 @@
 -- Lists of words and lists of bits: each determines the other, element by element. Assumes nothing.
 use mathlib.Core.Path.{_≡_, refl, sym, ap, _∙_, subst}
-use mathlib.Core.List.{List, [], _∷_, map}
-use Prim.Native.Nat.{ℕ, zero, suc, _≤_, _<_, zero-le, suc-le-suc}
+use mathlib.Core.List.{List, [], _∷_, _++_, map}
+use Prim.Native.Nat.{ℕ, zero, suc, _-_, _≤_, _<_, zero-le, suc-le-suc}
+use native.Mathlib.Decide.{decLt}
+use native.Mathlib.Omega.{arith}
 use lib.Dec.{lit<}
 use lib.IntN.{ℤ, pos}
-use lib.ListN.{length, take, getD, replicate, List·getD-map}
+use lib.ListN.{length, take, drop, getD, replicate, List·getD-map, List·getD-eq-default}
 use lib.Seq.{take-all, drop-nil}
 use mir.Syntax.{w32}
 use mir.Val.{toZ, ofZ}
-use Rattle.word.specs.Word.{words, IsWord, AllWords}
+use Rattle.word.specs.Word.{words, IsWord, AllWords, AllBits}
 use Rattle.word.proofs.TwosComplement.{number-word, bits-number, bits-lt, number-bits}
 use Rattle.word.specs.Laid.{laid}
 use Rattle.word.proofs.Laid.{laid-full, laid-length, take-laid}
-
--- a list of bits: what a read of a slice of u32 makes known of it, `λ i. c .slice-known .given i .fits`
-abbrev pub AllBits : List ℕ → Type 0
-AllBits l = (i : ℕ) → getD l i 0 < words
 
 -- a fresh array
 pub bits-replicate : (n k : ℕ) → k < words → AllBits (replicate n k)
 bits-replicate zero k h i = lit< tt
 bits-replicate (suc n) k h zero = h
 bits-replicate (suc n) k h (suc i) = bits-replicate n k h i
+
+-- what is left of zeros
+pub drop-zeros : (k n : ℕ) → drop {A = ℕ} k (replicate n 0) ≡ replicate (n - k) 0
+drop-zeros zero n = ap (λ m. replicate m 0) {x = n} {y = n - 0} (omega arith)
+drop-zeros (suc k) zero = ap (λ m. replicate m 0) {x = 0} {y = 0 - suc k} (omega arith)
+drop-zeros (suc k) (suc n) = drop-zeros k n ∙ ap (λ m. replicate m 0) {x = n - k} {y = suc n - suc k} (omega arith)
+
+-- words one after another
+pub words-cons : (z : ℤ) (zs : List ℤ) → IsWord z → AllWords zs → AllWords (z ∷ zs)
+words-cons z zs h k zero = h
+words-cons z zs h k (suc i) = k i
+
+pub words-append : (xs ys : List ℤ) → AllWords xs → AllWords ys → AllWords (xs ++ ys)
+words-append [] ys p q i = q i
+words-append (x ∷ xs) ys p q zero = p 0
+words-append (x ∷ xs) ys p q (suc i) = words-append xs ys (λ k. p (suc k)) q i
+
+pub bits-append : (l m : List ℕ) → AllBits l → AllBits m → AllBits (l ++ m)
+bits-append [] m p q i = q i
+bits-append (x ∷ l) m p q zero = p 0
+bits-append (x ∷ l) m p q (suc i) = bits-append l m (λ k. p (suc k)) q i
+
+-- a list whose elements are bits as far as it goes
+pub bits-below : (n : ℕ) (l : List ℕ) → length l ≤ n → ((i : ℕ) → i < n → getD l i 0 < words) → AllBits l
+bits-below n l h g i = by (decLt i n)
+  where
+    by : Dec (i < n) → getD l i 0 < words
+    by (yes k) = g i k
+    by (no k) = subst (λ x. x < words) (sym (List·getD-eq-default l 0 {n = i} (omega arith))) (lit< tt)
 
 -- element i of the numbers, and of the bits
 pub numbers-at : (l : List ℕ) (i : ℕ) → getD (map (toZ w32) l) i (pos 0) ≡ toZ w32 (getD l i 0)

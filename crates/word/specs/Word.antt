@@ -26,6 +26,10 @@ IsWord z = mag z < half
 abbrev pub AllWords : List ℤ → Type 0
 AllWords l = (i : ℕ) → IsWord (getD l i (pos 0))
 
+-- a list of bits: what a read of a slice of u32 makes known of it, `λ i. c .slice-known .given i .fits`
+abbrev pub AllBits : List ℕ → Type 0
+AllBits l = (i : ℕ) → getD l i 0 < words
+
 -- what z leaves when divided by 2 ^ 32
 unfoldable pub residue : ℤ → ℕ
 residue (pos n) = n % words

@@ -8,7 +8,7 @@ use borrow.Fn.PlainCycle.{Measures, is, falls, and}
 use lib.ListN.{length}
 use Rattle.decimal.specs.Path.{pathOf}
 use Rattle.state.proofs.Calls.{low-a, low-b, fine-at}
-use Rattle.tasks.proofs.Handing.{low-part}
+use Rattle.running.proofs.Handing.{low-part}
 use Rattle.entries.proofs.Fronts.{room-after}
 use Rattle.entries.proofs.Marking.{unit-most, path-most, path-full, at-first, at-second}
 use Rattle.entries.proofs.Arms.{entries-hands, entries-then, entries-next, entries-full, entries-none}
@@ -20,10 +20,10 @@ use Rattle.entries.proofs.button.Reads as button-reads
 use Rattle.entries.proofs.choice.Reads as choice-reads
 use Rattle.entries.proofs.goes_on.Reads as goes-on-reads
 use Rattle.entries.proofs.offer.Reads as offer-reads
-use Rattle.state.proofs.get.Reads as get-reads
-use Rattle.state.proofs.operand.Reads as operand-reads
-use Rattle.tasks.proofs.enclose.Reads as enclose-reads
-use Rattle.tasks.proofs.handed_on.Reads as handed-on-reads
+use Rattle.rows.proofs.get.Reads as get-reads
+use Rattle.rows.proofs.operand.Reads as operand-reads
+use Rattle.running.proofs.enclose.Reads as enclose-reads
+use Rattle.running.proofs.handed_on.Reads as handed-on-reads
 use Rattle.entries.proofs.+entries.{statement}
 use Rattle.entries.proofs.+entries.Tie.{close}
 

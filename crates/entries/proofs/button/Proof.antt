@@ -1,14 +1,14 @@
 -- `entries::button` meets its contract, a way by its law. Assumes nothing.
 use borrow.Author.Needs.{needs}
 use Rattle.decimal.specs.Path.{pathOf}
-use Rattle.entries.specs.Entries.{noKinds, numbersText}
-use Rattle.entries.proofs.Writing.{no-digits, button-dark, button-lit}
+use Rattle.formats.specs.Lists.{noKinds, numbersEntry}
+use Rattle.entries.proofs.Writing.{no-digits, button-disabled, button-enabled}
 use Rattle.entries.proofs.button.Statement.{statement}
 use Rattle.entries.proofs.button.Tie as tie
 
 pub button-spec : {M : Type 1} → statement M
 button-spec = tie.close (tie.spec
-    (λ c. let s = c .before .before in button-dark (s .args .list .now) (s .args .lit) (numbersText (pathOf (s .args .marks)) (s .args .action) noKinds) (c .if1 .taken))
+    (λ c. let s = c .before .before in button-disabled (s .args .list .now) (s .args .enabled) (numbersEntry (pathOf (s .args .marks)) (s .args .action) noKinds) (c .if1 .taken))
     (λ c κs. let s = c .before .before .before in (s .pre .0, s .pre .1, no-digits))
     (λ c. search needs)
-    (λ c. let s = c .before .before .before .before .before .before in button-lit (s .args .list .now) (c .before .before .write-entry .last .0) (c .before .before .write-entry .result) (s .args .lit) (numbersText (pathOf (s .args .marks)) (s .args .action) noKinds) (c .before .before .before .before .if1 .left) (c .before .before .write-entry .ensures)))
+    (λ c. let s = c .before .before .before .before .before .before in button-enabled (s .args .list .now) (c .before .before .write-entry .last .0) (c .before .before .write-entry .result) (s .args .enabled) (numbersEntry (pathOf (s .args .marks)) (s .args .action) noKinds) (c .before .before .before .before .if1 .left) (c .before .before .write-entry .ensures)))

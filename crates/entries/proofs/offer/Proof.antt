@@ -3,7 +3,8 @@ use mathlib.Core.Path.{subst}
 use native.Mathlib.Omega.{arith}
 use borrow.Author.Needs.{needs}
 use Rattle.decimal.specs.Path.{pathOf}
-use Rattle.entries.specs.Entries.{numbersText}
+use Rattle.tophat.specs.Handling.{giving, actNumber}
+use Rattle.formats.specs.Lists.{numbersEntry}
 use Rattle.entries.specs.Listing.{Wrote}
 use Rattle.entries.proofs.Writing.{kinds-digit}
 use Rattle.entries.proofs.Arms.{entries-offer}
@@ -16,4 +17,4 @@ offer-spec = tie.close (tie.spec
     (λ c κs. search needs)
     (λ c κs. (c .before .before .before .before .pre .3, omega arith, kinds-digit (c .leaf-kinds .result) (c .before .before .content .result) (c .leaf-kinds .ensures)))
     (λ c. search needs)
-    (λ c. let s = c .before .before .before .before .before .before .before in (c .before .before .write-entry .ensures .room, λ env d. entries-offer (s .args .rows .now) (s .args .state .now) (s .args .row) env d (pathOf (s .args .marks)) (s .args .list .now) (c .before .before .write-entry .last .0) (c .before .before .write-entry .result) (c .before .before .before .before .before .content .result) (c .before .before .before .before .before .content .ensures) (subst (λ ks. Wrote (s .args .list .now) (c .before .before .write-entry .last .0) (c .before .before .write-entry .result) (numbersText (pathOf (s .args .marks)) 1 ks)) (c .before .before .before .leaf-kinds .ensures) (c .before .before .write-entry .ensures)))))
+    (λ c. let s = c .before .before .before .before .before .before .before in (c .before .before .write-entry .ensures .room, λ env d. entries-offer (s .args .rows .now) (s .args .state .now) (s .args .row) env d (pathOf (s .args .marks)) (s .args .list .now) (c .before .before .write-entry .last .0) (c .before .before .write-entry .result) (c .before .before .before .before .before .content .result) (c .before .before .before .before .before .content .ensures) (subst (λ ks. Wrote (s .args .list .now) (c .before .before .write-entry .last .0) (c .before .before .write-entry .result) (numbersEntry (pathOf (s .args .marks)) (actNumber giving) ks)) (c .before .before .before .leaf-kinds .ensures) (c .before .before .write-entry .ensures)))))

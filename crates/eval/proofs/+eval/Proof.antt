@@ -13,9 +13,9 @@ use Rattle.eval.proofs.eval.Kinds as eval-kinds
 use Rattle.eval.proofs.+eval.Lts-eval as eval-lts
 use Rattle.eval.proofs.constant.Reads as constant-reads
 use Rattle.eval.proofs.part.Reads as part-reads
-use Rattle.eval.proofs.pushed.Reads as pushed-reads
-use Rattle.state.proofs.get.Reads as get-reads
-use Rattle.state.proofs.operand.Reads as operand-reads
+use Rattle.state.proofs.pushed.Reads as pushed-reads
+use Rattle.rows.proofs.get.Reads as get-reads
+use Rattle.rows.proofs.operand.Reads as operand-reads
 use Rattle.state.proofs.put_value.Reads as put-value-reads
 use Rattle.state.proofs.read_value.Reads as read-value-reads
 use Rattle.value.proofs.apply.Reads as apply-reads

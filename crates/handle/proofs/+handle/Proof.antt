@@ -7,8 +7,8 @@ use Rattle.decimal.specs.Path.{pathOf}
 use Rattle.state.specs.Contracts.{HandleOk}
 use Rattle.state.proofs.Calls.{low-a, fine-at}
 use Rattle.eval.proofs.Arms.{call-a, call-b}
-use Rattle.tasks.proofs.Handing.{low-part, fine-part, handle-hands}
-use Rattle.handle.specs.Events.{Readable, eventPath, eventAction}
+use Rattle.running.proofs.Handing.{low-part, fine-part, handle-hands}
+use Rattle.handle.specs.Events.{KnownAction, eventPath, eventAction}
 use Rattle.handle.proofs.Numbers.{front-empty, front-first, front-second}
 use Rattle.handle.proofs.Passing.{handle-then, handle-next, handle-continue, handle-first, handle-second, handle-unmarked}
 use Rattle.handle.proofs.Choosing.{handle-none}
@@ -18,16 +18,16 @@ use borrow.Fn.PlainCycle.{Measures, is, falls, and}
 use Rattle.handle.proofs.handle.Reads as handle
 use Rattle.handle.proofs.handle.Kinds as handle-kinds
 use Rattle.handle.proofs.+handle.Lts-handle as handle-lts
-use Rattle.cycle.proofs.attempt.Reads as attempt-reads
+use Rattle.normalising.proofs.attempt.Reads as attempt-reads
 use Rattle.decimal.proofs.path.front_mark.Reads as front-mark-reads
 use Rattle.handle.proofs.edit.Reads as edit-reads
 use Rattle.handle.proofs.going_on.Reads as going-on-reads
 use Rattle.handle.proofs.inside.Reads as inside-reads
 use Rattle.handle.proofs.pick.Reads as pick-reads
-use Rattle.state.proofs.get.Reads as get-reads
-use Rattle.state.proofs.operand.Reads as operand-reads
-use Rattle.tasks.proofs.enclose.Reads as enclose-reads
-use Rattle.tasks.proofs.handed_on.Reads as handed-on-reads
+use Rattle.rows.proofs.get.Reads as get-reads
+use Rattle.rows.proofs.operand.Reads as operand-reads
+use Rattle.running.proofs.enclose.Reads as enclose-reads
+use Rattle.running.proofs.handed_on.Reads as handed-on-reads
 use Rattle.handle.proofs.+handle.{statement}
 use Rattle.handle.proofs.+handle.Tie.{close}
 
@@ -65,10 +65,10 @@ pub +handle-spec : {M : Type 1} → statement M
     (λ c. search needs)
     (λ c. search needs)
     (λ c κs. search needs)
-    (λ c κs. let s = c .before .before .before .before .before .before .before .before .before .before .before .before .before .before .before .before .before in let q = call-a (s .pre .0, s .pre .1 .0) (c .before .before .before .before .before .before .before .before .before .before .before .before .before .get .result) (c .before .before .before .before .before .before .before .before .before .before .before .before .operand2 .result) (c .before .before .before .before .before .before .before .before .before .before .before .before .before .get .ensures) (c .before .before .before .before .before .before .before .before .before .before .before .before .operand2 .ensures) (omega (arith, c .before .before .before .before .before .before .before .before .if5 .left)) in (q .0, (q .1, subst Readable (sym (c .inside .ensures)) (s .pre .1 .1))))
+    (λ c κs. let s = c .before .before .before .before .before .before .before .before .before .before .before .before .before .before .before .before .before in let q = call-a (s .pre .0, s .pre .1 .0) (c .before .before .before .before .before .before .before .before .before .before .before .before .before .get .result) (c .before .before .before .before .before .before .before .before .before .before .before .before .operand2 .result) (c .before .before .before .before .before .before .before .before .before .before .before .before .before .get .ensures) (c .before .before .before .before .before .before .before .before .before .before .before .before .operand2 .ensures) (omega (arith, c .before .before .before .before .before .before .before .before .if5 .left)) in (q .0, (q .1, subst KnownAction (sym (c .inside .ensures)) (s .pre .1 .1))))
     (λ c. search needs)
     (λ c κs. search needs)
-    (λ c κs. let s = c .before .before .before .before .before .before .before .before .before .before .before .before .before .before .before .before .before in let q = call-b (s .pre .0, s .pre .1 .0) (c .before .before .before .before .before .before .before .before .before .before .before .before .before .get .result) (c .before .before .before .before .before .before .operand3 .result) (c .before .before .before .before .before .before .before .before .before .before .before .before .before .get .ensures) (c .before .before .before .before .before .before .operand3 .ensures) (omega (arith, c .before .before .before .before .before .before .before .before .if5 .left)) in (q .0, (q .1, subst Readable (sym (c .inside2 .ensures)) (s .pre .1 .1))))
+    (λ c κs. let s = c .before .before .before .before .before .before .before .before .before .before .before .before .before .before .before .before .before in let q = call-b (s .pre .0, s .pre .1 .0) (c .before .before .before .before .before .before .before .before .before .before .before .before .before .get .result) (c .before .before .before .before .before .before .operand3 .result) (c .before .before .before .before .before .before .before .before .before .before .before .before .before .get .ensures) (c .before .before .before .before .before .before .operand3 .ensures) (omega (arith, c .before .before .before .before .before .before .before .before .if5 .left)) in (q .0, (q .1, subst KnownAction (sym (c .inside2 .ensures)) (s .pre .1 .1))))
     (λ c. let s = c .before .before .before .before .before .before .before .before in handle-then (s .args .rows .now) (s .args .state .now) (c .handle2 .last .1 .0) (s .args .row) (s .args .env .now) (s .args .depth) (c .handle2 .result) (c .before .before .before .operand2 .result) (eventPath (s .args .e)) (eventAction (s .args .e)) (c .before .before .before .before .before .before .handed-on .ensures .none (c .before .before .before .before .before .if1 .left)) (sym (c .before .before .before .before .get .ensures) ∙ c .before .before .match .keys1) (c .before .before .before .operand2 .ensures) (c .handle2 .ensures))
     (λ c. let s = c .before .before .before .before .before .before .before .before .before .before .before in handle-next (s .args .rows .now) (s .args .state .now) (c .handle3 .last .1 .0) (s .args .row) (s .args .env .now) (s .args .depth) (c .handle3 .result) (s .args .e) (c .before .before .before .before .before .before .operand2 .result) (c .before .before .before .going-on .result) (c .before .before .before .before .before .before .before .before .before .handed-on .ensures .none (c .before .before .before .before .before .before .before .before .if1 .left)) (sym (c .before .before .before .before .before .before .before .get .ensures) ∙ c .before .before .before .before .before .match .keys2) (c .before .before .before .before .before .before .operand2 .ensures) (c .before .before .before .going-on .ensures) (c .before .before .if2 .left) (c .handle3 .ensures))
     (λ c. c .pick .ensures)

@@ -1,31 +1,95 @@
 -- `load` meets its contract, each number by its law. Assumes nothing.
-use Prim.Native.Nat.{ℕ, _/_}
 use mathlib.Core.Path.{refl, sym}
 use native.Mathlib.Omega.{arith}
 use borrow.Author.Needs.{needs}
-use borrow.Author.Tests.{not-false}
-use lib.ListN.{length, replicate, length-replicate}
-use Rattle.sheet.specs.Sheet.{lineBytes}
-use Rattle.sheet.proofs.ScanLaws.{held-length}
-use Rattle.sheet.proofs.LoadLaws.{yes, nope, is-sized, answers-1, answers-21, answers-2, answers-rows, answers-0}
+use lib.ListN.{length}
+use Rattle.sheet.proofs.LoadLaws.{yes, nope, is-sized, answers-1, answers-21, answers-2, own-long, answers-rows, answers-0}
 use Rattle.sheet.proofs.load.Statement.{statement}
 use Rattle.sheet.proofs.load.Tie as tie
+use Rattle.sheet.proofs.load.Reads as reads
+use Rattle.sheet.proofs.load.Lts as lts
+use Rattle.grounds.proofs.ground_of_rows.Reads as ground-of-rows-reads
+use Rattle.sheet.proofs.is_sized.Reads as is-sized-reads
+use Rattle.sheet.proofs.scan.read_lines.Reads as read-lines-reads
+use Rattle.word.proofs.copy_out.Reads as copy-out-reads
+
+returns : tie.Need-returns
+returns c =
+    let sized = c .before in
+    let start = sized .before .before in
+    answers-1 (start .args .sheet .now) (start .args .rows .now) (nope (sized .is-sized .ensures) (c .if1 .taken))
+
+returns-2 : tie.Need-returns-2
+returns-2 c =
+    let sized = c .before .before in
+    let start = sized .before .before in
+    answers-21 (start .args .sheet .now) (start .args .rows .now) (yes (sized .is-sized .ensures) (c .before .if1 .left)) (c .if2 .taken)
+
+read-lines-requires : tie.Need-read-lines-requires
+read-lines-requires c κs =
+    let left = c .before .before in
+    let sized = left .before in
+    let start = sized .before .before in
+    let z = is-sized (length (start .args .sheet .now)) (yes (sized .is-sized .ensures) (left .if1 .left)) in
+    ((z .few, omega (arith, z .whole)), refl)
+
+returns-3 : tie.Need-returns-3
+returns-3 c =
+    let read = c .before in
+    let room = read .before .before in
+    let left = room .before in
+    let sized = left .before in
+    let start = sized .before .before in
+    answers-2 (start .args .sheet .now) (start .args .rows .now) (yes (sized .is-sized .ensures) (left .if1 .left)) (room .if2 .left)
+    (read .read-lines .last .1 .1 .0) (read .read-lines .result) (read .read-lines .ensures) (c .if3 .taken)
+
+ground-of-rows-requires : tie.Need-ground-of-rows-requires
+ground-of-rows-requires c κs =
+    let left = c .before .before .before .before .before in
+    let sized = left .before in
+    let start = sized .before .before in
+    let z = is-sized (length (start .args .sheet .now)) (yes (sized .is-sized .ensures) (left .if1 .left)) in
+    (z .some-lines, z .few)
+
+returns-4 : tie.Need-returns-4
+returns-4 c =
+    let ground = c .before in
+    let scanned = ground .before .before in
+    let read = scanned .before in
+    let room = read .before .before in
+    let left = room .before in
+    let sized = left .before in
+    let start = sized .before .before in
+    answers-rows (start .args .sheet .now) (start .args .rows .now) (yes (sized .is-sized .ensures) (left .if1 .left)) (room .if2 .left)
+    (read .read-lines .last .1 .1 .0) (read .read-lines .result) (read .read-lines .ensures) (scanned .if3 .left)
+    (ground .ground-of-rows .result) (ground .ground-of-rows .ensures) (c .if4 .taken)
+
+slice-aggregate-copy-out : tie.Need-slice-aggregate-copy-out
+slice-aggregate-copy-out c =
+    let scanned = c .before .before .before .before in
+    let read = scanned .before in
+    let room = read .before .before in
+    let left = room .before in
+    let sized = left .before in
+    let start = sized .before .before in
+    sym (own-long (start .args .sheet .now) (start .args .rows .now) (yes (sized .is-sized .ensures) (left .if1 .left)) (room .if2 .left)
+    (read .read-lines .last .1 .1 .0) (read .read-lines .result) (read .read-lines .ensures) (scanned .if3 .left))
+
+returns-5 : tie.Need-returns-5
+returns-5 c =
+    let copied = c .before in
+    let accepted = copied .before .before .before in
+    let ground = accepted .before in
+    let scanned = ground .before .before in
+    let read = scanned .before in
+    let room = read .before .before in
+    let left = room .before in
+    let sized = left .before in
+    let start = sized .before .before in
+    answers-0 (start .args .sheet .now) (start .args .rows .now) (yes (sized .is-sized .ensures) (left .if1 .left)) (room .if2 .left)
+    (read .read-lines .last .1 .1 .0) (read .read-lines .result) (read .read-lines .ensures) (scanned .if3 .left)
+    (ground .ground-of-rows .result) (copied .copy-out .last .1 .0) (ground .ground-of-rows .ensures) (accepted .if4 .left) (copied .copy-out .ensures)
 
 pub load-spec : {M : Type 1} → statement M
-load-spec = tie.close (tie.spec
-    (λ c κs. search needs)
-    (λ c. let a = c .before .before .before .args in answers-1 (a .sheet .now) (a .rows .now) (nope (c .before .is-sized .ensures) (c .if1 .taken)))
-    (λ c. search needs)
-    (λ c. let a = c .before .before .before .before .args in answers-21 (a .sheet .now) (a .rows .now) (yes (c .before .before .is-sized .ensures) (c .before .if1 .left)) (c .if2 .taken))
-    (λ c κs. let z = is-sized (length (c .before .before .before .before .before .args .sheet .now)) (yes (c .before .before .before .is-sized .ensures) (c .before .before .if1 .left)) in (z .few, omega (arith, z .whole), refl))
-    (λ c. let a = c .before .before .before .before .before .before .before .args in answers-2 (a .sheet .now) (a .rows .now) (yes (c .before .before .before .before .before .is-sized .ensures) (c .before .before .before .before .if1 .left)) (c .before .before .before .if2 .left) (nope (c .before .read-lines .ensures .0) (c .if3 .taken)))
-    (λ c κs. let z = is-sized (length (c .before .before .before .before .before .before .before .before .args .sheet .now)) (yes (c .before .before .before .before .before .before .is-sized .ensures) (c .before .before .before .before .before .if1 .left)) in (z .some, z .few))
-    (λ c. let read-lines′ = c .before .before .before .before .read-lines in let if3′ = c .before .before .before .if3 in let ground-of-rows′ = c .before .ground-of-rows in
-    let a = c .before .before .before .before .before .before .before .before .before .before .args in answers-rows (a .sheet .now) (a .rows .now) (yes (c .before .before .before .before .before .before .before .before .is-sized .ensures) (c .before .before .before .before .before .before .before .if1 .left)) (c .before .before .before .before .before .before .if2 .left) (read-lines′ .last .1 .1 .0) (read-lines′ .ensures .1 (not-false (read-lines′ .result) (if3′ .left))) (yes (read-lines′ .ensures .0) (if3′ .left)) (ground-of-rows′ .result) (ground-of-rows′ .ensures) (c .if4 .taken))
-    (λ c. let read-lines′ = c .before .before .before .before .before .read-lines in
-    let t = c .before .before .before .before .before .before .before .before .before .before .before .args .sheet .now in let z = is-sized (length t) (yes (c .before .before .before .before .before .before .before .before .before .is-sized .ensures) (c .before .before .before .before .before .before .before .before .if1 .left)) in
-    sym (held-length t (replicate {A = ℕ} 1024 0) (read-lines′ .last .1 .1 .0) (length t / lineBytes) (length-replicate {A = ℕ} 1024 0) (z .few) (read-lines′ .ensures .1 (not-false (read-lines′ .result) (c .before .before .before .before .if3 .left)))))
-    (λ c κs. search needs)
-    (λ c. search needs)
-    (λ c. let read-lines′ = c .before .before .before .before .before .before .before .before .read-lines in let if3′ = c .before .before .before .before .before .before .before .if3 in let ground-of-rows′ = c .before .before .before .before .before .ground-of-rows in let copy-out′ = c .before .copy-out in
-    let a = c .before .before .before .before .before .before .before .before .before .before .before .before .before .before .args in answers-0 (a .sheet .now) (a .rows .now) (yes (c .before .before .before .before .before .before .before .before .before .before .before .before .is-sized .ensures) (c .before .before .before .before .before .before .before .before .before .before .before .if1 .left)) (c .before .before .before .before .before .before .before .before .before .before .if2 .left) (read-lines′ .last .1 .1 .0) (read-lines′ .ensures .1 (not-false (read-lines′ .result) (if3′ .left))) (yes (read-lines′ .ensures .0) (if3′ .left)) (ground-of-rows′ .result) (copy-out′ .last .1 .0) (ground-of-rows′ .ensures) (c .before .before .before .before .if4 .left) (copy-out′ .ensures)))
+load-spec = tie.close (tie.spec (λ c κs. search needs) returns (λ c. search needs) returns-2 read-lines-requires returns-3 ground-of-rows-requires returns-4
+    slice-aggregate-copy-out (λ c κs. search needs) (λ c. search needs) returns-5)

@@ -11,8 +11,8 @@ use Rattle.state.proofs.clear.Reads as clear
 use Rattle.state.proofs.clear.Kinds as clear-kinds
 use Rattle.state.proofs.+clear.Lts-clear as clear-lts
 use Rattle.state.proofs.clear_row.Reads as clear-row-reads
-use Rattle.state.proofs.get.Reads as get-reads
-use Rattle.state.proofs.operand.Reads as operand-reads
+use Rattle.rows.proofs.get.Reads as get-reads
+use Rattle.rows.proofs.operand.Reads as operand-reads
 use Rattle.state.proofs.+clear.{statement}
 use Rattle.state.proofs.+clear.Tie.{close}
 

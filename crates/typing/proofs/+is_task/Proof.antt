@@ -6,7 +6,8 @@ use borrow.Fn.PlainCycle.{Measures, is, falls, and}
 use Rattle.typing.proofs.is_task.Reads as is-task
 use Rattle.typing.proofs.is_task.Kinds as is-task-kinds
 use Rattle.typing.proofs.+is_task.Lts-is_task as is-task-lts
-use Rattle.typing.proofs.get.Reads as get-reads
+use Rattle.rows.proofs.get.Reads as get-reads
+use Rattle.rows.proofs.operand.Reads as operand-reads
 use Rattle.typing.proofs.+is_task.{statement}
 use Rattle.typing.proofs.+is_task.Tie.{close}
 
@@ -23,6 +24,8 @@ pub +is-task-spec : {M : Type 1} → statement M
 +is-task-spec = close μ-is-task λ t. is-task-lts.spec (
   get-reads.Asked,
   get-reads.Learnt,
+  operand-reads.Asked,
+  operand-reads.Learnt,
   is-task-below t,
   is-task.Post,
 )
@@ -30,12 +33,11 @@ pub +is-task-spec : {M : Type 1} → statement M
     is-task.Post
     (λ c κs. search needs)
     (λ c κs. search needs)
-    (λ c. search needs)
     (λ c κs. search needs)
     (λ c. let q = c .before .before .before .before .before .args in
-    task-branch (q .rows .now) (q .row) (c .before .before .before .before .get .result) (c .before .before .before .before .get .ensures) (c .before .before .get2 .result) (c .is-task .result) (c .before .before .before .match .keys1) (c .before .before .get2 .ensures) (c .before .if1 .taken) (c .is-task .ensures))
+    task-branch (q .rows .now) (q .row) (c .before .before .before .before .get .result) (c .before .before .before .before .get .ensures) (c .before .before .operand .result) (c .is-task .result) (c .before .before .before .match .keys1) (c .before .before .operand .ensures) (c .before .if1 .taken) (c .is-task .ensures))
     (λ c. let q = c .before .before .before .before .args in
-    task-high (q .rows .now) (q .row) (c .before .before .before .get .result) (c .before .before .before .get .ensures) (c .before .get2 .result) (c .before .before .match .keys1) (c .before .get2 .ensures) (c .if1 .left))
+    task-high (q .rows .now) (q .row) (c .before .before .before .get .result) (c .before .before .before .get .ensures) (c .before .operand .result) (c .before .before .match .keys1) (c .before .operand .ensures) (c .if1 .left))
     (λ c. let q = c .before .before .before .before .args in
     task-own (q .rows .now) (q .row) (c .before .before .before .get .result) (c .before .before .before .get .ensures) (c .before .if2 .left) (c .if3 .taken))
     (λ c. let q = c .before .before .before .args in

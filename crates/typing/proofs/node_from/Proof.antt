@@ -1,5 +1,4 @@
 use Rattle.rows.specs.Kinds.{kindOf}
-use Rattle.ranges.proofs.Ranges.{nothing}
 use mathlib.Core.Path.{refl}
 use mathlib.Core.List.{[], _∷_}
 use Rattle.typing.proofs.NodeLaws.{node-one, node-range, node-choice, node-none, node-past}
@@ -23,40 +22,40 @@ node-from-spec =
     (λ c κs. search needs)
     (λ c κs. search needs)
     (λ c κs. search needs)
-    (λ c. let q = c .before .args in node-one (q .i) (q .a) (q .b) (q .c) (1 ∷ 20 ∷ []) (q .k) (refl, (refl, nothing)) (c .match .keys1))
-    (λ c. let q = c .before .args in node-one (q .i) (q .a) (q .b) (q .c) (2 ∷ 21 ∷ []) (q .k) (refl, (refl, nothing)) (c .match .keys2))
-    (λ c. let q = c .before .args in node-one (q .i) (q .a) (q .b) (q .c) (3 ∷ 22 ∷ []) (q .k) (refl, (refl, nothing)) (c .match .keys3))
-    (λ c. let q = c .before .args in node-one (q .i) (q .a) (q .b) (q .c) (23 ∷ []) (q .k) (refl, nothing) (c .match .keys4))
+    (λ c. let q = c .before .args in node-one (q .i) (q .a) (q .b) (q .c) (1 ∷ 20 ∷ []) (q .k) (refl, (refl, tt)) (c .match .keys1))
+    (λ c. let q = c .before .args in node-one (q .i) (q .a) (q .b) (q .c) (2 ∷ 21 ∷ []) (q .k) (refl, (refl, tt)) (c .match .keys2))
+    (λ c. let q = c .before .args in node-one (q .i) (q .a) (q .b) (q .c) (3 ∷ 22 ∷ []) (q .k) (refl, (refl, tt)) (c .match .keys3))
+    (λ c. let q = c .before .args in node-one (q .i) (q .a) (q .b) (q .c) (23 ∷ []) (q .k) (refl, tt) (c .match .keys4))
     (λ c. let q = c .before .before .args in
     let e = c .named2 .ensures in
-    node-one (q .i) (q .a) (q .b) (q .c) (24 ∷ []) (q .k) (e, nothing) (c .before .match .keys5))
+    node-one (q .i) (q .a) (q .b) (q .c) (24 ∷ []) (q .k) (e, tt) (c .before .match .keys5))
     (λ c. let q = c .before .before .args in
     let e = c .named3 .ensures in
-    node-one (q .i) (q .a) (q .b) (q .c) (25 ∷ []) (q .k) (e, nothing) (c .before .match .keys6))
+    node-one (q .i) (q .a) (q .b) (q .c) (25 ∷ []) (q .k) (e, tt) (c .before .match .keys6))
     (λ c. let q = c .before .before .args in
     let e = c .named22 .ensures in
-    node-one (q .i) (q .a) (q .b) (q .c) (4 ∷ 26 ∷ 46 ∷ []) (q .k) (e, (e, (e, nothing))) (c .before .match .keys7))
+    node-one (q .i) (q .a) (q .b) (q .c) (4 ∷ 26 ∷ 46 ∷ []) (q .k) (e, (e, (e, tt))) (c .before .match .keys7))
     (λ c. let q = c .before .before .args in
     let e = c .named1 .ensures in
-    node-one (q .i) (q .a) (q .b) (q .c) (27 ∷ []) (q .k) (e, nothing) (c .before .match .keys8))
+    node-one (q .i) (q .a) (q .b) (q .c) (27 ∷ []) (q .k) (e, tt) (c .before .match .keys8))
     (λ c. let q = c .before .before .args in
     let e = c .named12 .ensures in
-    node-one (q .i) (q .a) (q .b) (q .c) (28 ∷ []) (q .k) (e, nothing) (c .before .match .keys9))
+    node-one (q .i) (q .a) (q .b) (q .c) (28 ∷ []) (q .k) (e, tt) (c .before .match .keys9))
     (λ c. let q = c .before .before .args in
     let e = c .named13 .ensures in
-    node-one (q .i) (q .a) (q .b) (q .c) (10 ∷ 29 ∷ 45 ∷ []) (q .k) (e, (e, (e, nothing))) (c .before .match .keys10))
+    node-one (q .i) (q .a) (q .b) (q .c) (10 ∷ 29 ∷ 45 ∷ []) (q .k) (e, (e, (e, tt))) (c .before .match .keys10))
     (λ c. let q = c .before .before .args in
     let e = c .named23 .ensures in
-    node-one (q .i) (q .a) (q .b) (q .c) (30 ∷ []) (q .k) (e, nothing) (c .before .match .keys11))
+    node-one (q .i) (q .a) (q .b) (q .c) (30 ∷ []) (q .k) (e, tt) (c .before .match .keys11))
     (λ c. let q = c .before .before .args in
     let e = c .named24 .ensures in
-    node-one (q .i) (q .a) (q .b) (q .c) (31 ∷ []) (q .k) (e, nothing) (c .before .match .keys12))
+    node-one (q .i) (q .a) (q .b) (q .c) (31 ∷ []) (q .k) (e, tt) (c .before .match .keys12))
     (λ c. let q = c .before .before .before .before .args in
     let e = c .named14 .ensures in
-    node-range (q .i) (q .a) (q .b) (q .c) 40 3 (q .k) (e, (e, (e, nothing))) (c .before .before .if1 .left) (c .before .if2 .taken))
+    node-range (q .i) (q .a) (q .b) (q .c) 40 3 (q .k) (e, (e, (e, tt))) (c .before .before .if1 .left) (c .before .if2 .taken))
     (λ c. let q = c .before .before .before .before .before .args in
     let e = c .named25 .ensures in
-    node-range (q .i) (q .a) (q .b) (q .c) 43 2 (q .k) (e, (e, nothing)) (c .before .before .if2 .left) (c .before .if3 .taken))
+    node-range (q .i) (q .a) (q .b) (q .c) 43 2 (q .k) (e, (e, tt)) (c .before .before .if2 .left) (c .before .if3 .taken))
     (λ c. let q = c .before .before .before .before .before .before .args in
     node-choice (q .i) (q .a) (q .b) (q .c) (q .k) (c .before .before .if3 .left) (c .before .if4 .taken) (c .before .before .before .before .before .match .rest) (c .named26 .ensures))
     (λ c. let q = c .before .before .args in node-none (q .i) (q .a) (q .b) (q .c) (q .k) (c .if1 .taken) (c .before .match .rest))

@@ -1,11 +1,16 @@
--- `value::first` meets its contract, leaf by leaf. Assumes nothing.
+-- `value::first` meets its contract, by its shape and its leaves. Assumes nothing.
+use mathlib.Core.Path.{ap, _∙_}
 use borrow.Author.Needs.{needs}
-use Rattle.value.proofs.Parts.{first-made}
+use Rattle.shape.specs.Shape.{shapeLeaves}
+use Rattle.value.specs.Values.{noLeaves, joined}
+use Rattle.value.proofs.Parts.{made}
 use Rattle.value.proofs.first.Statement.{statement}
 use Rattle.value.proofs.first.Tie as tie
 
 pub first-spec : {M : Type 1} → statement M
 first-spec = tie.close (tie.spec
-    (λ c κs. search needs) (λ c κs. search needs) (λ c κs. search needs) (λ c κs. search needs)
-    (λ c κs. search needs) (λ c κs. search needs)
-    (λ c. first-made (c .before .before .before .before .before .before .before .args .a) (c .before .before .before .before .before .before .first-shape .result) (c .before .before .before .joined .result) (c .before .before .joined2 .result) (c .before .joined3 .result) (c .joined4 .result) (c .before .before .before .before .before .leaves-of .result) (c .before .before .before .before .before .before .first-shape .ensures) (c .before .before .before .before .before .leaves-of .ensures .0) (c .before .before .before .joined .ensures) (c .before .before .joined2 .ensures) (c .before .joined3 .ensures) (c .joined4 .ensures)))
+    (λ c κs. search needs) (λ c κs. search needs) (λ c κs. search needs)
+    (λ c.
+    let a = c .before .before .before .before .args in
+    let s = c .before .before .before .first-shape .ensures in
+    made s (c .joined .ensures ∙ ap (λ n. joined n (a .a .leaves) noLeaves) (c .before .leaves-of .ensures .0 ∙ ap shapeLeaves s))))

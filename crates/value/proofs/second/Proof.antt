@@ -1,12 +1,15 @@
--- `value::second` meets its contract, leaf by leaf. Assumes nothing.
+-- `value::second` meets its contract, by its shape and its leaves. Assumes nothing.
+use mathlib.Core.Path.{ap, _∙_}
 use borrow.Author.Needs.{needs}
-use Rattle.value.proofs.Parts.{second-made}
+use Rattle.shape.specs.Shape.{shapeLeaves}
+use Rattle.value.specs.Values.{leavesFrom}
+use Rattle.value.proofs.Parts.{made}
 use Rattle.value.proofs.second.Statement.{statement}
 use Rattle.value.proofs.second.Tie as tie
 
 pub second-spec : {M : Type 1} → statement M
 second-spec = tie.close (tie.spec
     (λ c κs. search needs) (λ c κs. search needs) (λ c κs. search needs) (λ c κs. search needs)
-    (λ c. search needs) (λ c κs. search needs) (λ c. search needs) (λ c κs. search needs)
-    (λ c. search needs) (λ c κs. search needs)
-    (λ c. second-made (c .before .before .before .before .before .before .before .before .args .a) (c .before .before .before .before .before .before .before .second-shape .result) (c .before .before .before .leaf .result) (c .before .before .leaf2 .result) (c .before .leaf3 .result) (c .leaf4 .result) (c .before .before .before .before .before .leaves-of .result) (c .before .before .before .before .before .before .first-shape .result) (c .before .before .before .before .before .before .before .second-shape .ensures) (c .before .before .before .before .before .before .first-shape .ensures) (c .before .before .before .before .before .leaves-of .ensures .0) (c .before .before .before .leaf .ensures) (c .before .before .leaf2 .ensures) (c .before .leaf3 .ensures) (c .leaf4 .ensures)))
+    (λ c.
+    let a = c .before .before .before .before .before .args in
+    made (c .second-shape .ensures) (c .before .leaves-from .ensures ∙ ap (λ n. leavesFrom n (a .a .leaves)) (c .before .before .leaves-of .ensures .0 ∙ ap shapeLeaves (c .before .before .before .first-shape .ensures)))))

@@ -3,24 +3,36 @@ use borrow.Author.Needs.{needs}
 use Rattle.flow.proofs.LookLaws.{fill-fine, fill-shut, fill-ready}
 use Rattle.flow.proofs.look.fill.Statement.{statement}
 use Rattle.flow.proofs.look.fill.Tie as tie
-
-open-requires : tie.Need-open-requires
-open-requires c κs = search needs
+use Rattle.flow.proofs.look.fill.Reads as reads
+use Rattle.flow.proofs.look.fill.Lts as lts
+use Rattle.flow.proofs.look.show.Reads as show-reads
+use Rattle.flow.proofs.open.open.Reads as open-reads
 
 returns : tie.Need-returns
-returns c = let a = c .before .before .before .before .before .before .args in let o = c .before .before .«open» in fill-shut (a .rows .now) (a .state .now) (a .value .now) (a .list .now) (o .last .1 .1 .1 .0) (o .last .1 .1 .1 .1 .0) (o .result) (o .ensures) (c .if1 .taken)
+returns c =
+    let opening = c .before .before in
+    let start = opening .before .before .before .before in
+    let o = opening .«open» in
+    fill-shut (start .args .rows .now) (start .args .state .now) (start .args .value .now) (start .args .list .now) (o .last .1 .1 .1 .0) (o .last .1 .1 .1 .1 .0) (o .result) (o .ensures) (c .if1 .taken)
 
 show-requires : tie.Need-show-requires
-show-requires c κs = let a = c .before .before .before .before .before .before .before .before .before .before .before .args in let o = c .before .before .before .before .before .before .before .«open» in fill-fine (a .rows .now) (a .state .now) (a .value .now) (a .list .now) (o .last .1 .1 .1 .0) (o .last .1 .1 .1 .1 .0) (o .result) (o .ensures) (c .before .before .before .before .before .if1 .left)
-
-same-length : tie.Need-same-length
-same-length c = search needs
-
-same-length-2 : tie.Need-same-length-2
-same-length-2 c = search needs
+show-requires c κs =
+    let if1 = c .before .before .before .before .before in
+    let opening = if1 .before .before in
+    let start = opening .before .before .before .before in
+    let o = opening .«open» in
+    fill-fine (start .args .rows .now) (start .args .state .now) (start .args .value .now) (start .args .list .now) (o .last .1 .1 .1 .0) (o .last .1 .1 .1 .1 .0) (o .result) (o .ensures) (if1 .if1 .left)
 
 returns-2 : tie.Need-returns-2
-returns-2 c = let a = c .before .before .before .before .before .before .before .before .before .before .before .before .before .before .before .args in let o = c .before .before .before .before .before .before .before .before .before .before .before .«open» in let h = c .before .before .before .show in fill-ready (a .rows .now) (a .state .now) (a .value .now) (a .list .now) (o .last .1 .1 .1 .0) (o .last .1 .1 .1 .1 .0) (o .result) (o .ensures) (c .before .before .before .before .before .before .before .before .before .if1 .left) (h .result) (h .last .1 .1 .1 .1 .0) (h .last .1 .1 .1 .1 .1 .0) (h .ensures)
+returns-2 c =
+    let shown = c .before .before .before in
+    let if1 = shown .before .before .before .before .before .before in
+    let opening = if1 .before .before in
+    let start = opening .before .before .before .before in
+    let o = opening .«open» in
+    let h = shown .show in
+    fill-ready (start .args .rows .now) (start .args .state .now) (start .args .value .now) (start .args .list .now) (o .last .1 .1 .1 .0) (o .last .1 .1 .1 .1 .0) (o .result) (o .ensures) (if1 .if1 .left)
+    (h .result) (h .last .1 .1 .1 .1 .0) (h .last .1 .1 .1 .1 .1 .0) (h .ensures)
 
 pub fill-spec : {M : Type 1} → statement M
-fill-spec = tie.close (tie.spec open-requires returns show-requires same-length same-length-2 returns-2)
+fill-spec = tie.close (tie.spec (λ c κs. search needs) returns show-requires (λ c. search needs) (λ c. search needs) returns-2)

@@ -2,46 +2,156 @@
 use mathlib.Core.Path.{refl}
 use native.Mathlib.Omega.{arith}
 use borrow.Author.Needs.{needs}
-use borrow.Author.Tests.{not-true, not-false}
-use Rattle.flow.proofs.OpenLaws.{some-rows, most-rows, is-fine, ends, open-20, open-length, open-misfit, open-22, open-23, open-0}
+use Rattle.flow.proofs.SiteLaws.{some-rows, few-rows, is-fine}
+use Rattle.flow.proofs.OpenLaws.{site-of, some-words, open-20, open-length, open-misfit, ends, open-22, open-23, open-0}
 use Rattle.flow.proofs.open.open.Statement.{statement}
 use Rattle.flow.proofs.open.open.Tie as tie
+use Rattle.flow.proofs.open.open.Reads as reads
+use Rattle.flow.proofs.open.open.Lts as lts
+use Rattle.normalising.proofs.stride.Reads as stride-reads
+use Rattle.sheet.proofs.accepted_rows.Reads as accepted-rows-reads
+use Rattle.state.proofs.lent.state_in.Reads as state-in-reads
+use Rattle.state_check.proofs.held.Reads as held-reads
 
-accepted-rows-requires′ : tie.Need-accepted-rows-requires
-accepted-rows-requires′ = λ c κs. c .before .pre .0
+returns : tie.Need-returns
+returns c =
+    let rows = c .before in
+    let start = rows .before .before in
+    let q = rows .accepted-rows in
+    open-20 (start .args .rows .now) (start .args .state .now) (q .last .1 .0) (start .args .words .now) (start .args .fits) (q .result) (q .ensures .0) (c .if1 .taken)
 
-returns′ : tie.Need-returns
-returns′ = λ c. let a = c .before .before .before .args in let q = c .before .accepted-rows in open-20 (a .rows .now) (a .state .now) (q .last .1 .0) (a .words .now) (a .fits) (q .result) (q .ensures .0) (c .if1 .taken)
+mul-if2 : tie.Need-mul-if2
+mul-if2 c =
+    let if1 = c in
+    let rows = if1 .before in
+    let start = rows .before .before in
+    let q = rows .accepted-rows in
+    let z = site-of (start .args .rows .now) (q .result) (q .ensures .0) (q .ensures .1 .0) (q .ensures .1 .1 .0) (if1 .if1 .left) .3 in
+    let f = few-rows z in
+    record { fits = omega (arith, f) }
 
-mul-if2′ : tie.Need-mul-if2
-mul-if2′ = λ c. let a = c .before .before .before .args in let q = c .before .accepted-rows in let m = most-rows (a .rows .now) (q .last .1 .0) (q .result) (q .ensures .0) (q .ensures .1 .0) (c .if1 .left) in record { fits = omega (arith, m) }
+returns-2 : tie.Need-returns-2
+returns-2 c =
+    let if2 = c in
+    let if1 = if2 .before in
+    let rows = if1 .before in
+    let start = rows .before .before in
+    let q = rows .accepted-rows in
+    let z = site-of (start .args .rows .now) (q .result) (q .ensures .0) (q .ensures .1 .0) (q .ensures .1 .1 .0) (if1 .if1 .left) .3 in
+    let wr = some-words (start .args .rows .now) (q .result) (q .ensures .0) (q .ensures .1 .1 .0) (if1 .if1 .left) in
+    open-length (start .args .rows .now) (start .args .state .now) (q .last .1 .0) (start .args .words .now) (start .args .fits) (q .result) z wr (if2 .if2 .taken)
 
-returns-2′ : tie.Need-returns-2
-returns-2′ = λ c. let a = c .before .before .before .before .args in let q = c .before .before .accepted-rows in open-length (a .rows .now) (q .last .1 .0) (q .result) (q .ensures .0) (q .ensures .1 .0) (c .before .if1 .left) (a .state .now) (a .words .now) (a .fits) (c .if2 .taken)
+returns-3 : tie.Need-returns-3
+returns-3 c =
+    let if3 = c in
+    let if1 = if3 .before .before in
+    let rows = if1 .before in
+    let start = rows .before .before in
+    let q = rows .accepted-rows in
+    let z = site-of (start .args .rows .now) (q .result) (q .ensures .0) (q .ensures .1 .0) (q .ensures .1 .1 .0) (if1 .if1 .left) .3 in
+    let wr = some-words (start .args .rows .now) (q .result) (q .ensures .0) (q .ensures .1 .1 .0) (if1 .if1 .left) in
+    open-misfit (start .args .rows .now) (start .args .state .now) (q .last .1 .0) (start .args .words .now) (start .args .fits) (q .result) z wr (if3 .if3 .taken)
 
-returns-3′ : tie.Need-returns-3
-returns-3′ = λ c. let a = c .before .before .before .before .before .args in let q = c .before .before .before .accepted-rows in open-misfit (a .rows .now) (q .last .1 .0) (q .result) (q .ensures .0) (q .ensures .1 .0) (c .before .before .if1 .left) (a .state .now) (a .words .now) (a .fits) (c .before .if2 .left) (not-true (a .fits) (c .if3 .taken))
+state-in-requires : tie.Need-state-in-requires
+state-in-requires c κs =
+    let if2 = c .before .before in
+    let if1 = if2 .before in
+    let rows = if1 .before in
+    let start = rows .before .before in
+    let q = rows .accepted-rows in
+    let z = site-of (start .args .rows .now) (q .result) (q .ensures .0) (q .ensures .1 .0) (q .ensures .1 .1 .0) (if1 .if1 .left) .3 in
+    ((if2 .if2 .left, few-rows z), start .pre .1)
 
-copy-in-requires′ : tie.Need-copy-in-requires
-copy-in-requires′ = λ c κs. search needs
+held-requires : tie.Need-held-requires
+held-requires c κs =
+    let copied = c .before .before .before in
+    let if3 = copied .before .before in
+    let if2 = if3 .before in
+    let if1 = if2 .before in
+    let rows = if1 .before in
+    let start = rows .before .before in
+    let q = rows .accepted-rows in
+    let z = site-of (start .args .rows .now) (q .result) (q .ensures .0) (q .ensures .1 .0) (q .ensures .1 .1 .0) (if1 .if1 .left) .3 in
+    let wr = some-words (start .args .rows .now) (q .result) (q .ensures .0) (q .ensures .1 .1 .0) (if1 .if1 .left) in
+    let w = copied .state-in in (
+      (some-rows z, is-fine z),
+      (ends (start .args .rows .now) (start .args .state .now) (q .last .1 .0) (w .last .1 .1 .0) (start .args .fits) (q .result) z wr (if3 .if3 .left) (if2 .if2 .left) (w .ensures .1) (w .ensures .0), refl),
+    )
 
-held-requires′ : tie.Need-held-requires
-held-requires′ = λ c κs. let s = c .before .before .before .before .before .before .before .before .before .before in let a = s .args in let q = c .before .before .before .before .before .before .before .before .accepted-rows in let w = c .before .before .before .copy-in in ((some-rows (a .rows .now) (q .last .1 .0) (q .result) (q .ensures .0) (q .ensures .1 .0) (c .before .before .before .before .before .before .before .if1 .left), is-fine (a .rows .now) (q .last .1 .0) (q .result) (q .ensures .0) (q .ensures .1 .0) (c .before .before .before .before .before .before .before .if1 .left)), (ends (a .rows .now) (q .last .1 .0) (q .result) (q .ensures .0) (q .ensures .1 .0) (c .before .before .before .before .before .before .before .if1 .left) (a .state .now) (a .words .now) (w .last .1 .0) (s .pre .1) (c .before .before .before .before .before .before .if2 .left) (w .ensures .0), refl))
+returns-4 : tie.Need-returns-4
+returns-4 c =
+    let held = c .before in
+    let copied = held .before .before .before .before in
+    let if3 = copied .before .before in
+    let if2 = if3 .before in
+    let if1 = if2 .before in
+    let rows = if1 .before in
+    let start = rows .before .before in
+    let q = rows .accepted-rows in
+    let z = site-of (start .args .rows .now) (q .result) (q .ensures .0) (q .ensures .1 .0) (q .ensures .1 .1 .0) (if1 .if1 .left) .3 in
+    let wr = some-words (start .args .rows .now) (q .result) (q .ensures .0) (q .ensures .1 .1 .0) (if1 .if1 .left) in
+    let w = copied .state-in in
+    let h = held .held in
+    open-22 (start .args .rows .now) (start .args .state .now) (q .last .1 .0) (w .last .1 .1 .0) (start .args .fits) (q .result) z wr (if3 .if3 .left) (if2 .if2 .left) (w .ensures .1) (w .ensures .0)
+    (h .result) (h .last .1 .1 .1 .0) (h .ensures .0) (c .if4 .taken)
 
-returns-4′ : tie.Need-returns-4
-returns-4′ = λ c. let s = c .before .before .before .before .before .before .before .before .before .before .before .before in let a = s .args in let q = c .before .before .before .before .before .before .before .before .before .before .accepted-rows in let w = c .before .before .before .before .before .copy-in in let h = c .before .held in open-22 (a .rows .now) (q .last .1 .0) (q .result) (q .ensures .0) (q .ensures .1 .0) (c .before .before .before .before .before .before .before .before .before .if1 .left) (a .state .now) (a .words .now) (w .last .1 .0) (s .pre .1) (c .before .before .before .before .before .before .before .before .if2 .left) (w .ensures .0) (a .fits) (not-false (a .fits) (c .before .before .before .before .before .before .before .if3 .left)) (h .result) (h .last .1 .1 .1 .0) (h .ensures .0) (c .if4 .taken)
+sub-stride : tie.Need-sub-stride
+sub-stride c =
+    let if1 = c .before .before .before .before .before .before .before .before .before .before .before in
+    let rows = if1 .before in
+    let start = rows .before .before in
+    let q = rows .accepted-rows in
+    let z = site-of (start .args .rows .now) (q .result) (q .ensures .0) (q .ensures .1 .0) (q .ensures .1 .1 .0) (if1 .if1 .left) .3 in
+    some-rows z
 
-sub-stride′ : tie.Need-sub-stride
-sub-stride′ = λ c. let s = c .before .before .before .before .before .before .before .before .before .before .before .before .before .before in let a = s .args in let q = c .before .before .before .before .before .before .before .before .before .before .before .before .accepted-rows in some-rows (a .rows .now) (q .last .1 .0) (q .result) (q .ensures .0) (q .ensures .1 .0) (c .before .before .before .before .before .before .before .before .before .before .before .if1 .left)
+stride-requires : tie.Need-stride-requires
+stride-requires c κs =
+    let if1 = c .before .before .before .before .before .before .before .before .before .before .before .before in
+    let rows = if1 .before in
+    let start = rows .before .before in
+    let q = rows .accepted-rows in
+    let z = site-of (start .args .rows .now) (q .result) (q .ensures .0) (q .ensures .1 .0) (q .ensures .1 .1 .0) (if1 .if1 .left) .3 in
+    is-fine z
 
-stride-requires′ : tie.Need-stride-requires
-stride-requires′ = λ c κs. let s = c .before .before .before .before .before .before .before .before .before .before .before .before .before .before .before in let a = s .args in let q = c .before .before .before .before .before .before .before .before .before .before .before .before .before .accepted-rows in is-fine (a .rows .now) (q .last .1 .0) (q .result) (q .ensures .0) (q .ensures .1 .0) (c .before .before .before .before .before .before .before .before .before .before .before .before .if1 .left)
+returns-5 : tie.Need-returns-5
+returns-5 c =
+    let strode = c .before in
+    let if4 = strode .before .before .before .before in
+    let held = if4 .before in
+    let copied = held .before .before .before .before in
+    let if3 = copied .before .before in
+    let if2 = if3 .before in
+    let if1 = if2 .before in
+    let rows = if1 .before in
+    let start = rows .before .before in
+    let q = rows .accepted-rows in
+    let z = site-of (start .args .rows .now) (q .result) (q .ensures .0) (q .ensures .1 .0) (q .ensures .1 .1 .0) (if1 .if1 .left) .3 in
+    let wr = some-words (start .args .rows .now) (q .result) (q .ensures .0) (q .ensures .1 .1 .0) (if1 .if1 .left) in
+    let w = copied .state-in in
+    let h = held .held in
+    let m = strode .stride in
+    open-23 (start .args .rows .now) (start .args .state .now) (q .last .1 .0) (w .last .1 .1 .0) (start .args .fits) (q .result) z wr (if3 .if3 .left) (if2 .if2 .left) (w .ensures .1) (w .ensures .0)
+    (h .result) (h .last .1 .1 .1 .0) (h .ensures .0) (if4 .if4 .left) (m .result) (m .last .1 .0) _ (m .ensures) (c .if5 .taken)
 
-returns-5′ : tie.Need-returns-5
-returns-5′ = λ c. let s = c .before .before .before .before .before .before .before .before .before .before .before .before .before .before .before .before .before in let a = s .args in let q = c .before .before .before .before .before .before .before .before .before .before .before .before .before .before .before .accepted-rows in let w = c .before .before .before .before .before .before .before .before .before .before .copy-in in let h = c .before .before .before .before .before .before .held in let m = c .before .stride in open-23 (a .rows .now) (q .last .1 .0) (q .result) (q .ensures .0) (q .ensures .1 .0) (c .before .before .before .before .before .before .before .before .before .before .before .before .before .before .if1 .left) (a .state .now) (a .words .now) (w .last .1 .0) (s .pre .1) (c .before .before .before .before .before .before .before .before .before .before .before .before .before .if2 .left) (w .ensures .0) (a .fits) (not-false (a .fits) (c .before .before .before .before .before .before .before .before .before .before .before .before .if3 .left)) (h .result) (h .last .1 .1 .1 .0) (h .ensures .0) (c .before .before .before .before .before .if4 .left) (m .result) (m .last .1 .0) _ (m .ensures) (c .if5 .taken)
-
-returns-6′ : tie.Need-returns-6
-returns-6′ = λ c. let s = c .before .before .before .before .before .before .before .before .before .before .before .before .before .before .before .before .before in let a = s .args in let q = c .before .before .before .before .before .before .before .before .before .before .before .before .before .before .before .accepted-rows in let w = c .before .before .before .before .before .before .before .before .before .before .copy-in in let h = c .before .before .before .before .before .before .held in let m = c .before .stride in open-0 (a .rows .now) (q .last .1 .0) (q .result) (q .ensures .0) (q .ensures .1 .0) (c .before .before .before .before .before .before .before .before .before .before .before .before .before .before .if1 .left) (a .state .now) (a .words .now) (w .last .1 .0) (s .pre .1) (c .before .before .before .before .before .before .before .before .before .before .before .before .before .if2 .left) (w .ensures .0) (a .fits) (not-false (a .fits) (c .before .before .before .before .before .before .before .before .before .before .before .before .if3 .left)) (h .result) (h .last .1 .1 .1 .0) (h .ensures .0) (c .before .before .before .before .before .if4 .left) (m .result) (m .last .1 .0) _ (m .ensures) (c .if5 .left)
+returns-6 : tie.Need-returns-6
+returns-6 c =
+    let strode = c .before in
+    let if4 = strode .before .before .before .before in
+    let held = if4 .before in
+    let copied = held .before .before .before .before in
+    let if3 = copied .before .before in
+    let if2 = if3 .before in
+    let if1 = if2 .before in
+    let rows = if1 .before in
+    let start = rows .before .before in
+    let q = rows .accepted-rows in
+    let z = site-of (start .args .rows .now) (q .result) (q .ensures .0) (q .ensures .1 .0) (q .ensures .1 .1 .0) (if1 .if1 .left) .3 in
+    let wr = some-words (start .args .rows .now) (q .result) (q .ensures .0) (q .ensures .1 .1 .0) (if1 .if1 .left) in
+    let w = copied .state-in in
+    let h = held .held in
+    let m = strode .stride in
+    open-0 (start .args .rows .now) (start .args .state .now) (q .last .1 .0) (w .last .1 .1 .0) (start .args .fits) (q .result) z wr (if3 .if3 .left) (if2 .if2 .left) (w .ensures .1) (w .ensures .0)
+    (h .result) (h .last .1 .1 .1 .0) (h .ensures .0) (if4 .if4 .left) (m .result) (m .last .1 .0) _ (m .ensures) (c .if5 .left)
 
 pub open-spec : {M : Type 1} → statement M
-open-spec = tie.close (tie.spec accepted-rows-requires′ returns′ mul-if2′ returns-2′ returns-3′ copy-in-requires′ held-requires′ returns-4′ sub-stride′ stride-requires′ returns-5′ returns-6′)
+open-spec = tie.close (tie.spec (λ c κs. c .before .pre .0) returns mul-if2 returns-2 returns-3 state-in-requires held-requires returns-4 sub-stride stride-requires returns-5 returns-6)

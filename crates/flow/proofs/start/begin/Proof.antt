@@ -1,6 +1,5 @@
 -- `begin` meets its contract. Assumes nothing.
 use native.Mathlib.Omega.{arith}
-use Prim.Native.Nat.{_-_}
 use borrow.Author.Needs.{needs}
 use Rattle.flow.proofs.StartLaws.{begins}
 use Rattle.flow.proofs.start.begin.Statement.{statement}

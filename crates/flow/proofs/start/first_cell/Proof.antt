@@ -1,5 +1,4 @@
 -- `first_cell` meets its contract. Assumes nothing.
-use Prim.Native.Nat.{_-_}
 use borrow.Author.Needs.{needs}
 use Rattle.flow.proofs.StartLaws.{first-is, first-none}
 use Rattle.flow.proofs.start.first_cell.Statement.{statement}

@@ -1,36 +1,79 @@
--- `start` meets its contract. Assumes nothing.
+-- `start` meets its contract, each way out by its law. Assumes nothing.
 use mathlib.Core.Path.{refl}
-use native.Mathlib.Omega.{arith}
-use Prim.Native.Nat.{_-_}
 use borrow.Author.Needs.{needs}
-use Rattle.flow.proofs.OpenLaws.{some-rows, most-rows, is-fine}
+use native.Mathlib.Omega.{arith}
+use Rattle.flow.proofs.SiteLaws.{some-rows, few-rows, is-fine}
+use Rattle.flow.proofs.OpenLaws.{site-of}
 use Rattle.flow.proofs.StartLaws.{start-20, start-21, start-0}
 use Rattle.flow.proofs.start.start.Statement.{statement}
 use Rattle.flow.proofs.start.start.Tie as tie
+use Rattle.flow.proofs.start.start.Reads as reads
+use Rattle.flow.proofs.start.start.Lts as lts
+use Rattle.flow.proofs.answer.refused.Reads as refused-reads
+use Rattle.flow.proofs.start.begin.Reads as begin-reads
+use Rattle.sheet.proofs.accepted_rows.Reads as accepted-rows-reads
+use Rattle.state.proofs.lent.state_out.Reads as state-out-reads
 
-accepted-rows-requires′ : tie.Need-accepted-rows-requires
-accepted-rows-requires′ = λ c κs. refl
+returns : tie.Need-returns
+returns c =
+    let refused = c in
+    let if1 = refused .before in
+    let rows = if1 .before in
+    let start = rows .before .before in
+    let n = rows .accepted-rows in
+    start-20 (start .args .rows .now) (start .args .state .now) (refused .refused .result) (n .result) (n .ensures .0) (if1 .if1 .taken) (refused .refused .ensures)
 
-returns′ : tie.Need-returns
-returns′ = λ c. let a = c .before .before .before .args in start-20 (a .rows .now) (a .state .now) (c .before .accepted-rows .result) (c .before .accepted-rows .ensures .0) (c .if1 .taken)
+mul-if2 : tie.Need-mul-if2
+mul-if2 c =
+    let rows = c .before in
+    let start = rows .before .before in
+    let n = rows .accepted-rows in
+    let z = site-of (start .args .rows .now) (n .result) (n .ensures .0) (n .ensures .1 .0) (n .ensures .1 .1 .0) (c .if1 .left) .3 in
+    let f = few-rows z in
+    record { fits = omega (arith, f) }
 
-mul-if2′ : tie.Need-mul-if2
-mul-if2′ = λ c. let a = c .before .before .before .args in let m = most-rows (a .rows .now) (c .before .accepted-rows .last .1 .0) (c .before .accepted-rows .result) (c .before .accepted-rows .ensures .0) (c .before .accepted-rows .ensures .1 .0) (c .if1 .left) in record { fits = omega (arith, m) }
+returns-2 : tie.Need-returns-2
+returns-2 c =
+    let refused = c in
+    let if2 = refused .before in
+    let if1 = if2 .before in
+    let rows = if1 .before in
+    let start = rows .before .before in
+    let n = rows .accepted-rows in
+    let z = site-of (start .args .rows .now) (n .result) (n .ensures .0) (n .ensures .1 .0) (n .ensures .1 .1 .0) (if1 .if1 .left) .3 in
+    start-21 (start .args .rows .now) (start .args .state .now) (refused .refused2 .result) z (if2 .if2 .taken) (refused .refused2 .ensures)
 
-returns-2′ : tie.Need-returns-2
-returns-2′ = λ c. let a = c .before .before .before .before .args in start-21 (a .rows .now) (c .before .before .accepted-rows .last .1 .0) (c .before .before .accepted-rows .result) (c .before .before .accepted-rows .ensures .0) (c .before .before .accepted-rows .ensures .1 .0) (c .before .if1 .left) (a .state .now) (c .if2 .taken)
+begin-requires : tie.Need-begin-requires
+begin-requires c κs =
+    let if1 = c .before .before .before in
+    let rows = if1 .before in
+    let start = rows .before .before in
+    let n = rows .accepted-rows in
+    let z = site-of (start .args .rows .now) (n .result) (n .ensures .0) (n .ensures .1 .0) (n .ensures .1 .1 .0) (if1 .if1 .left) .3 in
+    ((some-rows z, is-fine z), refl)
 
-begin-requires′ : tie.Need-begin-requires
-begin-requires′ = λ c κs. let a = c .before .before .before .before .before .before .args in ((some-rows (a .rows .now) (c .before .before .before .before .accepted-rows .last .1 .0) (c .before .before .before .before .accepted-rows .result) (c .before .before .before .before .accepted-rows .ensures .0) (c .before .before .before .before .accepted-rows .ensures .1 .0) (c .before .before .before .if1 .left), is-fine (a .rows .now) (c .before .before .before .before .accepted-rows .last .1 .0) (c .before .before .before .before .accepted-rows .result) (c .before .before .before .before .accepted-rows .ensures .0) (c .before .before .before .before .accepted-rows .ensures .1 .0) (c .before .before .before .if1 .left)), refl)
+state-out-requires : tie.Need-state-out-requires
+state-out-requires c κs =
+    let if2 = c .before .before .before .before .before in
+    let if1 = if2 .before in
+    let rows = if1 .before in
+    let start = rows .before .before in
+    let n = rows .accepted-rows in
+    let z = site-of (start .args .rows .now) (n .result) (n .ensures .0) (n .ensures .1 .0) (n .ensures .1 .1 .0) (if1 .if1 .left) .3 in
+    (if2 .if2 .left, few-rows z)
 
-put-out-requires′ : tie.Need-put-out-requires
-put-out-requires′ = λ c κs. search needs
-
-same-length′ : tie.Need-same-length
-same-length′ = λ c. search needs
-
-returns-3′ : tie.Need-returns-3
-returns-3′ = λ c. let a = c .before .before .before .before .before .before .before .before .before .before .before .args in let q = c .before .before .before .before .begin in let z = c .before .put-out in start-0 (a .rows .now) (c .before .before .before .before .before .before .before .before .before .accepted-rows .last .1 .0) (c .before .before .before .before .before .before .before .before .before .accepted-rows .result) (c .before .before .before .before .before .before .before .before .before .accepted-rows .ensures .0) (c .before .before .before .before .before .before .before .before .before .accepted-rows .ensures .1 .0) (c .before .before .before .before .before .before .before .before .if1 .left) (a .state .now) (c .before .before .before .before .before .before .before .before .before .accepted-rows .ensures .1 .1 .0) (c .before .before .before .before .before .before .before .if2 .left) (z .last .1 .0) (q .last .1 .1 .0) (q .result) (q .ensures) (z .ensures .1) (z .ensures .0)
+returns-3 : tie.Need-returns-3
+returns-3 c =
+    let out = c .before in
+    let words = out .before .before in
+    let begun = words .before in
+    let if2 = begun .before .before .before in
+    let if1 = if2 .before in
+    let rows = if1 .before in
+    let start = rows .before .before in
+    let n = rows .accepted-rows in
+    let z = site-of (start .args .rows .now) (n .result) (n .ensures .0) (n .ensures .1 .0) (n .ensures .1 .1 .0) (if1 .if1 .left) .3 in
+    start-0 (start .args .state .now) (out .state-out .last .1 .1 .0) (begun .begin .last .1 .1 .0) (begun .begin .result) z (if2 .if2 .left) (begun .begin .ensures) (out .state-out .ensures .1) (out .state-out .ensures .0)
 
 pub start-spec : {M : Type 1} → statement M
-start-spec = tie.close (tie.spec accepted-rows-requires′ returns′ mul-if2′ returns-2′ begin-requires′ put-out-requires′ same-length′ returns-3′)
+start-spec = tie.close (tie.spec (λ c κs. search needs) (λ c κs. search needs) returns mul-if2 (λ c κs. search needs) returns-2 begin-requires state-out-requires (λ c. search needs) returns-3)

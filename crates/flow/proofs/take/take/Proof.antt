@@ -1,51 +1,125 @@
 -- `take` meets its contract, each way out by its law. Assumes nothing.
-use borrow.Author.Needs.{needs}
 use mathlib.Core.Bool.{true}
-use Rattle.calls.specs.Calls.{opened}
+use borrow.Author.Needs.{needs}
 use borrow.Author.Tests.{not-false}
+use Rattle.call_definitions.specs.Calls.{opened}
 use Rattle.flow.proofs.OpenLaws.{opened-fine}
-use Rattle.flow.proofs.TakeLaws.{take-refused, take-8, take-9, take-0}
+use Rattle.flow.proofs.TakeLaws.{take-refused, take-8, take-9, take-0, opened-room}
 use Rattle.flow.proofs.take.take.Statement.{statement}
 use Rattle.flow.proofs.take.take.Tie as tie
+use Rattle.flow.proofs.take.take.Reads as reads
+use Rattle.flow.proofs.take.take.Lts as lts
+use Rattle.flow.proofs.answer.refused.Reads as refused-reads
+use Rattle.flow.proofs.open.open.Reads as open-reads
+use Rattle.handle.proofs.handle.Reads as handle-reads
+use Rattle.normalising.proofs.normalise.Reads as normalise-reads
+use Rattle.state.proofs.lent.state_out.Reads as state-out-reads
 
-open-requires′ : tie.Need-open-requires
-open-requires′ = λ c κs. search needs
+returns : tie.Need-returns
+returns c =
+    let refused = c in
+    let if1 = refused .before in
+    let opening = if1 .before .before in
+    let start = opening .before .before .before .before in
+    let o = opening .«open» in
+    let own = o .last .1 .1 .1 .0 in
+    let words = o .last .1 .1 .1 .1 .0 in
+    take-refused (start .args .rows .now) (start .args .state .now) own words (o .result) (start .args .e) (o .ensures) (if1 .if1 .taken) (refused .refused .result) (refused .refused .ensures)
 
-same-length′ : tie.Need-same-length
-same-length′ = λ c. search needs
+returns-2 : tie.Need-returns-2
+returns-2 c =
+    let refused = c in
+    let if2 = refused .before in
+    let if1 = if2 .before .before in
+    let opening = if1 .before .before in
+    let start = opening .before .before .before .before in
+    let o = opening .«open» in
+    let own = o .last .1 .1 .1 .0 in
+    let words = o .last .1 .1 .1 .1 .0 in
+    take-8 (start .args .rows .now) (start .args .state .now) own words (o .result) (start .args .e) (o .ensures) (if1 .if1 .left) (if2 .if2 .taken) (refused .refused2 .result) (refused .refused2 .ensures)
 
-returns′ : tie.Need-returns
-returns′ = λ c. let a = c .before .before .before .before .before .before .args in let p = c .before .before .«open» in take-refused (a .rows .now) (a .state .now) (p .last .1 .1 .1 .0) (p .last .1 .1 .1 .1 .0) (p .result) (a .e) (p .ensures) (c .if1 .taken)
+sub-last : tie.Need-sub-last
+sub-last c =
+    let if1 = c .before .before .before in
+    let opening = if1 .before .before in
+    let start = opening .before .before .before .before in
+    let o = opening .«open» in
+    let own = o .last .1 .1 .1 .0 in
+    let words = o .last .1 .1 .1 .1 .0 in
+    opened-fine (start .args .rows .now) (start .args .state .now) own words (o .result) (opened (start .args .rows .now) (start .args .state .now) true) (o .ensures) (if1 .if1 .left) .0
 
-same-length-2′ : tie.Need-same-length-2
-same-length-2′ = λ c. search needs
+handle-requires : tie.Need-handle-requires
+handle-requires c κs =
+    let if2 = c .before .before .before .before in
+    let if1 = if2 .before .before in
+    let opening = if1 .before .before in
+    let start = opening .before .before .before .before in
+    let o = opening .«open» in
+    let own = o .last .1 .1 .1 .0 in
+    let words = o .last .1 .1 .1 .1 .0 in (
+      opened-fine (start .args .rows .now) (start .args .state .now) own words (o .result) (opened (start .args .rows .now) (start .args .state .now) true) (o .ensures) (if1 .if1 .left) .2,
+      start .pre (not-false (start .args .e .readable) (if2 .if2 .left)),
+    )
 
-returns-2′ : tie.Need-returns-2
-returns-2′ = λ c. let a = c .before .before .before .before .before .before .before .before .args in let p = c .before .before .before .before .«open» in take-8 (a .rows .now) (a .state .now) (p .last .1 .1 .1 .0) (p .last .1 .1 .1 .1 .0) (p .result) (a .e) (p .ensures) (c .before .before .if1 .left) (c .if2 .taken)
+returns-3 : tie.Need-returns-3
+returns-3 c =
+    let refused = c in
+    let if3 = refused .before in
+    let handled = if3 .before in
+    let if2 = handled .before .before .before .before .before in
+    let if1 = if2 .before .before in
+    let opening = if1 .before .before in
+    let start = opening .before .before .before .before in
+    let o = opening .«open» in
+    let own = o .last .1 .1 .1 .0 in
+    let words = o .last .1 .1 .1 .1 .0 in
+    let h = handled .handle in
+    take-9 (start .args .rows .now) (start .args .state .now) own words (o .result) (start .args .e) (if1 .if1 .left) (if2 .if2 .left) (h .last .1 .0) _ (h .result) (h .ensures) (o .ensures) (if3 .if3 .taken)
+    (refused .refused3 .result) (refused .refused3 .ensures)
 
-sub-last′ : tie.Need-sub-last
-sub-last′ = λ c. let a = c .before .before .before .before .before .before .before .before .before .args in let p = c .before .before .before .before .before .«open» in let f = opened-fine (a .rows .now) (a .state .now) (p .last .1 .1 .1 .0) (p .last .1 .1 .1 .1 .0) (p .result) (opened (a .rows .now) (a .state .now) true) (p .ensures) (c .before .before .before .if1 .left) .0 in f
+normalise-requires : tie.Need-normalise-requires
+normalise-requires c κs =
+    let if1 = c .before .before .before .before .before .before .before .before .before .before .before in
+    let opening = if1 .before .before in
+    let start = opening .before .before .before .before in
+    let o = opening .«open» in
+    let own = o .last .1 .1 .1 .0 in
+    let words = o .last .1 .1 .1 .1 .0 in
+    opened-fine (start .args .rows .now) (start .args .state .now) own words (o .result) (opened (start .args .rows .now) (start .args .state .now) true) (o .ensures) (if1 .if1 .left) .2
 
-handle-requires′ : tie.Need-handle-requires
-handle-requires′ = λ c κs. let a = c .before .before .before .before .before .before .before .before .before .before .before .before .args in let p = c .before .before .before .before .before .before .before .before .«open» in (opened-fine (a .rows .now) (a .state .now) (p .last .1 .1 .1 .0) (p .last .1 .1 .1 .1 .0) (p .result) (opened (a .rows .now) (a .state .now) true) (p .ensures) (c .before .before .before .before .before .before .if1 .left) .2, c .before .before .before .before .before .before .before .before .before .before .before .before .pre (not-false (a .e .readable) (c .before .before .before .before .if2 .left)))
+state-out-requires : tie.Need-state-out-requires
+state-out-requires c κs =
+    let if1 = c .before .before .before .before .before .before .before .before .before .before .before .before .before .before in
+    let opening = if1 .before .before in
+    let start = opening .before .before .before .before in
+    let o = opening .«open» in
+    let own = o .last .1 .1 .1 .0 in
+    let words = o .last .1 .1 .1 .1 .0 in
+    let x = opened (start .args .rows .now) (start .args .state .now) true in (
+      opened-room (start .args .rows .now) (start .args .state .now) own words (o .result) x (o .ensures) (if1 .if1 .left),
+      opened-fine (start .args .rows .now) (start .args .state .now) own words (o .result) x (o .ensures) (if1 .if1 .left) .1,
+    )
 
-same-length-3′ : tie.Need-same-length-3
-same-length-3′ = λ c. search needs
-
-returns-3′ : tie.Need-returns-3
-returns-3′ = λ c. let a = c .before .before .before .before .before .before .before .before .before .before .before .before .before .before .args in let p = c .before .before .before .before .before .before .before .before .before .before .«open» in let h = c .before .handle in take-9 (a .rows .now) (a .state .now) (p .last .1 .1 .1 .0) (p .last .1 .1 .1 .1 .0) (p .result) (a .e) (c .before .before .before .before .before .before .before .before .if1 .left) (c .before .before .before .before .before .before .if2 .left) (h .last .1 .0) _ (h .result) (h .ensures) (p .ensures) (c .if3 .taken)
-
-normalise-requires′ : tie.Need-normalise-requires
-normalise-requires′ = λ c κs. let a = c .before .before .before .before .before .before .before .before .before .before .before .before .before .before .before .before .before .args in let p = c .before .before .before .before .before .before .before .before .before .before .before .before .before .«open» in opened-fine (a .rows .now) (a .state .now) (p .last .1 .1 .1 .0) (p .last .1 .1 .1 .1 .0) (p .result) (opened (a .rows .now) (a .state .now) true) (p .ensures) (c .before .before .before .before .before .before .before .before .before .before .before .if1 .left) .2
-
-put-out-requires′ : tie.Need-put-out-requires
-put-out-requires′ = λ c κs. search needs
-
-same-length-4′ : tie.Need-same-length-4
-same-length-4′ = λ c. search needs
-
-returns-4′ : tie.Need-returns-4
-returns-4′ = λ c. let a = c .before .before .before .before .before .before .before .before .before .before .before .before .before .before .before .before .before .before .before .before .before .before .args in let p = c .before .before .before .before .before .before .before .before .before .before .before .before .before .before .before .before .before .before .«open» in let h = c .before .before .before .before .before .before .before .before .before .handle in let m = c .before .before .before .before .normalise in let o = c .before .put-out in take-0 (a .rows .now) (a .state .now) (p .last .1 .1 .1 .0) (p .last .1 .1 .1 .1 .0) (p .result) (a .e) (c .before .before .before .before .before .before .before .before .before .before .before .before .before .before .before .before .if1 .left) (c .before .before .before .before .before .before .before .before .before .before .before .before .before .before .if2 .left) (h .last .1 .0) _ (h .result) (h .ensures) (m .last .1 .0) _ (m .result) (o .last .1 .0) (m .ensures) (o .ensures .1) (o .ensures .0) (p .ensures) (c .before .before .before .before .before .before .before .before .if3 .left)
+returns-4 : tie.Need-returns-4
+returns-4 c =
+    let out = c .before in
+    let normal = out .before .before .before in
+    let if3 = normal .before .before .before .before in
+    let handled = if3 .before in
+    let if2 = handled .before .before .before .before .before in
+    let if1 = if2 .before .before in
+    let opening = if1 .before .before in
+    let start = opening .before .before .before .before in
+    let o = opening .«open» in
+    let own = o .last .1 .1 .1 .0 in
+    let words = o .last .1 .1 .1 .1 .0 in
+    let h = handled .handle in
+    let m = normal .normalise in
+    let w = out .state-out in
+    take-0 (start .args .rows .now) (start .args .state .now) own words (o .result) (start .args .e) (if1 .if1 .left) (if2 .if2 .left) (h .last .1 .0) _ (h .result) (h .ensures)
+    (m .last .1 .0) _ (m .result) (w .last .1 .1 .0) (m .ensures) (w .ensures .1) (w .ensures .0) (o .ensures) (if3 .if3 .left)
 
 pub take-spec : {M : Type 1} → statement M
-take-spec = tie.close (tie.spec open-requires′ same-length′ returns′ same-length-2′ returns-2′ sub-last′ handle-requires′ same-length-3′ returns-3′ normalise-requires′ put-out-requires′ same-length-4′ returns-4′)
+take-spec = tie.close (tie.spec (λ c κs. search needs)
+    (λ c κs. search needs) (λ c. search needs) returns (λ c κs. search needs) (λ c. search needs) returns-2 sub-last handle-requires
+    (λ c κs. search needs) (λ c. search needs) returns-3 normalise-requires state-out-requires (λ c. search needs) returns-4)

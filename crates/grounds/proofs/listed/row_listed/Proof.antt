@@ -11,6 +11,6 @@ row-listed-spec = tie.close (tie.spec
     (λ c κs. search needs)
     (λ c κs. search needs)
     (λ c κs. search needs)
-    (λ c. let s = c .before .before .before .before .before .before in row-unlisted (s .args .rows .now) (s .args .i) (c .before .before .before .before .before .shape-at .result) (c .before .before .before .before .before .shape-at .ensures) (c .before .before .before .before .word-at .ensures) (c .before .before .before .word-at2 .ensures) (c .before .before .word-at3 .ensures) (c .before .shape-listed .ensures) (c .if1 .taken))
+    (λ c. let s = c .before .before .before .before .before .before in row-unlisted (s .args .rows .now) (s .args .i) (c .before .before .before .before .before .asks-at .result) (c .before .before .before .before .before .asks-at .ensures) (c .before .before .before .before .get .ensures) (c .before .before .before .get2 .ensures) (c .before .before .get3 .ensures) (c .before .operands-listed .ensures) (c .if1 .taken))
     (λ c κs. search needs)
-    (λ c. let s = c .before .before .before .before .before .before .before in row-cell (s .args .rows .now) (s .args .i) (c .before .before .before .before .before .before .shape-at .result) (c .before .before .before .before .before .before .shape-at .ensures) (c .before .before .before .before .before .word-at .ensures) (c .before .before .before .before .word-at2 .ensures) (c .before .before .before .word-at3 .ensures) (c .before .before .shape-listed .ensures) (c .before .if1 .left) (c .truth-cell .ensures)))
+    (λ c. let s = c .before .before .before .before .before .before .before in row-cell (s .args .rows .now) (s .args .i) (c .before .before .before .before .before .before .asks-at .result) (c .before .before .before .before .before .before .asks-at .ensures) (c .before .before .before .before .before .get .ensures) (c .before .before .before .before .get2 .ensures) (c .before .before .before .get3 .ensures) (c .before .before .operands-listed .ensures) (c .before .if1 .left) (c .truth-cell .ensures)))

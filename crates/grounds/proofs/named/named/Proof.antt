@@ -17,4 +17,4 @@ named-spec = tie.close (tie.spec
     (λ c. search needs)
     (λ c κs. search needs)
     (λ c κs. search needs)
-    (λ c. let s = c .before .before .before .before .before .before .before in last-is (s .args .rows .now) ((s .args .n) - 1) (c .before .word-at .result) (c .before .word-at .ensures) (c .last-fits .result) (c .last-fits .ensures) ∙ ap (λ b. b && lastFits (s .args .rows .now) ((s .args .n) - 1)) (sym (not-false (c .before .before .before .all-named .result) (c .before .before .if1 .left)) ∙ c .before .before .before .all-named .ensures)))
+    (λ c. let s = c .before .before .before .before .before .before .before in last-is (s .args .rows .now) ((s .args .n) - 1) (c .before .get .result) (c .before .get .ensures) (c .last-fits .result) (c .last-fits .ensures) ∙ ap (λ b. b && lastFits (s .args .rows .now) ((s .args .n) - 1)) (sym (not-false (c .before .before .before .all-named .result) (c .before .before .if1 .left)) ∙ c .before .before .before .all-named .ensures)))

@@ -7,7 +7,7 @@ use Rattle.grounds.proofs.named.named_once.Tie as tie
 pub named-once-spec : {M : Type 1} → statement M
 named-once-spec = tie.close (tie.spec
     (λ c κs. search needs)
-    (λ c. let s = c .before .before in once-low (s .args .rows .now) (s .args .n) (s .args .i) (c .before .word-at .ensures) (c .if1 .taken))
+    (λ c. let s = c .before .before in once-low (s .args .rows .now) (s .args .n) (s .args .i) (c .before .get .ensures) (c .if1 .taken))
     (λ c. search needs)
-    (λ c. let s = c .before .before .before in once-last (s .args .rows .now) (s .args .n) (s .args .i) (c .before .before .word-at .ensures) (c .before .if1 .left) (c .if2 .taken))
-    (λ c. let s = c .before .before .before in once-counted (s .args .rows .now) (s .args .n) (s .args .i) (c .before .before .word-at .ensures) (c .before .if1 .left) (c .if2 .left) (s .args .x) (s .pre .2)))
+    (λ c. let s = c .before .before .before in once-last (s .args .rows .now) (s .args .n) (s .args .i) (c .before .before .get .ensures) (c .before .if1 .left) (c .if2 .taken))
+    (λ c. let s = c .before .before .before in once-counted (s .args .rows .now) (s .args .n) (s .args .i) (c .before .before .get .ensures) (c .before .if1 .left) (c .if2 .left) (s .args .x) (s .pre .2)))

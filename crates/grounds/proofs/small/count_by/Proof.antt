@@ -2,7 +2,7 @@
 use mathlib.Core.Path.{sym, ap, _∙_}
 use native.Mathlib.Omega.{arith}
 use borrow.Author.Needs.{needs}
-use Rattle.grounds.specs.Table.{shapeBy}
+use Rattle.grounds.specs.Table.{asksBy}
 use Rattle.grounds.specs.Counts.{countBy, mostOf}
 use Rattle.grounds.proofs.small.count_by.Statement.{statement}
 use Rattle.grounds.proofs.small.count_by.Tie as tie
@@ -15,6 +15,6 @@ count-by-spec = tie.close (tie.spec
     (λ c κs. omega (arith, ap mostOf (c .enum-told2 .given .1)))
     (λ c. search needs)
     (λ c κs. omega (arith, ap mostOf (c .enum-told3 .given .1)))
-    (λ c. let s = c .before .before .before in c .leaves-by .ensures ∙ sym (ap (λ w. countBy w (shapeBy (s .args .s)) (s .args .a) (s .args .b) (s .args .c)) (c .before .enum-told .given .1)))
-    (λ c. let s = c .before .before .before in c .binders-by .ensures ∙ sym (ap (λ w. countBy w (shapeBy (s .args .s)) (s .args .a) (s .args .b) (s .args .c)) (c .before .enum-told2 .given .1)))
-    (λ c. let s = c .before .before .before in c .marks-by .ensures ∙ sym (ap (λ w. countBy w (shapeBy (s .args .s)) (s .args .a) (s .args .b) (s .args .c)) (c .before .enum-told3 .given .1))))
+    (λ c. let s = c .before .before .before in c .leaves-by .ensures ∙ sym (ap (λ w. countBy w (asksBy (s .args .s)) (s .args .a) (s .args .b) (s .args .c)) (c .before .enum-told .given .1)))
+    (λ c. let s = c .before .before .before in c .binders-by .ensures ∙ sym (ap (λ w. countBy w (asksBy (s .args .s)) (s .args .a) (s .args .b) (s .args .c)) (c .before .enum-told2 .given .1)))
+    (λ c. let s = c .before .before .before in c .marks-by .ensures ∙ sym (ap (λ w. countBy w (asksBy (s .args .s)) (s .args .a) (s .args .b) (s .args .c)) (c .before .enum-told3 .given .1))))

@@ -11,4 +11,4 @@ own-sort-spec = tie.close (tie.spec
     (λ c κs. search needs)
     (λ c κs. search needs)
     (λ c κs. search needs)
-    (λ c. let s = c .before .before .before .before in row-sort-is (s .args .rows .now) (s .args .i) (c .before .shape-at .result) (c .before .shape-at .ensures) (c .sort-by .ensures (sortBelow (s .args .rows .now) (s .args .i) (opB (s .args .rows .now) (s .args .i))) (sort-read (s .args .rows .now) (s .args .table .now) (s .args .i) (s .pre .1) (c .before .before .before .word-at .ensures) (c .before .before .below .ensures)))))
+    (λ c. let s = c .before .before .before .before in row-sort-is (s .args .rows .now) (s .args .i) (c .before .asks-at .result) (c .before .asks-at .ensures) (c .sort-by .ensures (sortBelow (s .args .rows .now) (s .args .i) (opB (s .args .rows .now) (s .args .i))) (sort-read (s .args .rows .now) (s .args .table .now) (s .args .i) (s .pre .1) (c .before .before .before .get .ensures) (c .before .before .below .ensures)))))

@@ -15,4 +15,4 @@ row-sorted-spec = tie.close (tie.spec
     (λ c κs. search needs)
     (λ c κs. search needs)
     (λ c κs. search needs)
-    (λ c. let s = c .before .before .before .before .before .before .before .before in row-sorted-is (s .args .rows .now) (s .args .i) (c .before .shape-at .result) (c .before .shape-at .ensures) (c .shape-sorted .ensures (sortBelow (s .args .rows .now) (s .args .i) (opA (s .args .rows .now) (s .args .i))) (sortBelow (s .args .rows .now) (s .args .i) (opB (s .args .rows .now) (s .args .i))) (sortBelow (s .args .rows .now) (s .args .i) (opC (s .args .rows .now) (s .args .i))) (sort-read (s .args .rows .now) (s .args .table .now) (s .args .i) (s .pre .1) (c .before .before .before .before .before .before .before .word-at .ensures) (c .before .before .before .before .before .before .below .ensures)) (sort-read (s .args .rows .now) (s .args .table .now) (s .args .i) (s .pre .1) (c .before .before .before .before .before .word-at2 .ensures) (c .before .before .before .before .below2 .ensures)) (sort-read (s .args .rows .now) (s .args .table .now) (s .args .i) (s .pre .1) (c .before .before .before .word-at3 .ensures) (c .before .before .below3 .ensures)))))
+    (λ c. let s = c .before .before .before .before .before .before .before .before in row-sorted-is (s .args .rows .now) (s .args .i) (c .before .asks-at .result) (c .before .asks-at .ensures) (c .operands-sorted .ensures (sortBelow (s .args .rows .now) (s .args .i) (opA (s .args .rows .now) (s .args .i))) (sortBelow (s .args .rows .now) (s .args .i) (opB (s .args .rows .now) (s .args .i))) (sortBelow (s .args .rows .now) (s .args .i) (opC (s .args .rows .now) (s .args .i))) (sort-read (s .args .rows .now) (s .args .table .now) (s .args .i) (s .pre .1) (c .before .before .before .before .before .before .before .get .ensures) (c .before .before .before .before .before .before .below .ensures)) (sort-read (s .args .rows .now) (s .args .table .now) (s .args .i) (s .pre .1) (c .before .before .before .before .before .get2 .ensures) (c .before .before .before .before .below2 .ensures)) (sort-read (s .args .rows .now) (s .args .table .now) (s .args .i) (s .pre .1) (c .before .before .before .get3 .ensures) (c .before .before .below3 .ensures)))))

@@ -2,7 +2,7 @@
 use mathlib.Core.Path.{sym, ap, _∙_}
 use borrow.Author.Needs.{needs}
 use Rattle.rows.specs.Rows.{sortBy, sortNumber}
-use Rattle.grounds.specs.Table.{shapeBy}
+use Rattle.grounds.specs.Table.{asksBy}
 use Rattle.grounds.proofs.Ground4.{own}
 use Rattle.grounds.proofs.sorted.sort_by.Statement.{statement}
 use Rattle.grounds.proofs.sorted.sort_by.Tie as tie
@@ -12,7 +12,7 @@ unfolding sortBy sortNumber
 sort-by-spec = tie.close (tie.spec
     (λ c. search needs)
     (λ c. search needs)
-    (λ c. λ u e. sym (ap (λ s. sortNumber (sortBy (shapeBy s) u)) (c .enum-told .given .1)))
+    (λ c. λ u e. sym (ap (λ s. sortNumber (sortBy (asksBy s) u)) (c .enum-told .given .1)))
     (λ c. search needs)
     (λ c. search needs)
     (λ c. search needs)

@@ -1,25 +1,28 @@
--- `write` meets its contract. Assumes nothing.
+-- `write` meets its contract: one field after another. Assumes nothing.
 use borrow.Author.Needs.{needs}
 use Rattle.screens.proofs.HeadLaws.{head-written}
 use Rattle.screens.proofs.head.write.Statement.{statement}
 use Rattle.screens.proofs.head.write.Tie as tie
+use Rattle.screens.proofs.head.write.Reads as reads
+use Rattle.screens.proofs.head.write.Lts as lts
+use Rattle.decimal.proofs.field.write.Reads as write-reads
+use Rattle.formats.proofs.write_numbers.Reads as write-numbers-reads
+use Rattle.screens.proofs.head.write_end.Reads as write-end-reads
+
+returns : tie.Need-returns
+returns c =
+    let end = c .before .before in
+    let entries = end .before .before .before .before in
+    let leaves = entries .before .before .before .before in
+    let valued = leaves .before .before .before .before .before in
+    let fails = valued .before .before .before .before in
+    let strides = fails .before .before .before .before in
+    let answer = strides .before .before .before .before in
+    let start = answer .before .before .before in
+    head-written (start .args .s .now) (answer .write .last .0) (strides .write2 .last .0) (fails .write3 .last .0) (valued .write4 .last .0) (leaves .write-numbers .last .0)
+        (entries .write5 .last .0) (end .write-end .last .0) (start .args .h) (leaves .write-numbers .ensures .1) (answer .write .ensures .1) (strides .write2 .ensures .1) (fails .write3 .ensures .1) (valued .write4 .ensures .1)
+        (leaves .write-numbers .ensures .0) (entries .write5 .ensures .1) (end .write-end .ensures)
 
 pub write-spec : {M : Type 1} → statement M
-write-spec = tie.close (tie.spec
-    (λ c κs. search needs)
-    (λ c κs. search needs)
-    (λ c. search needs)
-    (λ c κs. search needs)
-    (λ c. search needs)
-    (λ c. search needs)
-    (λ c κs. search needs)
-    (λ c κs. search needs)
-    (λ c κs. search needs)
-    (λ c κs. search needs)
-    (λ c. search needs)
-    (λ c.
-    let a = c .before .before .before .before .before .before .before .before .before .before .before .before .before .before .before .before .before .before .before .before .before .before .before .before .before .before .before .before .before .before .args in
-    head-written (a .s .now) (c .before .before .before .before .before .before .before .before .before .before .before .before .before .before .before .before .before .before .before .before .before .before .before .before .before .before .before .write .last .0) (c .before .before .before .before .before .before .before .before .before .before .before .before .before .before .before .before .before .before .before .before .before .before .before .write2 .last .0) (c .before .before .before .before .before .before .before .before .before .before .before .before .before .before .before .before .before .before .before .write3 .last .0) (c .before .before .before .before .before .before .before .before .before .before .before .before .before .before .before .write4 .last .0)
-    (c .before .before .before .before .before .before .before .before .before .before .write-leaves .last .0) (c .before .before .before .before .before .before .write5 .last .0) (c .before .before .write-end .last .0) (a .h)
-    (c .before .before .before .before .before .before .before .before .before .before .before .before .before .before .before .before .before .before .before .before .before .before .before .before .before .before .before .write .ensures .1) (c .before .before .before .before .before .before .before .before .before .before .before .before .before .before .before .before .before .before .before .before .before .before .before .write2 .ensures .1) (c .before .before .before .before .before .before .before .before .before .before .before .before .before .before .before .before .before .before .before .write3 .ensures .1) (c .before .before .before .before .before .before .before .before .before .before .before .before .before .before .before .write4 .ensures .1)
-    (c .before .before .before .before .before .before .before .before .before .before .write-leaves .ensures) (c .before .before .before .before .before .before .write5 .ensures .1) (c .before .before .write-end .ensures)))
+write-spec = tie.close (tie.spec (λ c κs. search needs) (λ c κs. search needs) (λ c. search needs) (λ c κs. search needs) (λ c. search needs) (λ c. search needs)
+    (λ c κs. search needs) (λ c κs. search needs) (λ c κs. search needs) (λ c κs. search needs) (λ c. search needs) returns)

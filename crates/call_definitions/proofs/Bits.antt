@@ -1,0 +1,148 @@
+-- The words of a state's writing are 32 bits each: tags, shapes and leaves of what is well typed. So lent memory that holds the
+-- writing gives it back. Rests on state's Layout, the calculus' typing and shapes.
+use mathlib.Core.Path.{subst, sym}
+use mathlib.Core.Bool.{Bool, true, false, cond}
+use mathlib.Core.List.{List, [], _∷_, _++_}
+use Prim.Native.Nat.{ℕ, zero, suc, _*_, _-_, _<_, _≤_}
+use native.Mathlib.Omega.{arith}
+use lib.Dec.{lit<}
+use lib.IntN.{ℤ, pos}
+use lib.ListN.{length, getD, set, replicate}
+use Rattle.word.specs.Word.{words, IsWord, AllWords, AllBits}
+use Rattle.word.proofs.Lists.{words-append, bits-bits, bits-replicate}
+use Rattle.tophat.specs.Syntax.{maxLeaves, Ty, leaves, Code, Val, vunit, TaskOf, Store}
+use Rattle.tophat.specs.Typing.{ValueType, v-unit, v-truth, v-number, v-pair, ValueTypes, v-nil, v-cons, TaskType, k-filled, k-blank, k-entered, k-shared, k-then-before, k-then-after, k-next-before, k-next-after, AllSmall, small-nil, small-cons}
+use Rattle.tophat.specs.Typing.{k-failed, k-both, k-either, k-or-left, k-or-right, k-unpicked, k-picked-left, k-picked-right, k-if-true, k-if-false, k-bound}
+use Rattle.tophat.specs.Leaves.{leavesOf, padded}
+use Rattle.tophat.proofs.Leaves.{type-of}
+use Rattle.tophat.proofs.TypeLeaves.{type-leaves, task-type-leaves}
+use Rattle.shape.specs.Digits.{width}
+use Rattle.shape.specs.Shape.{asShape}
+use Rattle.shape.proofs.Puts.{shape-range}
+use Rattle.value.specs.Values.{leafBits}
+use Rattle.rows.specs.Kinds.{cellK}
+use Rattle.rows.specs.Rows.{opA, opB, opC, isKind}
+use Rattle.state.specs.Layout.{stateWords, place, own, valueWords, putWords, valued, writeTask, writeCells, encode}
+
+-- a list of bits, by name
+record Bits (l : List ℕ) : Type 0 where
+  bits : AllBits l
+
+-- ---- values
+
+words-zero : (n : ℕ) → AllWords (replicate n (pos 0))
+words-zero zero i = lit< tt
+words-zero (suc n) zero = lit< tt
+words-zero (suc n) (suc i) = words-zero n i
+
+words-one : (z : ℤ) → IsWord z → AllWords (z ∷ [])
+words-one z h zero = h
+words-one z h (suc i) = lit< tt
+
+leaves-words : {v : Val} {τ : Ty} → ValueType v τ → AllWords (leavesOf v)
+unfolding leavesOf
+leaves-words v-unit = words-one (pos 0) (lit< tt)
+leaves-words (v-truth {b = true}) = words-one (pos 1) (lit< tt)
+leaves-words (v-truth {b = false}) = words-one (pos 0) (lit< tt)
+leaves-words (v-number {n = n} h) = words-one n h
+leaves-words (v-pair {v = v} {w = w} g h) = words-append (leavesOf v) (leavesOf w) (leaves-words g) (leaves-words h)
+
+leaf-bits : {v : Val} {τ : Ty} → ValueType v τ → Bits (leafBits v)
+unfolding leafBits padded
+leaf-bits {v} t =
+    let zs = replicate (maxLeaves - length (leavesOf v)) (pos 0) in
+    record { bits = bits-bits (leavesOf v ++ zs) (words-append (leavesOf v) zs (leaves-words t) (words-zero (maxLeaves - length (leavesOf v)))) }
+
+width-small : (n : ℕ) → n ≤ maxLeaves → width n < words
+unfolding width
+width-small zero l = lit< tt
+width-small (suc zero) l = lit< tt
+width-small (suc (suc zero)) l = lit< tt
+width-small (suc (suc (suc zero))) l = lit< tt
+width-small (suc (suc (suc (suc zero)))) l = lit< tt
+width-small (suc (suc (suc (suc (suc n))))) l = absurd (omega arith)
+
+shape-small : (τ : Ty) → leaves τ ≤ maxLeaves → asShape τ < words
+shape-small τ l = let h = shape-range τ .0 in let k = width-small (leaves τ) l in omega arith
+
+cons-at : {x : ℕ} {xs : List ℕ} → x < words → Bits xs → (i : ℕ) → getD (x ∷ xs) i 0 < words
+cons-at h k zero = h
+cons-at h k (suc i) = k .bits i
+
+bits-cons : {x : ℕ} {xs : List ℕ} → x < words → Bits xs → Bits (x ∷ xs)
+bits-cons h k = record { bits = cons-at h k }
+
+bits-none : Bits []
+bits-none = record { bits = λ i. lit< tt }
+
+bits-tail : {x : ℕ} {xs : List ℕ} → Bits (x ∷ xs) → Bits xs
+bits-tail h = record { bits = λ i. h .bits (suc i) }
+
+value-bits : {v : Val} {τ : Ty} → ValueType v τ → leaves τ ≤ maxLeaves → Bits (valueWords v)
+unfolding valueWords
+value-bits {v} {τ} t l = bits-cons (subst (λ τ. asShape τ < words) (sym (type-of t)) (shape-small τ l)) (leaf-bits t)
+
+-- ---- rows
+
+set-bits : (ws : List ℕ) (k : ℕ) {x : ℕ} → Bits ws → x < words → Bits (set ws k x)
+set-bits [] k h l = h
+set-bits (y ∷ ws) zero h l = bits-cons l (bits-tail h)
+set-bits (y ∷ ws) (suc k) h l = bits-cons (h .bits 0) (set-bits ws k (bits-tail h) l)
+
+put-bits : {ws : List ℕ} (i m : ℕ) (xs : List ℕ) → Bits ws → Bits xs → Bits (putWords ws i m xs)
+unfolding putWords
+put-bits i m [] h k = h
+put-bits i m (x ∷ xs) h k = put-bits i (suc m) xs (set-bits _ (place i m) h (k .bits 0)) (bits-tail k)
+
+tag-bits : {ws : List ℕ} (i : ℕ) {x : ℕ} → x < words → Bits ws → Bits (putWords ws i 0 (x ∷ []))
+tag-bits i {x} l h = put-bits i 0 (x ∷ []) h (bits-cons l bits-none)
+
+valued-bits : {ws : List ℕ} {v : Val} {τ : Ty} (i : ℕ) {x : ℕ} → x < words → ValueType v τ → leaves τ ≤ maxLeaves → Bits ws → Bits (valued ws i x v)
+valued-bits {v = v} i {x} l t k h = put-bits i 0 (x ∷ valueWords v) h (bits-cons l (value-bits t k))
+
+module _ (rs : List ℕ) {Σ : List Ty} (g : AllSmall Σ) where
+  task-bits : {Γ : List Ty} {τ : Ty} (i : ℕ) {c : Code} {t : TaskOf c} {ws : List ℕ} → TaskType Σ Γ c t τ → AllSmall Γ → Bits ws → Bits (writeTask rs i c t ws)
+  unfolding writeTask
+  task-bits i (k-filled d v) h w = valued-bits i (lit< tt) v (type-leaves d g h) w
+  task-bits i (k-blank l) h w = tag-bits i (lit< tt) w
+  task-bits i (k-entered l v) h w = valued-bits i (lit< tt) v l w
+  task-bits i (k-shared d) h w = tag-bits i (lit< tt) w
+  task-bits i (k-then-before d e) h w = task-bits (opA rs i) d h (tag-bits i (lit< tt) w)
+  task-bits i (k-then-after d v e) h w = let l = task-type-leaves d g h in task-bits (opB rs i) e (small-cons l h) (valued-bits i (lit< tt) v l w)
+  task-bits i (k-next-before d e) h w = task-bits (opA rs i) d h (tag-bits i (lit< tt) w)
+  task-bits i (k-next-after d v e) h w = let l = task-type-leaves d g h in task-bits (opB rs i) e (small-cons l h) (valued-bits i (lit< tt) v l w)
+  task-bits i (k-failed l) h w = tag-bits i (lit< tt) w
+  task-bits i (k-both d e l) h w = task-bits (opB rs i) e h (task-bits (opA rs i) d h (tag-bits i (lit< tt) w))
+  task-bits i (k-either d e) h w = task-bits (opB rs i) e h (task-bits (opA rs i) d h (tag-bits i (lit< tt) w))
+  task-bits i (k-or-left d e) h w = task-bits (opA rs i) d h (tag-bits i (lit< tt) w)
+  task-bits i (k-or-right d e) h w = task-bits (opB rs i) e h (tag-bits i (lit< tt) w)
+  task-bits i (k-unpicked d e) h w = tag-bits i (lit< tt) w
+  task-bits i (k-picked-left d e) h w = task-bits (opA rs i) d h (tag-bits i (lit< tt) w)
+  task-bits i (k-picked-right d e) h w = task-bits (opB rs i) e h (tag-bits i (lit< tt) w)
+  task-bits i (k-if-true b d e) h w = task-bits (opB rs i) d h (tag-bits i (lit< tt) w)
+  task-bits i (k-if-false b d e) h w = task-bits (opC rs i) e h (tag-bits i (lit< tt) w)
+  task-bits i (k-bound b v e) h w = let l = type-leaves b g h in task-bits (opB rs i) e (small-cons l h) (valued-bits i (lit< tt) v l w)
+
+-- ---- cells
+
+at-bits : {s : Store} {Σ : List Ty} → ValueTypes s Σ → AllSmall Σ → (k : ℕ) → Bits (valueWords (getD s k vunit))
+unfolding leaves
+at-bits v-nil small-nil k = value-bits v-unit (omega arith)
+at-bits (v-cons t d) (small-cons l g) zero = value-bits t l
+at-bits (v-cons t d) (small-cons l g) (suc k) = at-bits d g k
+
+pick-bits : (b : Bool) (xs ys : List ℕ) → Bits xs → Bits ys → Bits (cond b xs ys)
+pick-bits true xs ys h k = h
+pick-bits false xs ys h k = k
+
+cells-bits : (rs : List ℕ) {Σ : List Ty} {s : Store} {ws : List ℕ} → AllSmall Σ → ValueTypes s Σ → (n : ℕ) → Bits ws → Bits (writeCells rs n s ws)
+unfolding writeCells
+cells-bits rs g h zero w = w
+cells-bits rs {s = s} g h (suc i) w =
+    let p = cells-bits rs g h i w in
+    pick-bits (isKind rs i cellK) _ _ (put-bits i 0 (own ∷ valueWords (getD s i vunit)) p (bits-cons (lit< tt) (at-bits h g i))) p
+
+-- a state's writing
+pub encode-bits : (rs : List ℕ) (n : ℕ) {Σ : List Ty} (c : Code) (t : TaskOf c) (s : Store) {τ : Ty} → AllSmall Σ → TaskType Σ [] c t τ → ValueTypes s Σ → AllBits (encode rs n c t s)
+unfolding encode
+encode-bits rs n c t s g k h = task-bits rs g (n - 1) k small-nil (cells-bits rs g h n (record { bits = bits-replicate (n * stateWords) 0 (lit< tt) })) .bits

@@ -1,0 +1,41 @@
+-- THE MAIN THEOREM (01, "Four lines on the contracts", 3): every list of look and handle calls on every accepted flow.
+--
+-- Take any rows that an accepted sheet loads to; their last row is a code c, their cells have the types Σ, and typing gives the
+-- code the type τ. Take the state that start leaves in any memory, or any rest of the flow at all, whether start can reach it
+-- or not. Make any list of calls of look and handle, each lent whatever event bytes, value memory and list memory it may be. Then
+-- (`Stands`, specs/Touches):
+--
+-- - the state words are the writing of a task of type τ and of a store of the cells' types, and of no other; normalising does not
+--   change them; the typing rules give the task, as a sheet could have it, the type τ;
+-- - look answers 21 where its value memory is not 4 words, else 24 where its list memory is under 27 bytes an entry, else 0; then
+--   it hands back the list shown, and all that it answers is derived by the rules (`LookAnswers`, specs/Answers);
+-- - handle answers 8 to an event that cannot be read; to a readable one 9 exactly when no handling rule derives a step, and 0
+--   exactly when one does; all that it answers and leaves is derived by the rules (`HandleAnswers`), and it counts at most 1 more
+--   stride than the rows of kind 43 and 47;
+-- - the list shown is k entries of 27 bytes, each of which can be read. An event is answered 0 exactly when one of them covers it:
+--   both say the same path and action, and the event's leaves meet the entry's leaf kinds. Two places that cover one event are one
+--   place, and each entry covers some event: no entry is dead;
+-- - k is 0 exactly when the task is quiet.
+--
+-- What start, look and handle answer is what their definitions in specs/Calls give, and the contracts of the code (crate flow) are
+-- equations with these; nothing else here speaks of the engine: the rules are tophat's relations, and what bytes say is formats'. That start
+-- of an accepted flow answers 0, and with which task, store and strides, is in StartAnswered; that every accepted sheet loads to such a
+-- flow, of one code and one type, is in Flows. Rests on Standing and StartAnswered.
+use mathlib.Core.Logic.{_⊎_, ⊎-elim}
+use mathlib.Core.List.{List, [], _∷_}
+use lib.IntN.{ℤ}
+use Rattle.tophat.specs.Syntax.{Ty, Code}
+use Rattle.call_definitions.specs.Answers.{AcceptedFlow, IsRest}
+use Rattle.call_definitions.specs.Touches.{Call, run, Started, Stands}
+use Rattle.call_definitions.proofs.Standing.{stands, call-rest}
+use Rattle.call_definitions.proofs.StartAnswered.{started-is-rest}
+
+module _ {rows : List ℤ} {c : Code} {Σ : List Ty} {τ : Ty} (a : AcceptedFlow rows c Σ τ) where
+  -- a list of calls leaves a rest
+  pub run-rest : {ws : List ℤ} → IsRest rows ws c Σ τ → (ks : List Call) → IsRest rows (run rows ws ks) c Σ τ
+  unfolding run
+  run-rest r [] = r
+  run-rest r (k ∷ ks) = run-rest (call-rest a r k) ks
+
+  pub every-run : {ws : List ℤ} → Started rows ws ⊎ IsRest rows ws c Σ τ → (ks : List Call) → Stands rows (run rows ws ks) c Σ τ
+  every-run h ks = stands a (run-rest (⊎-elim (started-is-rest a) (λ r. r) h) ks)

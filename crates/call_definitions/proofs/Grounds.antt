@@ -1,0 +1,119 @@
+-- Grounds 20 to 23 of look and handle, exactly (01, "Grounds in the state"), for every rows memory and every state memory of words: what they
+-- open to is the ground that the rules derive, and no other, or a rest of an accepted flow. Rests on Opening.
+use mathlib.Core.Path.{_≡_, refl, sym, ap, subst, _∙_}
+use mathlib.Core.Bool.{Bool, true, false, _&&_}
+use mathlib.Core.Option.{Option, none, some}
+use mathlib.Core.List.{List, []}
+use Prim.Native.Nat.{ℕ, _*_}
+use borrow.Author.Tests.{eq-eqb, eqb-true, eqb-false}
+use borrow.Table.Steps.{cases}
+use lib.Dec.{eqb}
+use lib.IntN.{ℤ}
+use lib.ListN.{length}
+use Rattle.word.specs.Word.{AllWords}
+use Rattle.tophat.specs.Syntax.{Ty, Code, TaskOf, Store}
+use Rattle.tophat.specs.Normalising.{Normalises}
+use Rattle.tophat.proofs.Basics.{apart}
+use Rattle.tophat.proofs.ComputeNormalising.{stride}
+use Rattle.rows.specs.GroundNumbers.{notAccepted, wrongMemory}
+use Rattle.rows.specs.Lent.{rowCount}
+use Rattle.rows.proofs.Basics.{no}
+use Rattle.sheet.specs.Accepted.{acceptsRows}
+use Rattle.state.specs.Layout.{stateWords}
+use Rattle.call_definitions.specs.Answers.{Loads, AcceptedFlow, HasRoom, Writes, IsRest, Shut, shut-20, shut-21, shut-22, shut-23}
+use Rattle.call_definitions.specs.Calls.{Opened, refusedBy, restOf, atRest, decoded, opened}
+use Rattle.call_definitions.proofs.Flows.{loads-accepts, accepts-loads, accepts-not, flow-of}
+use Rattle.call_definitions.proofs.Opening.{decodedFrom, opened-is, unmoved, still-of, state-length, decodes, decoded-writes, undecoded}
+
+-- a test that decides
+pub record Decides (b : Bool) (P : Type 0) : Type 0 where
+  pub holds : b ≡ true → P
+  pub fails : b ≡ false → P → ⊥
+
+decided : {b : Bool} {P : Type 0} → Decides b P → P → b ≡ true
+decided {b} d p = cases b (λ t. t) (λ f. absurd (d .fails f p))
+
+module _ (rows ws : List ℤ) (Fits : Type 0) where
+  -- what rows and words open to
+  pub data Opens : Opened → Type 0 where
+    open-shut : {g : ℕ} → Shut rows ws Fits g → Opens (refusedBy g)
+    open-rest : {c : Code} {Σ : List Ty} {τ : Ty} → AcceptedFlow rows c Σ τ → Fits → (r : IsRest rows ws c Σ τ) → Opens (restOf c (r .task) (r .store))
+
+  -- ---- by the tests
+
+  pub opened-20 : acceptsRows rows ≡ false → (b : Bool) → opened rows ws b ≡ refusedBy notAccepted
+  unfolding opened
+  opened-20 h b = rw h
+
+  opened-21 : acceptsRows rows ≡ true → (b : Bool) → (eqb (length ws) (rowCount rows * stateWords) && b) ≡ false → opened rows ws b ≡ refusedBy wrongMemory
+  unfolding opened
+  opened-21 h b e = rw (h, e)
+
+  both-false : (x y : Bool) → (x ≡ true → y ≡ true → ⊥) → (x && y) ≡ false
+  both-false true true h = absurd (h refl refl)
+  both-false true false h = refl
+  both-false false y h = refl
+
+  module _ (wr : AllWords rows) (ww : AllWords ws) where
+    -- ---- what is opened is derived
+
+    module _ {c : Code} {Σ : List Ty} {τ : Ty} (a : AcceptedFlow rows c Σ τ) (l : HasRoom rows ws) (fits : Fits) where
+      by-flag : (t : TaskOf c) (s : Store) → Writes rows ws c Σ τ t s → (m : Bool) → stride c [] s t .2 ≡ m → Opens (atRest c t s)
+      unfolding atRest
+      by-flag t s w true e = rw e (open-shut (shut-23 a fits w (λ d. apart e (unmoved a (w .typed) (w .stored) d))))
+      by-flag t s w false e = rw e (open-rest a fits (record { task = t; store = s; writes = w; still = still-of a (w .typed) (w .stored) e }))
+
+      by-read : (o : Option (TaskOf c × Store)) → decodedFrom a ws ≡ o → Opens (decoded c o)
+      unfolding decoded
+      by-read none e = open-shut (shut-22 a l fits (λ t s w. undecoded a e w))
+      by-read (some q) e = by-flag (q .0) (q .1) (decoded-writes a l ww e) _ refl
+
+    pub opened-derived : (b : Bool) → Decides b Fits → Opens (opened rows ws b)
+    opened-derived b d = cases (acceptsRows rows)
+        (λ t.
+        let l = accepts-loads wr t in
+        let (c, Σ, τ, a) = flow-of l in
+        cases (eqb (length ws) (rowCount rows * stateWords) && b)
+        (λ y. by-fit t a y)
+        (λ n. subst Opens (sym (opened-21 t b n)) (open-shut (shut-21 l (λ (r, f). no (sym n ∙ fitting r f))))))
+        (λ f. subst Opens (sym (opened-20 f b)) (open-shut (shut-20 (λ l. no (sym f ∙ loads-accepts l)))))
+      where
+        fitting : HasRoom rows ws → Fits → (eqb (length ws) (rowCount rows * stateWords) && b) ≡ true
+        fitting r f = rw (eq-eqb _ _ r, decided d f)
+
+        split : (x y : Bool) → (x && y) ≡ true → (x ≡ true) × (y ≡ true)
+        split true y h = (refl, h)
+        split false y h = no h
+
+        by-fit : acceptsRows rows ≡ true → {c : Code} {Σ : List Ty} {τ : Ty} → AcceptedFlow rows c Σ τ → (eqb (length ws) (rowCount rows * stateWords) && b) ≡ true → Opens (opened rows ws b)
+        by-fit t a y =
+            let (p, q) = split _ b y in
+            let r = eqb-true _ _ p in
+            subst Opens (sym (ap (opened rows ws) q ∙ opened-is a ws r)) (by-read a r (d .holds q) (decodedFrom a ws) refl)
+
+    -- ---- and no other ground
+
+    module _ {c : Code} {Σ : List Ty} {τ : Ty} (a : AcceptedFlow rows c Σ τ) where
+      no-state : HasRoom rows ws → ((t : TaskOf c) (s : Store) → Writes rows ws c Σ τ t s → ⊥) → decodedFrom a ws ≡ none
+      no-state l n = by (decodedFrom a ws) refl
+        where
+          by : (o : Option (TaskOf c × Store)) → decodedFrom a ws ≡ o → o ≡ none
+          by none e = refl
+          by (some q) e = absurd (n (q .0) (q .1) (decoded-writes a l ww e))
+
+      no-rest : {t : TaskOf c} {s : Store} → Writes rows ws c Σ τ t s → (Normalises c [] s t t s 1 → ⊥) → stride c [] s t .2 ≡ true
+      no-rest {t} {s} w n = cases (stride c [] s t .2) (λ y. y) (λ f. absurd (n (still-of a (w .typed) (w .stored) f)))
+
+    pub shut-only : {g : ℕ} (b : Bool) → Decides b Fits → Shut rows ws Fits g → opened rows ws b ≡ refusedBy g
+    unfolding decoded atRest
+    shut-only b d (shut-20 n) = opened-20 (accepts-not n wr) b
+    shut-only b d (shut-21 l n) = opened-21 (loads-accepts l) b (both-false _ b (λ p q. n (eqb-true _ _ p, d .holds q)))
+    shut-only b d (shut-22 {c} a l f n) = ap (opened rows ws) (decided d f) ∙ opened-is a ws l ∙ ap (decoded c) (no-state a l n)
+    shut-only b d (shut-23 {c} {t = t} {s = s} a f w n) =
+        let o : decodedFrom a ws ≡ some (t, s) = ap (decodedFrom a) (w .written) ∙ decodes a (w .typed) (w .stored) in
+        let y = no-rest a w n in
+        ap (opened rows ws) (decided d f) ∙ opened-is a ws (ap length (w .written) ∙ state-length a (w .typed) (w .stored)) ∙ ap (decoded c) o ∙ rw y
+
+-- accepted rows, where a memory does not fit
+pub opened-misfit : (rows ws : List ℤ) (b : Bool) → Loads rows → (HasRoom rows ws → b ≡ true → ⊥) → opened rows ws b ≡ refusedBy wrongMemory
+opened-misfit rows ws b l n = opened-21 rows ws (Unit {0}) (loads-accepts l) b (both-false rows ws (Unit {0}) _ b (λ p q. n (eqb-true _ _ p) q))

@@ -1,0 +1,111 @@
+-- Handle by the rules alone: for every rows memory and state memory of words and every event the relation derives what handle answers and
+-- leaves, and nothing else. Rests on Grounds.
+use mathlib.Core.Path.{_≡_, refl, sym, ap, subst, _∙_}
+use mathlib.Core.Bool.{true, false}
+use mathlib.Core.Option.{Option, none, some}
+use mathlib.Core.List.{List, []}
+use Prim.Native.Nat.{ℕ}
+use lib.IntN.{ℤ}
+use Rattle.word.specs.Word.{AllWords}
+use Rattle.decimal.specs.Path.{Path}
+use Rattle.tophat.specs.Syntax.{Ty, Code, TaskOf, Store}
+use Rattle.tophat.specs.Typing.{v-nil}
+use Rattle.tophat.specs.Normalising.{Normalises}
+use Rattle.tophat.specs.Handling.{Action, Handles}
+use Rattle.tophat.specs.Runs.{Refuses}
+use Rattle.tophat.proofs.Basics.{All, all-none, all-some}
+use Rattle.tophat.proofs.ComputeNormalising.{normalise}
+use Rattle.tophat.proofs.ComputeHandling as compute
+use Rattle.tophat.proofs.NormalisingSound.{normalise-sound}
+use Rattle.tophat.proofs.NormalisingComplete.{normalises-is}
+use Rattle.tophat.proofs.Bound.{normal-rest}
+use Rattle.tophat.proofs.HandlingSound.{GoodHandling, handles-sound}
+use Rattle.tophat.proofs.HandlingComplete.{handles-is, refuses}
+use Rattle.formats.specs.Touches.{eventOf}
+use Rattle.rows.proofs.Basics.{no}
+use Rattle.rows.specs.GroundNumbers.{eventNotRead, notHandled}
+use Rattle.call_definitions.specs.Memory.{stateOf, CallAnswer, refusal}
+use Rattle.call_definitions.specs.Answers.{AcceptedFlow, IsRest, HandleAnswers, handle-shut, handle-8, handle-9, handle-0}
+use Rattle.call_definitions.specs.Calls.{Opened, refusedBy, restOf, opened, handled, handleRead, handleIn, handleCall}
+use Rattle.call_definitions.proofs.Opening.{opens}
+use Rattle.call_definitions.proofs.Grounds.{Decides, Opens, open-shut, open-rest, opened-derived, shut-only}
+
+module _ {rows ws : List ℤ} {c : Code} {Σ : List Ty} {τ : Ty} (a : AcceptedFlow rows c Σ τ) (r : IsRest rows ws c Σ τ) (event : List ℕ) where
+  abbrev t : TaskOf c
+  t = r .task
+
+  abbrev s : Store
+  s = r .store
+
+  -- ---- at a rest
+
+  pub rest-handle : handleCall rows ws event ≡ handleRead rows ws c t s (eventOf event)
+  unfolding handleCall handleIn
+  rest-handle = ap (handleIn rows ws (eventOf event)) (opens a (r .writes) (r .still))
+
+  -- what a readable event comes to: no rule and the same words, or what the rules derive, at rest
+  pub data Outcome (p : Path) (x : Action) : CallAnswer → Type 0 where
+    kept : Refuses c t s p x → Outcome p x (refusal notHandled ws)
+    went : {t₁ t₂ : TaskOf c} {s₁ s₂ : Store} {n : ℕ} → Handles c [] s t p x t₁ s₁ → Normalises c [] s₁ t₁ t₂ s₂ n → IsRest rows (stateOf rows c t₂ s₂) c Σ τ
+        → Outcome p x (record { number = 0; strides = n; state = stateOf rows c t₂ s₂ })
+
+  by-handling : (p : Path) (x : Action) (o : Option (TaskOf c × Store)) → compute.handle c [] s t p x ≡ o → All (GoodHandling Σ [] τ c [] s t p x) o → Outcome p x (handled rows ws c o)
+  unfolding handled
+  by-handling p x none h all-none = kept (refuses c s t p x h)
+  by-handling p x (some q) h (all-some g) =
+      let n = normalise-sound c [] (q .1) (q .0) (g .task) v-nil (g .store) in
+      went (g .derived) (n .derived) (record { task = _; store = _; writes = record { typed = n .task; stored = n .store; written = refl }; still = normal-rest (n .derived) })
+
+  pub outcome : {p : Path} {x : Action} → eventOf event ≡ some (p, x) → Outcome p x (handleCall rows ws event)
+  unfolding handleRead
+  outcome {p} {x} e = subst (Outcome p x) (sym (rest-handle ∙ ap (handleRead rows ws c t s) e)) (by-handling p x _ refl (handles-sound c [] s t p x (r .writes .typed) v-nil (r .writes .stored)))
+
+  pub answer-8 : eventOf event ≡ none → handleCall rows ws event ≡ refusal eventNotRead ws
+  unfolding handleRead
+  answer-8 e = rest-handle ∙ ap (handleRead rows ws c t s) e
+
+  -- all that it answers is derived
+  pub rest-handled : HandleAnswers rows ws event (handleCall rows ws event)
+  rest-handled = by (eventOf event) refl
+    where
+      by-outcome : {p : Path} {x : Action} {z : CallAnswer} → eventOf event ≡ some (p, x) → Outcome p x z → HandleAnswers rows ws event z
+      by-outcome e (kept n) = handle-9 a r e n
+      by-outcome e (went h d k) = handle-0 a r e h d
+
+      by : (o : Option (Path × Action)) → eventOf event ≡ o → HandleAnswers rows ws event (handleCall rows ws event)
+      by none e = subst (HandleAnswers rows ws event) (sym (answer-8 e)) (handle-8 a r e)
+      by (some q) e = by-outcome e (outcome e)
+
+  -- what the rules derive is answered
+  pub answer-9 : {p : Path} {x : Action} → eventOf event ≡ some (p, x) → Refuses c t s p x → handleCall rows ws event ≡ refusal notHandled ws
+  answer-9 {p} {x} e n = by (outcome e)
+    where
+      by : {z : CallAnswer} → Outcome p x z → z ≡ refusal notHandled ws
+      by (kept m) = refl
+      by (went h d k) = absurd (n _ _ h)
+
+-- ---- every memory
+
+yes : Decides true (Unit {0})
+yes = record { holds = λ e. tt; fails = λ e u. no (sym e) }
+
+module _ (rows ws : List ℤ) (event : List ℕ) (wr : AllWords rows) (ww : AllWords ws) where
+  by-opened : (o : Opened) → opened rows ws true ≡ o → Opens rows ws (Unit {0}) o → HandleAnswers rows ws event (handleIn rows ws (eventOf event) o)
+  unfolding handleIn
+  by-opened (refusedBy g) e (open-shut d) = handle-shut d
+  by-opened (restOf c t s) e (open-rest a f r) = subst (HandleAnswers rows ws event) (rest-handle a r event) (rest-handled a r event)
+
+  -- what handle answers is derived
+  pub handle-derived : HandleAnswers rows ws event (handleCall rows ws event)
+  unfolding handleCall
+  handle-derived = by-opened (opened rows ws true) refl (opened-derived rows ws (Unit {0}) wr ww true yes)
+
+  -- and nothing else
+  pub handle-only : {r : CallAnswer} → HandleAnswers rows ws event r → handleCall rows ws event ≡ r
+  unfolding handleCall handleIn handleRead handled
+  handle-only (handle-shut d) = ap (handleIn rows ws (eventOf event)) (shut-only rows ws (Unit {0}) wr ww true yes d)
+  handle-only (handle-8 a r e) = answer-8 a r event e
+  handle-only (handle-9 a r e n) = answer-9 a r event e n
+  handle-only (handle-0 {c} a r e h d) =
+      rest-handle a r event ∙ ap (handleRead rows ws c (r .task) (r .store)) e ∙ ap (handled rows ws c) (handles-is h)
+      ∙ ap (λ (x : TaskOf c × Store × ℕ). record { number = 0; strides = x .2; state = stateOf rows c (x .0) (x .1) }) (normalises-is d)

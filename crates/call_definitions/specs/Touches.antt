@@ -1,0 +1,83 @@
+-- The terms of the theorem on every list of look and handle calls (01, "Four lines on the contracts", 3; the theorem is proofs/EveryTouch):
+-- what a list of calls leaves of a state, and what stands after any such list, in bytes and words. What a call answers is read off the
+-- calls' own definitions (Calls), which the code's contracts are equations with; all else is said by the calculus' relations and by what
+-- bytes say (formats). Rests on Answers and Calls.
+use mathlib.Core.Path.{_≡_}
+use mathlib.Core.Option.{none, some}
+use mathlib.Core.Logic.{_⊎_, _↔_}
+use mathlib.Core.List.{List, [], _∷_}
+use Prim.Native.Nat.{ℕ, _+_, _<_, _≤_}
+use lib.IntN.{ℤ}
+use lib.ListN.{length}
+use Rattle.decimal.specs.Path.{Path}
+use Rattle.tophat.specs.Syntax.{maxLeaves, Ty, Code, TaskOf, Store}
+use Rattle.tophat.specs.Typing.{CodeType}
+use Rattle.tophat.specs.Quiet.{Quiet}
+use Rattle.tophat.specs.Handling.{Action}
+use Rattle.tophat.specs.Residual.{residual}
+use Rattle.tophat.specs.Runs.{Accepts, Refuses}
+use Rattle.formats.specs.Touches.{eventOf}
+use Rattle.formats.specs.Lists.{Entries, CoversAt}
+use Rattle.rows.specs.GroundNumbers.{eventNotRead, notHandled, wrongMemory, listTooShort}
+use Rattle.rows.specs.Rows.{movers}
+use Rattle.rows.specs.Lent.{ownRows, rowCount}
+use Rattle.call_definitions.specs.Memory.{refusal, lookRefusal}
+use Rattle.call_definitions.specs.Answers.{HasRoom, Writes, IsRest, LookAnswers, HandleAnswers}
+use Rattle.call_definitions.specs.Calls.{startCall, handleCall, lookCall}
+
+-- ---- calls
+
+-- a look with the value memory and the list memory that it is lent, or a handle with its event's bytes: any of each
+pub data Call : Type 0 where
+  look : List ℤ → List ℕ → Call
+  handle : List ℕ → Call
+
+-- the state words that a call leaves: look is lent them to read only
+unfoldable pub after : List ℤ → List ℤ → Call → List ℤ
+after rows ws (look values list) = ws
+after rows ws (handle event) = handleCall rows ws event .state
+
+unfoldable pub run : List ℤ → List ℤ → List Call → List ℤ
+run rows ws [] = ws
+run rows ws (k ∷ ks) = run rows (after rows ws k) ks
+
+-- start's state: with every state memory of 16 words a row, whatever it holds, start answers 0 and leaves these words
+abbrev pub Started : List ℤ → List ℤ → Type 0
+Started rows ws = (memory : List ℤ) → HasRoom rows memory → (startCall rows memory .number ≡ 0) × (startCall rows memory .state ≡ ws)
+
+-- 01: "a call counts at most 1 more than the rows of kind 43 and 47"
+abbrev pub Bounded : List ℤ → ℕ → Type 0
+Bounded rows n = n ≤ 1 + movers (ownRows rows) (rowCount rows)
+
+-- ---- what holds of the state words of a flow after any list of calls
+
+pub record Stands (rows ws : List ℤ) (c : Code) (Σ : List Ty) (τ : Ty) : Type 0 where
+  -- they are the writing of a task of the flow's own type and of a store of the cells' types, at rest, and of no other
+  pub rest : IsRest rows ws c Σ τ
+  pub only : (t : TaskOf c) (s : Store) → Writes rows ws c Σ τ t s → (t ≡ rest .task) × (s ≡ rest .store)
+  -- 01: the typing rules, read with its contents, values, sides and right sides in place, give the task that type
+  pub residual-typed : CodeType Σ [] (residual c (rest .task)) τ
+  -- look, with every value memory and list memory: 21, else 24, else 0; and then the part that it hands back is the list shown
+  pub shown : List ℕ
+  pub misfit : (values : List ℤ) (list : List ℕ) → (length values ≡ maxLeaves → ⊥) → lookCall rows ws values list ≡ lookRefusal wrongMemory values list
+  pub short : (values : List ℤ) (list : List ℕ) → length values ≡ maxLeaves → length list < length shown → lookCall rows ws values list ≡ lookRefusal listTooShort values list
+  pub looks : (values : List ℤ) (list : List ℕ) → length values ≡ maxLeaves → length shown ≤ length list → lookCall rows ws values list .number ≡ 0
+  pub part : (values : List ℤ) (list : List ℕ) → lookCall rows ws values list .number ≡ 0 → lookCall rows ws values list .part ≡ shown
+  -- all that it answers is derived by the rules
+  pub looked : (values : List ℤ) (list : List ℕ) → LookAnswers rows ws values list (lookCall rows ws values list)
+  -- handle, with every event: 8 where it cannot be read, else 9 exactly where no handling rule derives a step, and 0 exactly where one does
+  pub unread : (event : List ℕ) → eventOf event ≡ none → handleCall rows ws event ≡ refusal eventNotRead ws
+  pub answers : (event : List ℕ) (p : Path) (x : Action) → eventOf event ≡ some (p, x) → (handleCall rows ws event ≡ refusal notHandled ws) ⊎ (handleCall rows ws event .number ≡ 0)
+  pub refused : (event : List ℕ) (p : Path) (x : Action) → eventOf event ≡ some (p, x) → (handleCall rows ws event .number ≡ notHandled) ↔ Refuses c (rest .task) (rest .store) p x
+  pub taken : (event : List ℕ) (p : Path) (x : Action) → eventOf event ≡ some (p, x) → (handleCall rows ws event .number ≡ 0) ↔ Accepts c (rest .task) (rest .store) p x
+  -- all that it answers and leaves is derived by the rules
+  pub handled : (event : List ℕ) → HandleAnswers rows ws event (handleCall rows ws event)
+  pub bounded : (event : List ℕ) → Bounded rows (handleCall rows ws event .strides)
+  -- the list shown covers exactly the accepted events, each by just one entry; no entry is dead
+  pub count : ℕ
+  pub entries : Entries shown count
+  pub accepted-iff-covered : (event : List ℕ) → (handleCall rows ws event .number ≡ 0) ↔ ((i : ℕ) × CoversAt shown count i event)
+  pub covered-once : (event : List ℕ) (i j : ℕ) → CoversAt shown count i event → CoversAt shown count j event → i ≡ j
+  pub covers-some : (i : ℕ) → i < count → (event : List ℕ) × CoversAt shown count i event
+  -- it is empty exactly when the task is quiet
+  pub empty-iff-quiet : (count ≡ 0) ↔ Quiet c [] (rest .store) (rest .task)

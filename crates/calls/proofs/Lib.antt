@@ -1,9 +1,0 @@
-pub mod Bits
-pub mod Opening
-pub mod Flows
-pub mod Widths
-pub mod WrittenEvents
-pub mod Standing
-pub mod Starting
-pub mod EveryTouch
-pub mod Grounds

@@ -1,0 +1,53 @@
+-- `read_fields` meets its contract, each way out by its law. Assumes nothing.
+use mathlib.Core.Path.{sym, subst, _∙_}
+use borrow.Author.Needs.{needs}
+use Rattle.flow.specs.Reads.{Says, fieldsSay}
+use Rattle.flow.proofs.EventLaws.{says-unread, no-path, no-action, fields-are}
+use Rattle.flow.proofs.event.read_fields.Statement.{statement}
+use Rattle.flow.proofs.event.read_fields.Tie as tie
+use Rattle.flow.proofs.event.read_fields.Reads as reads
+use Rattle.flow.proofs.event.read_fields.Lts as lts
+use Rattle.decimal.proofs.field.read.Reads as field-read-reads
+use Rattle.decimal.proofs.path.read.Reads as path-read-reads
+use Rattle.formats.proofs.read_numbers.Reads as read-numbers-reads
+use Rattle.flow.proofs.event.event_of.Reads as event-of-reads
+use Rattle.flow.proofs.event.unread.Reads as unread-reads
+
+returns : tie.Need-returns
+returns c =
+    let unread = c in
+    let told = unread .before in
+    let read = told .before .before in
+    let start = read .before .before in
+    says-unread (unread .unread .result) (fieldsSay (start .args .s .now)) (unread .unread .ensures) (no-path (start .args .s .now) (sym (told .enum-told .given .1) ∙ read .read .ensures))
+
+returns-2 : tie.Need-returns-2
+returns-2 c =
+    let unread2 = c in
+    let told = unread2 .before in
+    let action = told .before .before in
+    let path = action .before .before in
+    let read = path .before .before in
+    let start = read .before .before in
+    says-unread (unread2 .unread2 .result) (fieldsSay (start .args .s .now)) (unread2 .unread2 .ensures)
+    (no-action (start .args .s .now) (path .path .given .0 .0) (sym (path .path .given .1) ∙ read .read .ensures) (sym (told .enum-told2 .given .1) ∙ action .read2 .ensures))
+
+returns-3 : tie.Need-returns-3
+returns-3 c =
+    let event = c in
+    let leaves = event .before in
+    let number = leaves .before .before in
+    let action = number .before .before in
+    let path = action .before .before in
+    let read = path .before .before in
+    let start = read .before .before in
+    subst (Says (event .event-of .result))
+    (sym (fields-are (start .args .s .now) (path .path .given .0 .0) (sym (path .path .given .1) ∙ read .read .ensures)
+    (number .action .given .0 .0) (sym (number .action .given .1) ∙ action .read2 .ensures) (leaves .read-numbers .result) (leaves .read-numbers .ensures)))
+    (event .event-of .ensures)
+
+pub read-fields-spec : {M : Type 1} → statement M
+read-fields-spec = tie.close (tie.spec
+    (λ c κs. search needs) (λ c. search needs) (λ c. search needs) (λ c κs. search needs) returns
+    (λ c κs. search needs) (λ c. search needs) (λ c. search needs) (λ c κs. search needs) returns-2
+    (λ c κs. search needs) (λ c κs. search needs) returns-3)

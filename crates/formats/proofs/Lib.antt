@@ -1,0 +1,12 @@
+-- Laws of fields in columns: one (Items), several read and written (Records), and the numbers that loops read and write (Loops).
+pub mod Items
+pub mod Records
+pub mod Loops
+-- The lines of a sheet.
+pub mod LinesRead
+-- Events and entries: their texts are read back (TouchesRead), lists of them (ListsRead), and entries against events (CoversRead).
+pub mod TouchesRead
+pub mod ListsRead
+pub mod CoversRead
+pub mod ListsCover
+pub mod EntriesFit

@@ -1,0 +1,21 @@
+-- The head line of a screen (01, "A session in full"): its columns. Rests on Records.
+use mathlib.Core.List.{List, [], _∷_, _++_}
+use Prim.Native.Nat.{ℕ}
+use lib.ListN.{replicate}
+use Rattle.decimal.specs.Field.{rowColumns, wordColumns, actionColumns}
+use Rattle.tophat.specs.Syntax.{maxLeaves}
+use Rattle.formats.specs.Records.{total, recordBytes}
+
+-- 01: "answer (4), strides (4), failing (2), value flag (2), leaves (4 of 12), entry count (4)", and byte 10
+abbrev pub headFront : List ℕ
+headFront = rowColumns ∷ rowColumns ∷ actionColumns ∷ actionColumns ∷ []
+
+abbrev pub headColumns : List ℕ
+headColumns = headFront ++ (replicate maxLeaves wordColumns ++ rowColumns ∷ [])
+
+abbrev pub headBytes : ℕ
+headBytes = recordBytes headColumns
+
+-- where the leaves begin
+abbrev pub headLeaves : ℕ
+headLeaves = total headFront

@@ -1,0 +1,78 @@
+// The formats of 01's texts: records of fields in columns, read and written. What an event, an entry and a list say stands in specs/;
+// here is the code that all of them share, a number for each leaf in fields of one width.
+use decimal::field;
+use decimal::field::ACTION_COLUMNS;
+use decimal::field::ROW_COLUMNS;
+use decimal::field::Reading;
+use decimal::field::WORD_COLUMNS;
+use decimal::path::PATH_COLUMNS;
+use tophat::MAX_LEAVES;
+ghost use mathlib.Core.Path.{_≡_};
+ghost use Prim.Native.Nat.{_+_, _*_, _<_};
+ghost use lib.ListN.{length, replicate};
+ghost use Rattle.tophat.specs.Syntax.{maxLeaves};
+ghost use Rattle.formats.specs.Records.{putItems, itemsOf, numbersAt, numbersRead};
+
+// 01: "lines of 45 bytes": row number, kind, three operands, byte 10.
+pub const LINE_BYTES: usize = 2 * ROW_COLUMNS + 3 * WORD_COLUMNS + 1;
+
+// Where the action of an event or an entry stands, and where a number for each leaf begins.
+pub const ACTION_AT: usize = PATH_COLUMNS;
+
+pub const LEAVES_AT: usize = ACTION_AT + ACTION_COLUMNS;
+
+// 01: "An event is 67 bytes", "A list entry is 27 bytes"; byte 10 is the last.
+pub const EVENT_BYTES: usize = LEAVES_AT + MAX_LEAVES * WORD_COLUMNS + 1;
+
+pub const ENTRY_BYTES: usize = LEAVES_AT + MAX_LEAVES * ACTION_COLUMNS + 1;
+
+// 01: a head line is the answer, strides, two flags, a number for each leaf, the entry count and byte 10.
+pub const HEAD_LEAVES_AT: usize = 2 * ROW_COLUMNS + 2 * ACTION_COLUMNS;
+
+pub const HEAD_ENTRIES_AT: usize = HEAD_LEAVES_AT + MAX_LEAVES * WORD_COLUMNS;
+
+pub const HEAD_BYTES: usize = HEAD_ENTRIES_AT + ROW_COLUMNS + 1;
+
+// A number's bits for each leaf, where each can be read; else zeros.
+pub struct Numbers {
+    pub readable: bool,
+    pub words: [u32; MAX_LEAVES],
+}
+
+// The numbers in fields of `width` columns, one after another from `at` on.
+pub fn read_numbers(s: &[u8], at: usize, width: usize) -> Numbers
+    requires { ⌜ at + maxLeaves * width < 4294967296 ⌝ }
+    ensures { λ r. ⌜ r ≡ numbersRead (numbersAt (now (s .entry)) at (replicate maxLeaves width)) ⌝ }
+{
+    let mut words = [0u32; MAX_LEAVES];
+    for k in 0..MAX_LEAVES {
+        let reading = field::read(s, at + k * width, width);
+        match reading {
+            Reading::Number(n) => {
+                words[k] = n;
+            }
+            Reading::Unreadable => {
+                return Numbers {
+                    readable: false,
+                    words: [0u32; MAX_LEAVES],
+                };
+            }
+        }
+    }
+    Numbers {
+        readable: true,
+        words: words,
+    }
+}
+
+// The numbers into fields of `width` columns, one after another from `at` on. Where the slice does not have a field, or a number
+// does not fit it, its bytes stay. How many numbers there are, which only a function that is lent an array learns, is told.
+pub fn write_numbers(s: &mut [u8], at: usize, width: usize, numbers: [u32; MAX_LEAVES])
+    requires { ⌜ at + maxLeaves * width < 4294967296 ⌝ }
+    ensures { λ _. ⌜ now (s .exit) ≡ putItems (now (s .entry)) at (itemsOf width numbers) ⌝ }
+    ensures { λ _. ⌜ length numbers ≡ maxLeaves ⌝ }
+{
+    for k in 0..MAX_LEAVES {
+        field::write(s, at + k * width, width, numbers[k]);
+    }
+}

@@ -1,0 +1,11 @@
+-- `state_check::by_tag` meets its contract. Assumes nothing.
+use Rattle.state_check.proofs.PartLaws.{tag-own, tag-one, tag-other, tag-none}
+use Rattle.state_check.proofs.by_tag.Statement.{statement}
+use Rattle.state_check.proofs.by_tag.Tie as tie
+
+pub by-tag-spec : {M : Type 1} → statement M
+by-tag-spec = tie.close (tie.spec
+    (λ c. let s = c .before .args in tag-own (s .tag) (s .p) (s .q) (s .r) (c .if1 .taken))
+    (λ c. let s = c .before .before .args in tag-one (s .tag) (s .p) (s .q) (s .r) (c .before .if1 .left) (c .if2 .taken))
+    (λ c. let s = c .before .before .before .args in tag-other (s .tag) (s .p) (s .q) (s .r) (c .before .before .if1 .left) (c .before .if2 .left) (c .if3 .taken))
+    (λ c. let s = c .before .before .before .args in tag-none (s .tag) (s .p) (s .q) (s .r) (c .before .before .if1 .left) (c .before .if2 .left) (c .if3 .left)))
