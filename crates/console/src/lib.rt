@@ -3,6 +3,7 @@
 ghost use Prim.Native.Nat.{_≤_};
 ghost use Rattle.io.specs.Counts.{Counts};
 use formats::EVENT_BYTES;
+use formats::LINE_BYTES;
 use libc::STDIN_FILENO;
 use libc::STDOUT_FILENO;
 use rows::MAX_ROWS;
@@ -13,7 +14,6 @@ use screens::count::COUNT_BYTES;
 use screens::turn::SCREEN_BYTES;
 use screens::turn::begin;
 use screens::turn::touch;
-use formats::LINE_BYTES;
 use state::STATE_SIZE;
 use state::STATE_WORDS;
 

@@ -1,16 +1,16 @@
 -- What the scan of a sheet's lines answers and keeps: for the contracts of the code's own functions only. Rests on formats' lines.
 use mathlib.Core.Path.{_≡_}
-use mathlib.Core.Bool.{Bool, true, false}
+use mathlib.Core.Bool.{Bool, true, false, _&&_}
 use mathlib.Core.Option.{Option, none, some}
-use mathlib.Core.List.{List, map}
-use Prim.Native.Nat.{ℕ, _*_}
+use mathlib.Core.List.{List}
+use Prim.Native.Nat.{ℕ, suc, _+_, _*_}
+use lib.Dec.{eqb}
 use lib.IntN.{ℤ, pos}
-use lib.Seq.{sets}
-use mir.Syntax.{w32}
-use mir.Val.{ofZ}
+use lib.ListN.{getD}
 use Rattle.word.specs.Word.{eqZ}
-use Rattle.decimal.specs.Field.{Field, number, unreadable}
-use Rattle.rows.specs.Rows.{rowWords}
+use Rattle.decimal.specs.Field.{Field, number, unreadable, rowColumns, newline, readsAt}
+use Rattle.formats.specs.Records.{total, placeOf}
+use Rattle.formats.specs.Lines.{lineColumns, lineBytes}
 use Rattle.rows.specs.Lent.{ownRows}
 
 -- whether a field says the number i
@@ -18,10 +18,13 @@ abbrev pub saysRow : Field → ℕ → Bool
 saysRow (number z) i = eqZ z (pos i)
 saysRow unreadable i = false
 
--- line i: whether it can be read; then its words stand in row i
-abbrev pub LineRead : Option (List ℤ) → List ℕ → ℕ → List ℕ → Bool → Type 0
-LineRead none own i own₁ r = r ≡ false
-LineRead (some zs) own i own₁ r = (r ≡ true) × (own₁ ≡ sets own (i * rowWords) (map (ofZ w32) zs))
+-- whether line i ends in byte 10 and begins with the number i
+abbrev pub isLine : List ℕ → ℕ → Bool
+isLine s i = eqb (getD s (i * lineBytes + total lineColumns) 0) newline && saysRow (readsAt s (i * lineBytes) rowColumns) i
+
+-- the field of word k of row i
+abbrev pub wordAt : List ℕ → ℕ → ℕ → Field
+wordAt s i k = readsAt s (i * lineBytes + placeOf lineColumns (suc k)) (getD lineColumns (suc k) 0)
 
 -- all lines: whether each can be read; then the words are theirs, with zeros after them
 abbrev pub LinesRead : Option (List ℤ) → List ℕ → Bool → Type 0

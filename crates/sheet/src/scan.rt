@@ -2,12 +2,12 @@
 ghost use mathlib.Core.Path.{_≡_};
 ghost use Prim.Native.Nat.{suc, _+_, _*_, _<_, _≤_};
 ghost use lib.ListN.{length, getD, replicate};
-ghost use Rattle.decimal.specs.Field.{readsAt, rowColumns};
+ghost use Rattle.decimal.specs.Field.{reading};
 ghost use Rattle.formats.specs.Records.{placeOf};
-ghost use Rattle.formats.specs.Lines.{lineColumns, lineBytes, lineSays, linesSay};
+ghost use Rattle.formats.specs.Lines.{lineColumns, lineBytes, linesSay};
 ghost use Rattle.rows.specs.Rows.{maxRows, rowWords};
 ghost use Rattle.rows.specs.Lent.{rowsSize};
-ghost use Rattle.sheet.specs.Scan.{saysRow, LineRead, LinesRead};
+ghost use Rattle.sheet.specs.Scan.{isLine, wordAt, LinesRead};
 use decimal::field;
 use decimal::field::NEWLINE;
 use decimal::field::ROW_COLUMNS;
@@ -39,51 +39,52 @@ fn place_of(k: usize) -> usize
     2 * ROW_COLUMNS + (k - 1) * WORD_COLUMNS
 }
 
-// Whether line i begins with the number i.
-fn is_row(sheet: &[u8], i: usize) -> bool
-    requires { ⌜ i < maxRows ⌝ }
-    ensures { λ r. ⌜ r ≡ saysRow (readsAt (now (sheet .entry)) (i * lineBytes) rowColumns) i ⌝ }
+// Whether line i ends in byte 10 and begins with the number i.
+fn is_line(sheet: &[u8], i: usize) -> bool
+    requires { ⌜ (i < maxRows) × (i * lineBytes + lineBytes ≤ length (now sheet)) ⌝ }
+    ensures { λ r. ⌜ r ≡ isLine (now (sheet .entry)) i ⌝ }
 {
-    let reading = field::read(sheet, i * LINE_BYTES, ROW_COLUMNS);
+    let at = i * LINE_BYTES;
+    if sheet[at + (LINE_BYTES - 1)] != NEWLINE {
+        return false;
+    }
+    let reading = field::read(sheet, at, ROW_COLUMNS);
     match reading {
         Reading::Number(n) => n as usize == i,
         Reading::Unreadable => false,
     }
 }
 
-// Whether line i can be read; then its words are kept in row i.
-fn read_line(sheet: &[u8], i: usize, own: &mut [u32; ROWS_WORDS]) -> bool
-    requires { ⌜ (i < maxRows) × (i * lineBytes + lineBytes ≤ length (now sheet)) ⌝ }
-    ensures { λ r. ⌜ LineRead (lineSays (now (sheet .entry)) i) (now (own .entry)) i (now (own .exit)) r ⌝ }
+// What word k of row i says.
+fn read_word(sheet: &[u8], i: usize, k: usize) -> Reading
+    requires { ⌜ (i < maxRows) × (k < rowWords) ⌝ }
+    ensures { λ r. ⌜ r ≡ reading (wordAt (now (sheet .entry)) i k) ⌝ }
 {
-    let at = i * LINE_BYTES;
-    if sheet[at + (LINE_BYTES - 1)] != NEWLINE {
-        return false;
-    }
-    if !is_row(sheet, i) {
-        return false;
-    }
-    for k in 0..ROW_WORDS {
-        let place = place_of(k);
-        let columns = columns_of(k);
-        let Reading::Number(w) = field::read(sheet, at + place, columns) else {
-            return false;
-        };
-        own[i * ROW_WORDS + k] = w;
-    }
-    true
+    let place = place_of(k);
+    let columns = columns_of(k);
+    field::read(sheet, i * LINE_BYTES + place, columns)
 }
 
-// Whether each of the first n lines can be read; then `own`, lent with zeros, holds their rows.
+// Whether each of the first n lines can be read; then `own`, lent with zeros, holds their rows. The scan is left at the first field
+// that cannot be read.
 pub fn read_lines(sheet: &[u8], n: usize, own: &mut [u32; ROWS_WORDS]) -> bool
     requires { ⌜ (n ≤ maxRows) × (n * lineBytes ≤ length (now sheet)) ⌝ }
     requires { ⌜ now own ≡ replicate rowsSize 0 ⌝ }
     ensures { λ r. ⌜ LinesRead (linesSay (now (sheet .entry)) n) (now (own .exit)) r ⌝ }
 {
-    for i in 0..n {
-        if !read_line(sheet, i, own) {
-            return false;
+    let mut good = true;
+    'lines: for i in 0..n {
+        if !is_line(sheet, i) {
+            good = false;
+            break 'lines;
+        }
+        for k in 0..ROW_WORDS {
+            let Reading::Number(w) = read_word(sheet, i, k) else {
+                good = false;
+                break 'lines;
+            };
+            own[i * ROW_WORDS + k] = w;
         }
     }
-    true
+    good
 }

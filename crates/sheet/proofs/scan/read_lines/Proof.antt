@@ -1,43 +1,80 @@
--- `read_lines` meets its contract: the first i lines can be read, and their rows are kept. Assumes nothing.
+-- `read_lines` meets its contract: the first i lines can be read, and their rows are kept; so are the first k words of the next.
+-- Assumes nothing.
+use mathlib.Core.Path.{_≡_, refl, sym, _∙_}
+use mathlib.Core.Bool.{true}
 use Prim.Native.Nat.{_-_, _≤_}
 use native.Mathlib.Omega.{arith}
 use borrow.Author.Needs.{needs}
-use Rattle.sheet.proofs.ScanLaws.{Rows, rows-none, rows-more, rows-stop, rows-all}
+use Rattle.rows.specs.Rows.{rowWords}
+use Rattle.sheet.proofs.ScanLaws.{line-none, line-stops, Kept, kept-none, kept-more, Rows, rows-none, rows-more, rows-stop, rows-all}
 use Rattle.sheet.proofs.scan.read_lines.Statement.{statement}
 use Rattle.sheet.proofs.scan.read_lines.Tie as tie
-use Rattle.sheet.proofs.scan.read_lines.Reads as reads
-use Rattle.sheet.proofs.scan.read_lines.Lts as lts
-use Rattle.sheet.proofs.scan.read_line.Reads as read-line-reads
 
 abbrev Inv-loop : tie.InvT-loop
-Inv-loop sheet n own₀ i₀ own i = (i ≤ n) × Rows sheet i own
+Inv-loop sheet n own₀ good₀ i k₀ own good k = (k ≤ rowWords) × (good ≡ true) × Kept sheet i own₀ k own
 
 abbrev μ-loop : tie.MeasureT-loop
-μ-loop sheet n own₀ i₀ own i = n - i
+μ-loop sheet n own₀ good₀ i k₀ own good k = rowWords - k
 
-loop-holds : tie.Need-loop-holds Inv-loop μ-loop
-loop-holds c = let start = c .before in (search needs, rows-none (start .args .sheet .now) (start .args .own .now) (start .pre .1))
+abbrev Inv-lines : tie.InvT-lines
+Inv-lines sheet n own₀ good₀ i₀ own good i = (i ≤ n) × (good ≡ true) × Rows sheet i own
 
-returns : tie.Need-returns Inv-loop μ-loop
-returns c =
+abbrev μ-lines : tie.MeasureT-lines
+μ-lines sheet n own₀ good₀ i₀ own good i = n - i
+
+lines-holds : tie.Need-lines-holds Inv-loop μ-loop Inv-lines μ-lines
+lines-holds c = let start = c .before in (search needs, refl, rows-none (start .args .sheet .now) (start .args .own .now) (start .pre .1))
+
+loop-holds : tie.Need-loop-holds Inv-loop μ-loop Inv-lines μ-lines
+loop-holds c =
     let line = c .before in
-    let loop = line .before .before .before in
-    let start = loop .before .before in
-    let own = line .read-line .last .1 .1 .0 in
-    rows-stop (start .args .sheet .now) (loop .loop .own) own own (loop .loop .i) (start .args .n) (line .read-line .result) (line .read-line .ensures) (c .if1 .taken) (line .before .before .loop-test .taken)
+    let lines = line .before .before in
+    let start = lines .before .before in
+    (search needs, lines .lines .inv .1, kept-none (start .args .sheet .now) (lines .lines .i) (lines .lines .own) (line .is-line .result) (line .is-line .ensures) (c .if1 .left))
 
-loop-again : tie.Need-loop-again Inv-loop μ-loop
+loop-again : tie.Need-loop-again Inv-loop μ-loop Inv-lines μ-lines
 loop-again c =
-    let line = c .before in
-    let loop = line .before .before .before in
-    let start = loop .before .before in
-    (omega arith, rows-more (start .args .sheet .now) (loop .loop .own) (line .read-line .last .1 .1 .0) (loop .loop .i) (line .read-line .result) (line .read-line .ensures) (c .if1 .left) (omega arith) (loop .loop .inv .1))
+    let told = c .before in
+    let read = told .before .before in
+    let loop = read .before .before in
+    let lines = loop .before .before .before .before in
+    let start = lines .before .before in (
+      omega arith,
+      loop .loop .inv .1,
+      kept-more (start .args .sheet .now) (lines .lines .i) (lines .lines .own) (told .w .given .0 .0) (read .before .loop-test .taken) (loop .loop .inv .2) (sym (told .w .given .1) ∙ read .read-word .ensures),
+    )
 
-returns-2 : tie.Need-returns-2 Inv-loop μ-loop
-returns-2 c =
+lines-again : tie.Need-lines-again Inv-loop μ-loop Inv-lines μ-lines
+lines-again c =
     let loop = c .before in
-    let start = loop .before .before in
-    rows-all (start .args .sheet .now) (loop .loop .own) (loop .loop .i) (start .args .n) (omega arith) (loop .loop .inv .1)
+    let lines = loop .before .before .before .before in
+    let start = lines .before .before in
+    (omega arith, loop .loop .inv .1, rows-more (start .args .sheet .now) (lines .lines .i) (loop .loop .k) (omega arith) (omega arith) (lines .lines .inv .2) (loop .loop .inv .2))
+
+returns : tie.Need-returns Inv-loop μ-loop Inv-lines μ-lines
+returns c =
+    let lines = c .before in
+    let start = lines .before .before in
+    rows-all (start .args .sheet .now) (lines .lines .own) (lines .lines .good) (lines .lines .i) (start .args .n) (omega arith) (lines .lines .inv .1) (lines .lines .inv .2)
+
+returns-2 : tie.Need-returns-2 Inv-loop μ-loop Inv-lines μ-lines
+returns-2 c =
+    let line = c .before in
+    let lines = line .before .before in
+    let start = lines .before .before in
+    rows-stop (start .args .sheet .now) (lines .lines .own) (lines .lines .i) (start .args .n) (line .before .lines-test .taken)
+    (line-none (start .args .sheet .now) (lines .lines .i) (line .is-line .result) (line .is-line .ensures) (c .if1 .taken))
+
+returns-3 : tie.Need-returns-3 Inv-loop μ-loop Inv-lines μ-lines
+returns-3 c =
+    let read = c .before .before in
+    let loop = read .before .before in
+    let lines = loop .before .before .before .before in
+    let start = lines .before .before in
+    rows-stop (start .args .sheet .now) (loop .loop .own) (lines .lines .i) (start .args .n) (loop .before .before .before .lines-test .taken)
+    (line-stops (start .args .sheet .now) (lines .lines .i) (read .before .loop-test .taken) (sym (c .enum-told .given .1) ∙ read .read-word .ensures))
 
 pub read-lines-spec : {M : Type 1} → statement M
-read-lines-spec = tie.close (tie.spec Inv-loop μ-loop loop-holds (λ c κs. search needs) returns (λ c. search needs) (λ c. search needs) loop-again returns-2)
+read-lines-spec = tie.close (tie.spec Inv-loop μ-loop Inv-lines μ-lines
+    lines-holds (λ c κs. search needs) loop-holds (λ c κs. search needs) (λ c. search needs) (λ c. search needs) (λ c. search needs) (λ c. search needs)
+    (λ c. search needs) (λ c. search needs) (λ c. search needs) (λ c. search needs) loop-again (λ c. search needs) (λ c. search needs) lines-again returns returns-2 returns-3)
