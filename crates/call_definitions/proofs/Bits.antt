@@ -6,20 +6,21 @@ use mathlib.Core.List.{List, [], _∷_, _++_}
 use Prim.Native.Nat.{ℕ, zero, suc, _*_, _-_, _<_, _≤_}
 use native.Mathlib.Omega.{arith}
 use lib.Dec.{lit<}
-use lib.IntN.{ℤ, pos}
+use lib.IntN.{pos}
 use lib.ListN.{length, getD, set, replicate}
-use Rattle.word.specs.Word.{words, IsWord, AllWords, AllBits}
+use Rattle.word.specs.Word.{words, AllWords, AllBits}
 use Rattle.word.proofs.Lists.{words-append, bits-bits, bits-replicate}
 use Rattle.tophat.specs.Syntax.{maxLeaves, Ty, leaves, Code, Val, vunit, TaskOf, Store}
-use Rattle.tophat.specs.Typing.{ValueType, v-unit, v-truth, v-number, v-pair, ValueTypes, v-nil, v-cons, TaskType, k-filled, k-blank, k-entered, k-shared, k-then-before, k-then-after, k-next-before, k-next-after, AllSmall, small-nil, small-cons}
+use Rattle.tophat.specs.Typing.{ValueType, v-unit, ValueTypes, v-nil, v-cons, TaskType, k-filled, k-blank, k-entered, k-shared, k-then-before, k-then-after, k-next-before, k-next-after, AllSmall, small-nil, small-cons}
 use Rattle.tophat.specs.Typing.{k-failed, k-both, k-either, k-or-left, k-or-right, k-unpicked, k-picked-left, k-picked-right, k-if-true, k-if-false, k-bound}
 use Rattle.tophat.specs.Leaves.{leavesOf, padded}
 use Rattle.tophat.proofs.Leaves.{type-of}
 use Rattle.tophat.proofs.TypeLeaves.{type-leaves, task-type-leaves}
-use Rattle.shape.specs.Digits.{width}
 use Rattle.shape.specs.Shape.{asShape}
 use Rattle.shape.proofs.Puts.{shape-range}
+use Rattle.shape.proofs.Laws.{width-fits}
 use Rattle.value.specs.Values.{leafBits}
+use Rattle.value.proofs.Meaning.{leaves-words}
 use Rattle.rows.specs.Kinds.{cellK}
 use Rattle.rows.specs.Rows.{opA, opB, opC, isKind}
 use Rattle.state.specs.Layout.{stateWords, place, own, valueWords, putWords, valued, writeTask, writeCells, encode}
@@ -35,35 +36,15 @@ words-zero zero i = lit< tt
 words-zero (suc n) zero = lit< tt
 words-zero (suc n) (suc i) = words-zero n i
 
-words-one : (z : ℤ) → IsWord z → AllWords (z ∷ [])
-words-one z h zero = h
-words-one z h (suc i) = lit< tt
-
-leaves-words : {v : Val} {τ : Ty} → ValueType v τ → AllWords (leavesOf v)
-unfolding leavesOf
-leaves-words v-unit = words-one (pos 0) (lit< tt)
-leaves-words (v-truth {b = true}) = words-one (pos 1) (lit< tt)
-leaves-words (v-truth {b = false}) = words-one (pos 0) (lit< tt)
-leaves-words (v-number {n = n} h) = words-one n h
-leaves-words (v-pair {v = v} {w = w} g h) = words-append (leavesOf v) (leavesOf w) (leaves-words g) (leaves-words h)
-
 leaf-bits : {v : Val} {τ : Ty} → ValueType v τ → Bits (leafBits v)
 unfolding leafBits padded
 leaf-bits {v} t =
     let zs = replicate (maxLeaves - length (leavesOf v)) (pos 0) in
     record { bits = bits-bits (leavesOf v ++ zs) (words-append (leavesOf v) zs (leaves-words t) (words-zero (maxLeaves - length (leavesOf v)))) }
 
-width-small : (n : ℕ) → n ≤ maxLeaves → width n < words
-unfolding width
-width-small zero l = lit< tt
-width-small (suc zero) l = lit< tt
-width-small (suc (suc zero)) l = lit< tt
-width-small (suc (suc (suc zero))) l = lit< tt
-width-small (suc (suc (suc (suc zero)))) l = lit< tt
-width-small (suc (suc (suc (suc (suc n))))) l = absurd (omega arith)
-
+-- the largest type's number is a word
 shape-small : (τ : Ty) → leaves τ ≤ maxLeaves → asShape τ < words
-shape-small τ l = let h = shape-range τ .0 in let k = width-small (leaves τ) l in omega arith
+shape-small τ l = let h = shape-range τ .0 in let k = width-fits (leaves τ) l in omega (arith, h, k)
 
 cons-at : {x : ℕ} {xs : List ℕ} → x < words → Bits xs → (i : ℕ) → getD (x ∷ xs) i 0 < words
 cons-at h k zero = h

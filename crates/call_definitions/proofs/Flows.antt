@@ -1,10 +1,9 @@
 -- Accepted flows: rows memory of words passes the test of ground 20 exactly where some accepted sheet loads to it; then it is an accepted
 -- flow, of one code, one list of cells' types, one first store and one type. Rests on LoadAnswered, sheet's theorem of ground 20 and rows' one-flow.
-use mathlib.Core.Path.{_≡_, sym, ap, subst}
+use mathlib.Core.Path.{_≡_, subst}
 use mathlib.Core.Bool.{true, false}
 use mathlib.Core.List.{List}
-use Prim.Native.Nat.{ℕ, _-_, _≤_}
-use native.Mathlib.Omega.{arith}
+use Prim.Native.Nat.{_-_}
 use borrow.Table.Steps.{cases}
 use lib.IntN.{ℤ}
 use Rattle.word.specs.Word.{AllWords}

@@ -5,7 +5,7 @@ use mathlib.Core.Bool.{Bool, true, false, _&&_}
 use mathlib.Core.Option.{Option, none, some}
 use mathlib.Core.List.{List, []}
 use Prim.Native.Nat.{ℕ, _*_}
-use borrow.Author.Tests.{eq-eqb, eqb-true, eqb-false}
+use borrow.Author.Tests.{eq-eqb, eqb-true}
 use borrow.Table.Steps.{cases}
 use lib.Dec.{eqb}
 use lib.IntN.{ℤ}
@@ -18,6 +18,7 @@ use Rattle.tophat.proofs.ComputeNormalising.{stride}
 use Rattle.rows.specs.GroundNumbers.{notAccepted, wrongMemory}
 use Rattle.rows.specs.Lent.{rowCount}
 use Rattle.rows.proofs.Basics.{no}
+use Rattle.word.specs.Decides.{Decides}
 use Rattle.sheet.specs.Accepted.{acceptsRows}
 use Rattle.state.specs.Layout.{stateWords}
 use Rattle.call_definitions.specs.Answers.{Loads, AcceptedFlow, HasRoom, Writes, IsRest, Shut, shut-20, shut-21, shut-22, shut-23}
@@ -25,13 +26,8 @@ use Rattle.call_definitions.specs.Calls.{Opened, refusedBy, restOf, atRe
 use Rattle.call_definitions.proofs.Flows.{loads-accepts, accepts-loads, accepts-not, flow-of}
 use Rattle.call_definitions.proofs.Opening.{decodedFrom, opened-is, unmoved, still-of, state-length, decodes, decoded-writes, undecoded}
 
--- a test that decides
-pub record Decides (b : Bool) (P : Type 0) : Type 0 where
-  pub holds : b ≡ true → P
-  pub fails : b ≡ false → P → ⊥
-
 decided : {b : Bool} {P : Type 0} → Decides b P → P → b ≡ true
-decided {b} d p = cases b (λ t. t) (λ f. absurd (d .fails f p))
+decided {b} d p = cases b (λ t. t) (λ f. absurd (d .no f p))
 
 module _ (rows ws : List ℤ) (Fits : Type 0) where
   -- what rows and words open to
@@ -89,7 +85,7 @@ module _ (rows ws : List ℤ) (Fits : Type 0) where
         by-fit t a y =
             let (p, q) = split _ b y in
             let r = eqb-true _ _ p in
-            subst Opens (sym (ap (opened rows ws) q ∙ opened-is a ws r)) (by-read a r (d .holds q) (decodedFrom a ws) refl)
+            subst Opens (sym (ap (opened rows ws) q ∙ opened-is a ws r)) (by-read a r (d .yes q) (decodedFrom a ws) refl)
 
     -- ---- and no other ground
 
@@ -107,7 +103,7 @@ module _ (rows ws : List ℤ) (Fits : Type 0) where
     pub shut-only : {g : ℕ} (b : Bool) → Decides b Fits → Shut rows ws Fits g → opened rows ws b ≡ refusedBy g
     unfolding decoded atRest
     shut-only b d (shut-20 n) = opened-20 (accepts-not n wr) b
-    shut-only b d (shut-21 l n) = opened-21 (loads-accepts l) b (both-false _ b (λ p q. n (eqb-true _ _ p, d .holds q)))
+    shut-only b d (shut-21 l n) = opened-21 (loads-accepts l) b (both-false _ b (λ p q. n (eqb-true _ _ p, d .yes q)))
     shut-only b d (shut-22 {c} a l f n) = ap (opened rows ws) (decided d f) ∙ opened-is a ws l ∙ ap (decoded c) (no-state a l n)
     shut-only b d (shut-23 {c} {t = t} {s = s} a f w n) =
         let o : decodedFrom a ws ≡ some (t, s) = ap (decodedFrom a) (w .written) ∙ decodes a (w .typed) (w .stored) in

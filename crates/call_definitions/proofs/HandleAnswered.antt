@@ -1,12 +1,13 @@
 -- Handle by the rules alone: for every rows memory and state memory of words and every event the relation derives what handle answers and
 -- leaves, and nothing else. Rests on Grounds.
 use mathlib.Core.Path.{_≡_, refl, sym, ap, subst, _∙_}
-use mathlib.Core.Bool.{true, false}
+use mathlib.Core.Bool.{true}
 use mathlib.Core.Option.{Option, none, some}
 use mathlib.Core.List.{List, []}
 use Prim.Native.Nat.{ℕ}
 use lib.IntN.{ℤ}
 use Rattle.word.specs.Word.{AllWords}
+use Rattle.word.specs.Decides.{Decides}
 use Rattle.decimal.specs.Path.{Path}
 use Rattle.tophat.specs.Syntax.{Ty, Code, TaskOf, Store}
 use Rattle.tophat.specs.Typing.{v-nil}
@@ -14,7 +15,6 @@ use Rattle.tophat.specs.Normalising.{Normalises}
 use Rattle.tophat.specs.Handling.{Action, Handles}
 use Rattle.tophat.specs.Runs.{Refuses}
 use Rattle.tophat.proofs.Basics.{All, all-none, all-some}
-use Rattle.tophat.proofs.ComputeNormalising.{normalise}
 use Rattle.tophat.proofs.ComputeHandling as compute
 use Rattle.tophat.proofs.NormalisingSound.{normalise-sound}
 use Rattle.tophat.proofs.NormalisingComplete.{normalises-is}
@@ -28,7 +28,7 @@ use Rattle.call_definitions.specs.Memory.{stateOf, CallAnswer, refusal}
 use Rattle.call_definitions.specs.Answers.{AcceptedFlow, IsRest, HandleAnswers, handle-shut, handle-8, handle-9, handle-0}
 use Rattle.call_definitions.specs.Calls.{Opened, refusedBy, restOf, opened, handled, handleRead, handleIn, handleCall}
 use Rattle.call_definitions.proofs.Opening.{opens}
-use Rattle.call_definitions.proofs.Grounds.{Decides, Opens, open-shut, open-rest, opened-derived, shut-only}
+use Rattle.call_definitions.proofs.Grounds.{Opens, open-shut, open-rest, opened-derived, shut-only}
 
 module _ {rows ws : List ℤ} {c : Code} {Σ : List Ty} {τ : Ty} (a : AcceptedFlow rows c Σ τ) (r : IsRest rows ws c Σ τ) (event : List ℕ) where
   abbrev t : TaskOf c
@@ -86,8 +86,8 @@ module _ {rows ws : List ℤ} {c : Code} {Σ : List Ty} {τ : Ty} (a : AcceptedF
 
 -- ---- every memory
 
-yes : Decides true (Unit {0})
-yes = record { holds = λ e. tt; fails = λ e u. no (sym e) }
+always : Decides true (Unit {0})
+always = record { yes = λ e. tt; no = λ e u. no (sym e) }
 
 module _ (rows ws : List ℤ) (event : List ℕ) (wr : AllWords rows) (ww : AllWords ws) where
   by-opened : (o : Opened) → opened rows ws true ≡ o → Opens rows ws (Unit {0}) o → HandleAnswers rows ws event (handleIn rows ws (eventOf event) o)
@@ -98,12 +98,12 @@ module _ (rows ws : List ℤ) (event : List ℕ) (wr : AllWords rows) (ww : AllW
   -- what handle answers is derived
   pub handle-derived : HandleAnswers rows ws event (handleCall rows ws event)
   unfolding handleCall
-  handle-derived = by-opened (opened rows ws true) refl (opened-derived rows ws (Unit {0}) wr ww true yes)
+  handle-derived = by-opened (opened rows ws true) refl (opened-derived rows ws (Unit {0}) wr ww true always)
 
   -- and nothing else
   pub handle-only : {r : CallAnswer} → HandleAnswers rows ws event r → handleCall rows ws event ≡ r
   unfolding handleCall handleIn handleRead handled
-  handle-only (handle-shut d) = ap (handleIn rows ws (eventOf event)) (shut-only rows ws (Unit {0}) wr ww true yes d)
+  handle-only (handle-shut d) = ap (handleIn rows ws (eventOf event)) (shut-only rows ws (Unit {0}) wr ww true always d)
   handle-only (handle-8 a r e) = answer-8 a r event e
   handle-only (handle-9 a r e n) = answer-9 a r event e n
   handle-only (handle-0 {c} a r e h d) =

@@ -10,6 +10,7 @@ use lib.Dec.{leb, eqb}
 use lib.IntN.{ℤ}
 use lib.ListN.{length, drop}
 use Rattle.word.specs.Word.{AllWords}
+use Rattle.word.specs.Decides.{Decides}
 use Rattle.tophat.specs.Syntax.{maxLeaves, Ty, Code, TaskOf, Store}
 use Rattle.tophat.specs.Typing.{v-nil}
 use Rattle.tophat.specs.Normalising.{value, Fails}
@@ -26,7 +27,7 @@ use Rattle.call_definitions.specs.Memory.{LookAnswer, lookRefusal, flag,
 use Rattle.call_definitions.specs.Answers.{AcceptedFlow, IsRest, LookAnswers, look-shut, look-24, look-0}
 use Rattle.call_definitions.specs.Calls.{Opened, refusedBy, restOf, opened, lookIn, lookCall}
 use Rattle.call_definitions.proofs.Opening.{opens}
-use Rattle.call_definitions.proofs.Grounds.{Decides, Opens, open-shut, open-rest, opened-derived, shut-only}
+use Rattle.call_definitions.proofs.Grounds.{Opens, open-shut, open-rest, opened-derived, shut-only}
 
 -- what a look with room answers
 abbrev pub looking : (c : Code) → TaskOf c → Store → List Entry → Bool → List ℕ → LookAnswer
@@ -79,7 +80,7 @@ module _ {rows ws : List ℤ} {c : Code} {Σ : List Ty} {τ : Ty} (a : AcceptedF
 -- ---- every memory
 
 fitting : (values : List ℤ) → Decides (eqb (length values) maxLeaves) (length values ≡ maxLeaves)
-fitting values = record { holds = λ e. eqb-true (length values) maxLeaves e; fails = λ e l. eqb-false (length values) maxLeaves e l }
+fitting values = record { yes = λ e. eqb-true (length values) maxLeaves e; no = λ e l. eqb-false (length values) maxLeaves e l }
 
 module _ (rows ws values : List ℤ) (list : List ℕ) (wr : AllWords rows) (ww : AllWords ws) where
   abbrev fits : Bool

@@ -1,7 +1,7 @@
 -- What look and handle find in an accepted flow's rows and in the writing of a well-typed rest: that task in that store
 -- (01, grounds 20 to 23 do not hold). Rests on Flows, state's theorem of ground 22, and Bits.
 use mathlib.Core.Path.{_≡_, sym, ap, subst, _∙_}
-use mathlib.Core.Bool.{Bool, true, false, cond}
+use mathlib.Core.Bool.{true, false}
 use mathlib.Core.Option.{Option, none, some}
 use mathlib.Core.List.{List, []}
 use Prim.Native.Nat.{ℕ, _*_, _-_, _≤_}
@@ -20,7 +20,7 @@ use Rattle.tophat.proofs.Progress.{flag-is}
 use Rattle.tophat.proofs.NormalisingSound.{strides-sound}
 use Rattle.tophat.proofs.NormalisingComplete.{strides-is}
 use Rattle.tophat.proofs.Bound.{normal-still}
-use Rattle.rows.specs.Rows.{rowWords, word, movers}
+use Rattle.rows.specs.Rows.{word, movers}
 use Rattle.rows.specs.Lent.{ownRows, rowCount}
 use Rattle.rows.specs.ComputeTrees.{cellTypes}
 use Rattle.rows.specs.Accepted.{AcceptedRows}
@@ -32,14 +32,14 @@ use Rattle.sheet.specs.Accepted.{acceptsRows}
 use Rattle.state.specs.Layout.{stateWords, encode}
 use Rattle.state.specs.Lent.{ownOf, lentOf}
 use Rattle.state.specs.Reading.{decode}
-use Rattle.state.proofs.LentLaws.{own-length, lent-length, own-lent, lent-own}
+use Rattle.state.proofs.LentLaws.{lent-length, own-lent, lent-own}
 use Rattle.state.proofs.SitsOf.{state-writing, state-one}
 use Rattle.state.proofs.Reading.{decode-is, decode-sound}
 use Rattle.call_definitions.specs.Memory.{stateOf}
 use Rattle.call_definitions.specs.Answers.{AcceptedFlow, HasRoom, Writes}
-use Rattle.call_definitions.specs.Calls.{refusedBy, restOf, atRest, decoded, readWith, codeOf, opened}
+use Rattle.call_definitions.specs.Calls.{restOf, atRest, decoded, readWith, codeOf, opened}
 use Rattle.call_definitions.proofs.Bits.{encode-bits}
-use Rattle.call_definitions.proofs.Flows.{loads-passed, loads-accepts, loads-found}
+use Rattle.call_definitions.proofs.Flows.{loads-passed, loads-accepts}
 
 module _ {rows : List ℤ} {c : Code} {Σ : List Ty} {τ : Ty} (a : AcceptedFlow rows c Σ τ) where
   abbrev rs : List ℕ

@@ -5,7 +5,7 @@ use mathlib.Core.Bool.{Bool, true, false}
 use mathlib.Core.Option.{Option, none, some}
 use mathlib.Core.Logic.{_⊎_, inl, inr, ⊎-elim, _↔_}
 use mathlib.Core.List.{List, [], _∷_}
-use Prim.Native.Nat.{ℕ, _+_, _*_, _<_, _≤_}
+use Prim.Native.Nat.{ℕ, _<_, _≤_}
 use native.Mathlib.Omega.{arith}
 use borrow.Author.Tests.{ne-eqb, eqb-true, eqb-false}
 use borrow.Table.Steps.{cases}
@@ -15,8 +15,6 @@ use lib.ListN.{length}
 use Rattle.decimal.specs.Path.{Path}
 use Rattle.tophat.specs.Syntax.{maxLeaves, Ty, Code, TaskOf, Store}
 use Rattle.tophat.specs.Typing.{small-nil}
-use Rattle.tophat.specs.Normalising.{Fails}
-use Rattle.tophat.specs.Quiet.{Quiet}
 use Rattle.tophat.specs.Handling.{Action}
 use Rattle.tophat.specs.Showing.{Entry}
 use Rattle.tophat.specs.Runs.{Accepts, Refuses, Stands as TreeStands}
@@ -25,7 +23,7 @@ use Rattle.tophat.proofs.EntriesAgree.{shows-is}
 use Rattle.tophat.proofs.Bound.{normalises-bound}
 use Rattle.tophat.proofs.ResidualTyped.{residual-typed}
 use Rattle.tophat.proofs.EveryRun.{rest-stands}
-use Rattle.formats.specs.Touches.{entryBytes, eventOf}
+use Rattle.formats.specs.Touches.{eventOf}
 use Rattle.formats.specs.Lists.{listText, CoversAt, Fits}
 use Rattle.formats.proofs.EntriesFit.{entries-fit}
 use Rattle.formats.proofs.ListsRead.{list-length}
@@ -36,7 +34,7 @@ use Rattle.rows.proofs.CellsAt.{cells-small}
 use Rattle.rows.specs.GroundNumbers.{notHandled, wrongMemory, listTooShort}
 use Rattle.call_definitions.specs.Memory.{CallAnswer, refusal, LookAnswer, lookRefusal}
 use Rattle.call_definitions.specs.Answers.{AcceptedFlow, IsRest, LookAnswers, look-shut, shut-21}
-use Rattle.call_definitions.specs.Calls.{restOf, opened, lookIn, lookCall, handleCall}
+use Rattle.call_definitions.specs.Calls.{opened, lookIn, lookCall, handleCall}
 use Rattle.call_definitions.specs.Touches.{Call, look, handle, after, Bounded, Stands}
 use Rattle.call_definitions.proofs.Opening.{moving, marks-fit, state-once}
 use Rattle.call_definitions.proofs.Grounds.{opened-misfit}

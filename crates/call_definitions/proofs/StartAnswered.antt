@@ -3,7 +3,7 @@
 use mathlib.Core.Path.{_≡_, refl, sym, ap, subst, _∙_}
 use mathlib.Core.Bool.{true, false}
 use mathlib.Core.List.{List, []}
-use Prim.Native.Nat.{ℕ, _+_, _*_, _≤_}
+use Prim.Native.Nat.{ℕ, _*_}
 use native.Mathlib.Omega.{arith}
 use borrow.Author.Tests.{eq-eqb, ne-eqb, eqb-true, eqb-false}
 use borrow.Table.Steps.{cases}
@@ -21,8 +21,7 @@ use Rattle.tophat.proofs.NormalisingSound.{normalise-sound}
 use Rattle.tophat.proofs.NormalisingComplete.{normalises-is}
 use Rattle.tophat.proofs.Bound.{normalises-bound, normal-rest}
 use Rattle.rows.specs.GroundNumbers.{notAccepted, wrongMemory}
-use Rattle.rows.specs.Lent.{ownRows, rowCount}
-use Rattle.rows.specs.ComputeTrees.{firstStore}
+use Rattle.rows.specs.Lent.{rowCount}
 use Rattle.rows.proofs.Basics.{no}
 use Rattle.rows.proofs.TreesAgree.{cells-are}
 use Rattle.rows.proofs.CellsAt.{store-typed}
@@ -30,7 +29,7 @@ use Rattle.rows.proofs.LentLaws.{own-bits}
 use Rattle.sheet.specs.Accepted.{acceptsRows}
 use Rattle.state.specs.Layout.{stateWords}
 use Rattle.call_definitions.specs.Memory.{stateOf, CallAnswer, refusal}
-use Rattle.call_definitions.specs.Answers.{Loads, AcceptedFlow, HasRoom, IsRest, StartAnswers, start-20, start-21, start-0}
+use Rattle.call_definitions.specs.Answers.{AcceptedFlow, HasRoom, IsRest, StartAnswers, start-20, start-21, start-0}
 use Rattle.call_definitions.specs.Calls.{startWith, startCall}
 use Rattle.call_definitions.specs.Touches.{Started, Bounded}
 use Rattle.call_definitions.proofs.Flows.{loads-words, loads-accepts, accepts-loads, accepts-not, flow-of}

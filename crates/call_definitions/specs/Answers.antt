@@ -25,7 +25,7 @@ use Rattle.rows.specs.GroundNumbers.{notSized, notRead, eventNotRead, notHandle
 use Rattle.rows.specs.Rows.{maxRows, rowWords}
 use Rattle.rows.specs.Lent.{ownRows, rowCount}
 use Rattle.rows.specs.Trees.{Flow}
-use Rattle.rows.specs.Ground.{Formed, Small, RowsGround}
+use Rattle.rows.specs.Ground.{WellFormed, Small, RowsGround}
 use Rattle.state.specs.Layout.{stateWords}
 use Rattle.call_definitions.specs.Memory.{stateOf, CallAnswer, refusal, LookAnswer, lookRefusal, flag, valueMemory, hasOne}
 
@@ -51,7 +51,7 @@ pub data LoadAnswers (text : List ℕ) (memory : List ℤ) : ℕ → List ℤ �
   load-rows : {n g : ℕ} {ws : List ℤ} → Reads text memory n ws → RowsGround (ownRows ws) n (suc g) → LoadAnswers text memory (suc g) memory
   -- a sheet is accepted exactly when it can be read, keeps 01's form and limits, and the typing rules give its last row a type
   load-0 : {n : ℕ} {ws : List ℤ} {c : Code} {Σ : List Ty} {s : Store} {τ : Ty}
-      → Reads text memory n ws → Formed (ownRows ws) n → Small (ownRows ws) n → Flow (ownRows ws) n c Σ s τ → LoadAnswers text memory 0 ws
+      → Reads text memory n ws → WellFormed (ownRows ws) n → Small (ownRows ws) n → Flow (ownRows ws) n c Σ s τ → LoadAnswers text memory 0 ws
 
 -- ---- flows and their states
 
@@ -91,26 +91,31 @@ pub data StartAnswers (rows memory : List ℤ) : CallAnswer → Type 0 where
   start-20 : (Loads rows → ⊥) → StartAnswers rows memory (refusal notAccepted memory)
   start-21 : Loads rows → (HasRoom rows memory → ⊥) → StartAnswers rows memory (refusal wrongMemory memory)
   -- 01: "Normalise: evaluate, then stride until a stride changes neither task nor store", from the cells' first contents
-  start-0 : {c : Code} {Σ : List Ty} {τ : Ty} {t₁ t₂ : TaskOf c} {s₁ s₂ : Store} {n : ℕ} (a : AcceptedFlow rows c Σ τ) → HasRoom rows memory
-      → EvaluatesTask c [] (a .first) t₁ s₁ → Normalises c [] s₁ t₁ t₂ s₂ n → StartAnswers rows memory (record { number = 0; strides = n; state = stateOf rows c t₂ s₂ })
+  start-0 : {c : Code} {Σ : List Ty} {τ : Ty} {t₁ t₂ : TaskOf c} {s₁ s₂ : Store} {n : ℕ} (a : AcceptedFlow rows c Σ τ)
+      → HasRoom rows memory → EvaluatesTask c [] (a .first) t₁ s₁ → Normalises c [] s₁ t₁ t₂ s₂ n
+      → StartAnswers rows memory (record { number = 0; strides = n; state = stateOf rows c t₂ s₂ })
 
 -- ---- look and handle: 20 to 23 first, where Fits says that the other memory is of its exact length
 
 pub data Shut (rows ws : List ℤ) (Fits : Type 0) : ℕ → Type 0 where
   shut-20 : (Loads rows → ⊥) → Shut rows ws Fits notAccepted
   shut-21 : Loads rows → (HasRoom rows ws × Fits → ⊥) → Shut rows ws Fits wrongMemory
-  shut-22 : {c : Code} {Σ : List Ty} {τ : Ty} → AcceptedFlow rows c Σ τ → HasRoom rows ws → Fits
-      → ((t : TaskOf c) (s : Store) → Writes rows ws c Σ τ t s → ⊥) → Shut rows ws Fits notState
-  shut-23 : {c : Code} {Σ : List Ty} {τ : Ty} {t : TaskOf c} {s : Store} → AcceptedFlow rows c Σ τ → Fits
-      → Writes rows ws c Σ τ t s → (Normalises c [] s t t s 1 → ⊥) → Shut rows ws Fits notAtRest
+  shut-22 : {c : Code} {Σ : List Ty} {τ : Ty}
+      → AcceptedFlow rows c Σ τ → HasRoom rows ws → Fits → ((t : TaskOf c) (s : Store) → Writes rows ws c Σ τ t s → ⊥)
+      → Shut rows ws Fits notState
+  shut-23 : {c : Code} {Σ : List Ty} {τ : Ty} {t : TaskOf c} {s : Store}
+      → AcceptedFlow rows c Σ τ → Fits → Writes rows ws c Σ τ t s → (Normalises c [] s t t s 1 → ⊥)
+      → Shut rows ws Fits notAtRest
 
 pub data LookAnswers (rows ws values : List ℤ) (list : List ℕ) : LookAnswer → Type 0 where
   look-shut : {g : ℕ} → Shut rows ws (length values ≡ maxLeaves) g → LookAnswers rows ws values list (lookRefusal g values list)
-  look-24 : {c : Code} {Σ : List Ty} {τ : Ty} {es : List Entry} → AcceptedFlow rows c Σ τ → (r : IsRest rows ws c Σ τ) → length values ≡ maxLeaves
-      → Shows c [] (r .store) (r .task) es → length list < length es * entryBytes → LookAnswers rows ws values list (lookRefusal listTooShort values list)
+  look-24 : {c : Code} {Σ : List Ty} {τ : Ty} {es : List Entry} → AcceptedFlow rows c Σ τ → (r : IsRest rows ws c Σ τ)
+      → length values ≡ maxLeaves → Shows c [] (r .store) (r .task) es → length list < length es * entryBytes
+      → LookAnswers rows ws values list (lookRefusal listTooShort values list)
   -- 01: "Bytes after it keep their content"
-  look-0 : {c : Code} {Σ : List Ty} {τ : Ty} {es : List Entry} {x : Bool} → AcceptedFlow rows c Σ τ → (r : IsRest rows ws c Σ τ) → length values ≡ maxLeaves
-      → Shows c [] (r .store) (r .task) es → length es * entryBytes ≤ length list → Fails c [] (r .store) (r .task) x
+  look-0 : {c : Code} {Σ : List Ty} {τ : Ty} {es : List Entry} {x : Bool} → AcceptedFlow rows c Σ τ → (r : IsRest rows ws c Σ τ)
+      → length values ≡ maxLeaves → Shows c [] (r .store) (r .task) es → length es * entryBytes ≤ length list
+      → Fails c [] (r .store) (r .task) x
       → LookAnswers rows ws values list (record {
         number = 0;
         hasValue = hasOne (value c (r .task) (r .store));
@@ -123,10 +128,13 @@ pub data LookAnswers (rows ws values : List ℤ) (list : List ℕ) : LookAnswer 
 -- 20 to 23, 8, 9
 pub data HandleAnswers (rows ws : List ℤ) (event : List ℕ) : CallAnswer → Type 0 where
   handle-shut : {g : ℕ} → Shut rows ws (Unit {0}) g → HandleAnswers rows ws event (refusal g ws)
-  handle-8 : {c : Code} {Σ : List Ty} {τ : Ty} → AcceptedFlow rows c Σ τ → IsRest rows ws c Σ τ → eventOf event ≡ none → HandleAnswers rows ws event (refusal eventNotRead ws)
+  handle-8 : {c : Code} {Σ : List Ty} {τ : Ty}
+      → AcceptedFlow rows c Σ τ → IsRest rows ws c Σ τ → eventOf event ≡ none → HandleAnswers rows ws event (refusal eventNotRead ws)
   -- no handling rule derives a step
-  handle-9 : {c : Code} {Σ : List Ty} {τ : Ty} {p : Path} {x : Action} → AcceptedFlow rows c Σ τ → (r : IsRest rows ws c Σ τ) → eventOf event ≡ some (p, x)
-      → Refuses c (r .task) (r .store) p x → HandleAnswers rows ws event (refusal notHandled ws)
+  handle-9 : {c : Code} {Σ : List Ty} {τ : Ty} {p : Path} {x : Action} → AcceptedFlow rows c Σ τ → (r : IsRest rows ws c Σ τ)
+      → eventOf event ≡ some (p, x) → Refuses c (r .task) (r .store) p x → HandleAnswers rows ws event (refusal notHandled ws)
   -- 01: "Then the result is normalised"
-  handle-0 : {c : Code} {Σ : List Ty} {τ : Ty} {p : Path} {x : Action} {t₁ t₂ : TaskOf c} {s₁ s₂ : Store} {n : ℕ} → AcceptedFlow rows c Σ τ → (r : IsRest rows ws c Σ τ) → eventOf event ≡ some (p, x)
-      → Handles c [] (r .store) (r .task) p x t₁ s₁ → Normalises c [] s₁ t₁ t₂ s₂ n → HandleAnswers rows ws event (record { number = 0; strides = n; state = stateOf rows c t₂ s₂ })
+  handle-0 : {c : Code} {Σ : List Ty} {τ : Ty} {p : Path} {x : Action} {t₁ t₂ : TaskOf c} {s₁ s₂ : Store} {n : ℕ}
+      → AcceptedFlow rows c Σ τ → (r : IsRest rows ws c Σ τ) → eventOf event ≡ some (p, x)
+      → Handles c [] (r .store) (r .task) p x t₁ s₁ → Normalises c [] s₁ t₁ t₂ s₂ n
+      → HandleAnswers rows ws event (record { number = 0; strides = n; state = stateOf rows c t₂ s₂ })

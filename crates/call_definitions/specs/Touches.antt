@@ -59,17 +59,24 @@ pub record Stands (rows ws : List ℤ) (c : Code) (Σ : List Ty) (τ : Ty) : Typ
   pub residual-typed : CodeType Σ [] (residual c (rest .task)) τ
   -- look, with every value memory and list memory: 21, else 24, else 0; and then the part that it hands back is the list shown
   pub shown : List ℕ
-  pub misfit : (values : List ℤ) (list : List ℕ) → (length values ≡ maxLeaves → ⊥) → lookCall rows ws values list ≡ lookRefusal wrongMemory values list
-  pub short : (values : List ℤ) (list : List ℕ) → length values ≡ maxLeaves → length list < length shown → lookCall rows ws values list ≡ lookRefusal listTooShort values list
-  pub looks : (values : List ℤ) (list : List ℕ) → length values ≡ maxLeaves → length shown ≤ length list → lookCall rows ws values list .number ≡ 0
-  pub part : (values : List ℤ) (list : List ℕ) → lookCall rows ws values list .number ≡ 0 → lookCall rows ws values list .part ≡ shown
+  pub misfit : (values : List ℤ) (list : List ℕ)
+      → (length values ≡ maxLeaves → ⊥) → lookCall rows ws values list ≡ lookRefusal wrongMemory values list
+  pub short : (values : List ℤ) (list : List ℕ)
+      → length values ≡ maxLeaves → length list < length shown → lookCall rows ws values list ≡ lookRefusal listTooShort values list
+  pub looks : (values : List ℤ) (list : List ℕ)
+      → length values ≡ maxLeaves → length shown ≤ length list → lookCall rows ws values list .number ≡ 0
+  pub part : (values : List ℤ) (list : List ℕ)
+      → lookCall rows ws values list .number ≡ 0 → lookCall rows ws values list .part ≡ shown
   -- all that it answers is derived by the rules
   pub looked : (values : List ℤ) (list : List ℕ) → LookAnswers rows ws values list (lookCall rows ws values list)
   -- handle, with every event: 8 where it cannot be read, else 9 exactly where no handling rule derives a step, and 0 exactly where one does
   pub unread : (event : List ℕ) → eventOf event ≡ none → handleCall rows ws event ≡ refusal eventNotRead ws
-  pub answers : (event : List ℕ) (p : Path) (x : Action) → eventOf event ≡ some (p, x) → (handleCall rows ws event ≡ refusal notHandled ws) ⊎ (handleCall rows ws event .number ≡ 0)
-  pub refused : (event : List ℕ) (p : Path) (x : Action) → eventOf event ≡ some (p, x) → (handleCall rows ws event .number ≡ notHandled) ↔ Refuses c (rest .task) (rest .store) p x
-  pub taken : (event : List ℕ) (p : Path) (x : Action) → eventOf event ≡ some (p, x) → (handleCall rows ws event .number ≡ 0) ↔ Accepts c (rest .task) (rest .store) p x
+  pub answers : (event : List ℕ) (p : Path) (x : Action) → eventOf event ≡ some (p, x)
+      → (handleCall rows ws event ≡ refusal notHandled ws) ⊎ (handleCall rows ws event .number ≡ 0)
+  pub refused : (event : List ℕ) (p : Path) (x : Action) → eventOf event ≡ some (p, x)
+      → (handleCall rows ws event .number ≡ notHandled) ↔ Refuses c (rest .task) (rest .store) p x
+  pub taken : (event : List ℕ) (p : Path) (x : Action) → eventOf event ≡ some (p, x)
+      → (handleCall rows ws event .number ≡ 0) ↔ Accepts c (rest .task) (rest .store) p x
   -- all that it answers and leaves is derived by the rules
   pub handled : (event : List ℕ) → HandleAnswers rows ws event (handleCall rows ws event)
   pub bounded : (event : List ℕ) → Bounded rows (handleCall rows ws event .strides)

@@ -33,7 +33,7 @@ front-second n z e = sym (ap front (path-front n (omega arith)) ∙ rw (ne-eqb (
 
 -- ---- digits read, the innermost first
 
-length-marks : (p : Path) → length (marksText p) ≡ length p
+pub length-marks : (p : Path) → length (marksText p) ≡ length p
 unfolding marksText
 length-marks [] = refl
 length-marks (m ∷ p) = ap suc (length-marks p)

@@ -11,6 +11,7 @@ use formats::LEAVES_AT;
 use formats::write_numbers;
 use normalising::attempt;
 use normalising::tried;
+use rows::MAX_BINDERS;
 use rows::MAX_ROWS;
 use rows::ROWS_WORDS;
 use rows::get;
@@ -86,7 +87,7 @@ fn content(rows: &[u32; ROWS_WORDS], state: &[u32; STATE_SIZE], row: usize) -> u
     match kind {
         40 => read(state, row, 1),
         41 => {
-            let none = [0u32; 16];
+            let none = [0u32; MAX_BINDERS];
             row_type(rows, a, none, 0)
         }
         _ => read(state, a, 1),

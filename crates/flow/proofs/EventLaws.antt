@@ -12,11 +12,11 @@ use lib.Dec.{lit<, eqb, ltb}
 use lib.IntN.{ℤ, pos, negsuc}
 use lib.ListN.{length, getD, replicate}
 use mir.Syntax.{w32}
-use mir.Val.{toZ, ofZ, sel}
+use mir.Val.{toZ, sel}
 use Rattle.word.specs.Word.{words, AllWords, eqZ}
 use Rattle.word.proofs.Order.{equal-number}
 use Rattle.word.proofs.Lists.{numbers-bits}
-use Rattle.decimal.specs.Field.{Field, number, unreadable, readsAt, reading, actionColumns, wordColumns, newline}
+use Rattle.decimal.specs.Field.{number, readsAt, reading, actionColumns, wordColumns, newline}
 use Rattle.decimal.specs.declared.field.Reading.the-variants.{Number, Unreadable}
 use Rattle.decimal.specs.Path.{Path, pathColumns, pathOf, readsPathAt, pathReading}
 use Rattle.decimal.specs.declared.path.PathReading.the-variants.{Marks}

@@ -1,6 +1,6 @@
 -- `look` and the functions below it, each way out. Rests on SiteLaws, on the contract of `entries` and on formats' laws of lists.
 use mathlib.Core.Path.{_≡_, refl, sym, ap, ap₂, subst, _∙_}
-use mathlib.Core.Bool.{Bool, true, false, false≢true}
+use mathlib.Core.Bool.{Bool, true, false}
 use mathlib.Core.Option.{Option, none, some}
 use mathlib.Core.List.{List, [], _∷_, _++_, map, append-nil}
 use Prim.Native.Nat.{ℕ, suc, _+_, _*_, _-_, _≤_, _<_}
@@ -18,7 +18,7 @@ use mir.Val.{toZ}
 use Rattle.word.specs.Laid.{laid}
 use Rattle.word.proofs.Laid.{laid-front}
 use Rattle.decimal.specs.Path.{pathOf}
-use Rattle.tophat.specs.Syntax.{maxLeaves, Ty, Code, Val, TaskOf, Store, taskRows}
+use Rattle.tophat.specs.Syntax.{maxLeaves, Ty, Code, Val, TaskOf, Store}
 use Rattle.tophat.specs.Typing.{small-nil}
 use Rattle.tophat.specs.Normalising.{value}
 use Rattle.tophat.proofs.ComputeNormalising.{failing}
@@ -39,7 +39,7 @@ use Rattle.entries.specs.Listing.{Listed, EntriesOk}
 use Rattle.entries.proofs.Bounds.{entries-whole}
 use Rattle.flow.specs.declared.look.Looked.{Looked}
 use Rattle.flow.specs.declared.open.Opening.{Opening}
-use Rattle.call_definitions.specs.Memory.{LookAnswer, lookRefusal, flag, valueMemory, hasOne}
+use Rattle.call_definitions.specs.Memory.{lookRefusal, flag, valueMemory, hasOne}
 use Rattle.call_definitions.specs.Calls.{Opened, refusedBy, restOf, opened, lookIn, lookCall}
 use Rattle.call_definitions.proofs.LookAnswered.{looking}
 use Rattle.flow.specs.Opens.{Ready, Opens, OpenOk}

@@ -9,10 +9,10 @@ use borrow.Author.Tests.{not-true, not-false}
 use borrow.Table.Steps.{cases}
 use lib.Dec.{eqb}
 use lib.IntN.{ℤ}
-use lib.ListN.{length, getD, List·getD-eq-default}
+use lib.ListN.{length, getD}
 use Rattle.word.specs.Word.{AllWords}
+use Rattle.word.specs.Decides.{Decides}
 use Rattle.tophat.specs.Syntax.{Ty, Code, TaskOf, Store}
-use Rattle.tophat.specs.Normalising.{Normalises}
 use Rattle.tophat.proofs.Basics.{apart}
 use Rattle.tophat.proofs.ComputeNormalising.{stride}
 use Rattle.rows.specs.GroundNumbers.{notAccepted, wrongMemory, notState, notAtRest}
@@ -27,14 +27,14 @@ use Rattle.state.specs.Lent.{ownOf, stateSize, ownState}
 use Rattle.state.specs.Contracts.{Fine, StrideOk}
 use Rattle.state.proofs.LentLaws.{own-length}
 use Rattle.state.specs.Writing.{Writing}
-use Rattle.state_check.specs.States.{State, Ends, HeldOk}
+use Rattle.state_check.specs.States.{State, ZerosAfter, HeldOk}
 use Rattle.flow.specs.declared.open.Opening.{Opening}
-use Rattle.call_definitions.specs.Answers.{Loads, Writes, shut-20, shut-21, shut-22, shut-23}
+use Rattle.call_definitions.specs.Answers.{Writes, shut-22, shut-23}
 use Rattle.call_definitions.specs.Calls.{Opened, refusedBy, restOf, opened}
-use Rattle.call_definitions.proofs.Flows.{loads-accepts, accepts-loads, flow-of}
+use Rattle.call_definitions.proofs.Flows.{accepts-loads, flow-of}
 use Rattle.call_definitions.proofs.Opening.{flowRows, past, opens, unmoved, still-of}
-use Rattle.call_definitions.proofs.Grounds.{Decides, shut-only, opened-20, opened-misfit}
-use Rattle.flow.specs.Opens.{Site, Ready, Opens, OpenOk}
+use Rattle.call_definitions.proofs.Grounds.{shut-only, opened-20, opened-misfit}
+use Rattle.flow.specs.Opens.{Site, Opens, OpenOk}
 use Rattle.flow.proofs.SiteLaws.{here, there, some-rows, few-rows, room-is, sits, is-fine, around, written-in, copied-in}
 
 -- ---- ground 20
@@ -67,7 +67,7 @@ module _ (rows : List ℤ) (n : ℕ) (e : n ≡ acceptedCount rows) where
 
 -- a test of memory that is known
 fitted : (b : Bool) → Decides b (b ≡ true)
-fitted b = record { holds = λ e. e; fails = λ e f. no (sym e ∙ f) }
+fitted b = record { yes = λ e. e; no = λ e f. no (sym e ∙ f) }
 
 module _ (rows ws : List ℤ) (own words : List ℕ) (fits : Bool) where
   abbrev Answers : ℕ → ℕ → Type 0
@@ -91,7 +91,7 @@ module _ (rows ws : List ℤ) (own words : List ℕ) (fits : Bool) where
       fit = not-false fits f
 
       -- zeros stand after the state's words
-      pub ends : Ends n words
+      pub ends : ZerosAfter n words
       ends k g =
           let m = own-length n ws ∙ l in
           ap (λ w. getD w k 0) e ∙ zeros-after (ownOf n ws) (stateSize - n * stateWords) k (omega (arith, m, g))
@@ -102,12 +102,12 @@ module _ (rows ws : List ℤ) (own words : List ℕ) (fits : Bool) where
 
         pub open-22 : not b ≡ true → Answers notState n
         open-22 y = by-ground n (omega arith) (shut-only rows ws (fits ≡ true) wr ww fits (fitted fits) (shut-22 (z .flow) (room-is z ws l) fit (λ t s w.
-            held-here (flowRows (z .flow)) (past (z .flow)) .0 .neg (not-true b y)
+            held-here (flowRows (z .flow)) (past (z .flow)) .0 .no (not-true b y)
             (record { task = t; store = s; typed = w .typed; stored = w .stored; writing = there z (λ o k. Writing o (k - 1) c t s words) (written-in z w e) }))))
 
         module _ (y : not b ≡ false) (moved : Bool) (after env : List ℕ) (m : StrideOk own work after (n - 1) env 0 moved) where
           state : State (ownRows rows) (rowCount rows) (flowRows (z .flow)) words
-          state = held-here (flowRows (z .flow)) (past (z .flow)) .0 .pos (not-false b y)
+          state = held-here (flowRows (z .flow)) (past (z .flow)) .0 .yes (not-false b y)
 
           writing : Writing own (n - 1) c (state .task) (state .store) words
           writing = here z (λ o k. Writing o (k - 1) c (state .task) (state .store) words) (state .writing)

@@ -11,7 +11,7 @@ use Rattle.word.specs.Word.{AllWords}
 use Rattle.tophat.specs.Syntax.{Ty, Code, TaskOf, Store, moves, taskRows}
 use Rattle.tophat.specs.Typing.{TaskType, ValueTypes, AllSmall, v-nil, small-nil}
 use Rattle.tophat.specs.Showing.{MarksFit}
-use Rattle.rows.specs.Rows.{maxRows, word, movers}
+use Rattle.rows.specs.Rows.{maxRows, movers}
 use Rattle.rows.specs.Lent.{ownRows, rowCount}
 use Rattle.rows.proofs.CellsAt.{cells-small}
 use Rattle.state.specs.Layout.{stateWords, encode}
@@ -21,7 +21,7 @@ use Rattle.state.specs.Contracts.{Fine}
 use Rattle.state.proofs.LentLaws.{own-length, lent-own}
 use Rattle.state.specs.Writing.{Writing}
 use Rattle.state.proofs.Encode.{writing-same, padded-same, taken-same}
-use Rattle.state.proofs.SitsOf.{last-sits, within, fine, state-writing, state-is, world}
+use Rattle.state.proofs.SitsOf.{last-sits, within, fine, state-writing, state-is}
 use Rattle.call_definitions.specs.Memory.{stateOf}
 use Rattle.call_definitions.specs.Answers.{AcceptedFlow, HasRoom, Writes}
 use Rattle.call_definitions.proofs.Flows.{loads-passed}

@@ -18,6 +18,7 @@ use Rattle.tophat.specs.Leaves.{Leaf, noLeaf, unitLeaf, truthLeaf, numberLeaf, 
 use Rattle.tophat.specs.Handling.{Button, Act, giving, pressing, actNumber, actTable, Action, give, press}
 use Rattle.tophat.specs.Showing.{Offer, fill, button, Entry, Covers, c-fill, c-button}
 use Rattle.tophat.proofs.Basics.{no-some, some-is}
+use Rattle.tophat.proofs.Leaves.{zeros-met}
 use Rattle.formats.specs.Records.{isRecord, numberSaid, numbersAt}
 use Rattle.formats.specs.Touches.{eventColumns, numbered, touchAt, touchText, allZero, allowed, eventSays, actionOf, eventOf, CoversBytes}
 use Rattle.formats.specs.Lists.{offerAct, offerKinds, entryText}
@@ -59,10 +60,6 @@ zeros-of (z ∷ zs) h = by (eqZ z (pos 0)) refl h (zeros-of zs)
     by true e k f = (λ j. eqZ-true z (pos 0) e j ∷ f k j)
     by false e k f = let a : _≡_ {A = ℕ} 0 1 = cc in absurd (omega arith)
 
-unused-met : (n : ℕ) → Meets (replicate n noLeaf) (replicate n (pos 0))
-unused-met zero = m-end
-unused-met (suc n) = m-none (unused-met n)
-
 -- ---- the touch that a readable event says
 
 pub event-of : (s : List ℕ) {p : Path} {a : Act} {ls : List ℤ} → eventSays s ≡ some (p, a, ls) → eventOf s ≡ some (p, actionOf a ls)
@@ -92,7 +89,7 @@ pressed-of (pressing c) ls h = cc
 -- leaves that a button can have meet the kinds of its entry
 button-met : (b : Button) (ls : List ℤ) → allowed (pressing b) ls ≡ true → length ls ≡ maxLeaves → Meets (replicate maxLeaves noLeaf) ls
 unfolding allowed
-button-met b ls h l = subst (Meets (replicate maxLeaves noLeaf)) (sym (zeros-of ls h ∙ ap (λ n. replicate n (pos 0)) l)) (unused-met maxLeaves)
+button-met b ls h l = subst (Meets (replicate maxLeaves noLeaf)) (sym (zeros-of ls h ∙ ap (λ n. replicate n (pos 0)) l)) (zeros-met maxLeaves)
 
 -- an entry that covers the touch covers the bytes that say it
 pub covers-bytes : {e : Entry} {p : Path} {x : Action} → Covers e p x → length (e .0) ≤ maxMarks → length (offerKinds (e .1)) ≡ maxLeaves
@@ -146,12 +143,12 @@ bytes-cover e few all {event} {p} {x} h c =
 zero-word : IsWord (pos 0)
 zero-word = lit< tt
 
-zeros-met : (ks : List Leaf) → Meets ks (replicate (length ks) (pos 0))
-zeros-met [] = m-end
-zeros-met (noLeaf ∷ ks) = m-none (zeros-met ks)
-zeros-met (unitLeaf ∷ ks) = m-unit (zeros-met ks)
-zeros-met (truthLeaf ∷ ks) = m-false (zeros-met ks)
-zeros-met (numberLeaf ∷ ks) = m-number zero-word (zeros-met ks)
+kinds-met : (ks : List Leaf) → Meets ks (replicate (length ks) (pos 0))
+kinds-met [] = m-end
+kinds-met (noLeaf ∷ ks) = m-none (kinds-met ks)
+kinds-met (unitLeaf ∷ ks) = m-unit (kinds-met ks)
+kinds-met (truthLeaf ∷ ks) = m-false (kinds-met ks)
+kinds-met (numberLeaf ∷ ks) = m-number zero-word (kinds-met ks)
 
 zeros-fit : (n : ℕ) → AllFit (fields wordColumns (replicate n (pos 0)))
 zeros-fit zero = fit-none
@@ -187,6 +184,6 @@ covers-some e few all =
         leaves = replicate maxLeaves (pos 0);
         entry-says = entry-said e few all;
         event-says = h;
-        meets = subst (λ n. Meets (offerKinds (e .1)) (replicate n (pos 0))) all (zeros-met (offerKinds (e .1)));
+        meets = subst (λ n. Meets (offerKinds (e .1)) (replicate n (pos 0))) all (kinds-met (offerKinds (e .1)));
       },
     )

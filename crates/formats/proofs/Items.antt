@@ -12,12 +12,13 @@ use lib.ListN.{length, drop, length-append}
 use lib.Seq.{take-at, drop-at}
 use Rattle.word.specs.Word.{half, IsWord}
 use Rattle.decimal.specs.Field.{number, decimal, text, justified, written, wordColumns, reads, readsAt}
-use Rattle.decimal.specs.Path.{Path, maxMarks, pathColumns, marksText, pathText, writtenPath, readsPath, readsPathAt}
+use Rattle.decimal.specs.Path.{Path, maxMarks, pathColumns, pathText, writtenPath, readsPath, readsPathAt}
 use Rattle.decimal.proofs.Justified.{justified-length}
 use Rattle.decimal.proofs.Fields.{written-reads}
 use Rattle.decimal.proofs.Paths.{written-reads-path}
 use Rattle.decimal.proofs.WriteLaws.{decimal-count, decimal-0}
 use Rattle.formats.specs.Records.{textOf, pathField, Item, itemText}
+use Rattle.decimal.proofs.PathLaws.{length-marks}
 
 -- ---- how wide numbers are
 
@@ -76,11 +77,6 @@ module _ {i : Item} (f : Fits i) where
       (ap (λ l. reads (drop at l)) (take-at (p ++ t) q (at + i .0) n) ∙ ap reads (drop-at p t at e) ∙ item-reads)
 
 -- ---- paths
-
-length-marks : (p : Path) → length (marksText p) ≡ length p
-unfolding marksText
-length-marks [] = refl
-length-marks (m ∷ p) = ap suc (length-marks p)
 
 path-short : (p : Path) → length p ≤ maxMarks → length (pathText p) ≤ pathColumns
 unfolding pathText

@@ -8,6 +8,7 @@ use native.Mathlib.Nat.{eq-or-lt-of-le, le-of-suc-le-suc}
 use native.Mathlib.Omega.{arith}
 use borrow.Author.Tests.{not-true, not-false}
 use Rattle.rows.specs.Rows.{every}
+use Rattle.match_laws.proofs.Ranges.{and-false}
 
 -- three tests, left at the first that fails
 module _ {w : Bool} (p q r : Bool) (e : w ≡ (p && (q && r))) {x : Bool} (f : x ≡ p) where
@@ -19,10 +20,6 @@ module _ {w : Bool} (p q r : Bool) (e : w ≡ (p && (q && r))) {x : Bool} (f : x
 
   pub third : not x ≡ false → {y : Bool} → y ≡ q → not y ≡ false → {z : Bool} → z ≡ r → z ≡ w
   third t {y} g h k = k ∙ sym (e ∙ rw (sym f, not-false x t, sym g, not-false y h))
-
-and-no : (b : Bool) → (b && false) ≡ false
-and-no true = refl
-and-no false = refl
 
 module _ (p : ℕ → Bool) where
   pub every-none : every 0 p ≡ true
@@ -37,7 +34,7 @@ module _ (p : ℕ → Bool) where
   unfolding every
   every-not zero i h e = absurd (omega arith)
   every-not (suc n) i h e = ⊎-elim
-      (λ (q : i ≡ n). let z : p n ≡ false = ap p (sym q) ∙ sym e in sym (rw z (and-no (every n p))))
+      (λ (q : i ≡ n). let z : p n ≡ false = ap p (sym q) ∙ sym e in sym (rw z (and-false (every n p))))
       (λ (q : i < n). ap (λ y. y && p n) (every-not n i q e)) (eq-or-lt-of-le (le-of-suc-le-suc h))
 
   -- as a test `if !x` leaves it

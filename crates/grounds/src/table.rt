@@ -4,7 +4,7 @@ ghost use mathlib.Core.Path.{_≡_};
 ghost use Prim.Native.Nat.{_<_, _≤_};
 ghost use lib.ListN.{getD, take};
 ghost use Rattle.rows.specs.Kinds.{asksOf};
-ghost use Rattle.rows.specs.Rows.{maxRows, rowWords, word, asksAt, names};
+ghost use Rattle.rows.specs.Rows.{maxRows, asksAt, names};
 ghost use Rattle.grounds.specs.Table.{askBy, asksBy};
 use crate::table::Around::*;
 use crate::table::Ask::*;

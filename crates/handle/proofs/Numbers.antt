@@ -1,17 +1,15 @@
 -- The numbers of events: which path and which action a number is. Rests on specs/Events and on crate decimal's paths.
-use mathlib.Core.Path.{_≡_, refl, sym, ap, _∙_}
+use mathlib.Core.Path.{_≡_, refl, sym, ap}
 use mathlib.Core.Bool.{Bool, true, false, cond}
-use mathlib.Core.List.{List, [], _∷_, map}
+use mathlib.Core.List.{List, _∷_, map}
 use Prim.Native.Nat.{ℕ, _-_, _/_}
 use native.Mathlib.Omega.{arith}
 use lib.Dec.{eqb}
 use borrow.Author.Tests.{eq-eqb, ne-eqb, eqb-true, eqb-false}
 use mir.Syntax.{w32}
 use mir.Val.{toZ}
-use Rattle.decimal.specs.Path.{first, second, Path, frontMark, pathOf, front}
-use Rattle.decimal.specs.declared.path.Front.{Front}
-use Rattle.decimal.specs.declared.path.Front.the-variants.{Empty, First, Second}
-use Rattle.decimal.proofs.PathNumbers.{path-front, path-number}
+use Rattle.decimal.specs.Path.{frontMark, pathOf}
+use Rattle.decimal.proofs.PathNumbers.{path-front}
 use Rattle.tophat.specs.Handling.{Button, continue, left, right, Action, give, press}
 use Rattle.value.proofs.Operators.{differ}
 use Rattle.handle.specs.declared.Event.{Event}
@@ -22,35 +20,6 @@ use Rattle.handle.specs.Events.{giveNumber, continueNumber, leftNumber, 
 -- a number but 0 is a path of at least one mark
 pub some-marks : (n : ℕ) → (n ≡ 0 → ⊥) → pathOf n ≡ frontMark n ∷ pathOf ((n - 1) / 2)
 some-marks n h = path-front n (omega arith)
-
--- which front it is, and the path after it
-abbrev which : Front → ℕ
-which Empty = 0
-which (First n) = 1
-which (Second n) = 2
-
-abbrev rest : Front → ℕ
-rest Empty = 0
-rest (First n) = n
-rest (Second n) = n
-
-unlike : {X : Type 0} {f g : Front} → f ≡ g → (which f ≡ which g → ⊥) → X
-unlike e n = absurd (n (ap which e))
-
-pub front-empty : (p : Path) → Empty ≡ front p → p ≡ []
-front-empty [] e = refl
-front-empty (first ∷ p) e = unlike e (λ z. omega arith)
-front-empty (second ∷ p) e = unlike e (λ z. omega arith)
-
-pub front-first : (p : Path) (n : ℕ) → First n ≡ front p → p ≡ first ∷ pathOf n
-front-first [] n e = unlike e (λ z. omega arith)
-front-first (first ∷ p) n e = ap (λ q. first ∷ q) (sym (path-number p) ∙ ap pathOf (sym (ap rest e)))
-front-first (second ∷ p) n e = unlike e (λ z. omega arith)
-
-pub front-second : (p : Path) (n : ℕ) → Second n ≡ front p → p ≡ second ∷ pathOf n
-front-second [] n e = unlike e (λ z. omega arith)
-front-second (first ∷ p) n e = unlike e (λ z. omega arith)
-front-second (second ∷ p) n e = ap (λ q. second ∷ q) (sym (path-number p) ∙ ap pathOf (sym (ap rest e)))
 
 -- ---- actions
 

@@ -71,6 +71,10 @@ abbrev pub testAll : (ℕ → Bool) → ℕ → ℕ → Bool
 testAll p a zero = true
 testAll p a (suc n) = p a && testAll p (suc a) n
 
+pub and-false : (b : Bool) → (b && false) ≡ false
+and-false true = refl
+and-false false = refl
+
 pub and-left : (a b : Bool) → (a && b) ≡ true → a ≡ true
 and-left true b h = refl
 and-left false b h = h

@@ -11,11 +11,10 @@ use Rattle.tophat.specs.Syntax.{Ty, Code, Store}
 use Rattle.tophat.proofs.Basics.{no-some}
 use Rattle.tophat.proofs.ComputeTyping.{inferTask}
 use Rattle.tophat.proofs.TypingAgrees.{infer-task-is, infer-task-sound, one-task-type}
-use Rattle.rows.specs.GroundNumbers.{notTyped}
 use Rattle.rows.specs.Rows.{rowSorted}
 use Rattle.rows.specs.Trees.{Flow}
 use Rattle.rows.specs.ComputeTrees.{codeAt, cellTypes}
-use Rattle.rows.specs.Ground.{Formed, Small, IsFlow, Untyped, RowsGround, rows-3, rows-4, rows-5, rows-6, rows-7, rows-0, flowType, isSome, passes3, passes4, passes5, passes6, passes7, firstGround, groundOfRows}
+use Rattle.rows.specs.Ground.{WellFormed, Small, IsFlow, Untyped, RowsGround, rows-3, rows-4, rows-5, rows-6, rows-7, rows-0, flowType, isSome, passes3, passes4, passes5, passes6, passes7, firstGround, groundOfRows}
 use Rattle.rows.proofs.Basics.{no, every-at}
 use Rattle.rows.proofs.TreesAgree.{code-is, one-code, cells-are, one-cells}
 use Rattle.rows.proofs.Exists.{Sorted, cells-exist}
@@ -139,8 +138,8 @@ module _ (rs : List ℕ) (n : ℕ) where
     ground-only (rows-0 f k i) = firsts (f .listed) (f .sorted) (f .named) (six-of (f .sorted) k) (flow-seven i)
 
     -- what rows that get 0 are
-    pub zero-flow : groundOfRows rs n ≡ 0 → Formed rs n × Small rs n × IsFlow rs n
+    pub zero-flow : groundOfRows rs n ≡ 0 → WellFormed rs n × Small rs n × IsFlow rs n
     zero-flow h = by (subst (RowsGround rs n) h ground-derived)
       where
-        by : RowsGround rs n 0 → Formed rs n × Small rs n × IsFlow rs n
+        by : RowsGround rs n 0 → WellFormed rs n × Small rs n × IsFlow rs n
         by (rows-0 f k i) = (f, k, i)

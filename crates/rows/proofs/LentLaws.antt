@@ -1,11 +1,11 @@
 -- The engine's own rows: how many words they are, what stands past the last row, and a row more. Rests on specs/Lent.
 use mathlib.Core.Path.{_≡_, refl, sym, ap, ap₂, _∙_}
-use mathlib.Core.List.{List, [], _∷_, _++_, map, append-assoc}
+use mathlib.Core.List.{List, [], _∷_, _++_, map}
 use Prim.Native.Nat.{ℕ, zero, suc, _+_, _*_, _-_, _≤_}
 use native.Mathlib.Omega.{arith}
 use lib.Dec.{lit<}
 use lib.IntN.{ℤ}
-use lib.ListN.{length, getD, take, drop, replicate, length-map, length-append, length-replicate, List·getD-eq-default}
+use lib.ListN.{length, getD, drop, replicate, length-map, length-append, length-replicate, List·getD-eq-default}
 use lib.Seq.{sets, sets-eq, take-at, drop-append-add}
 use mir.Syntax.{w32}
 use mir.Val.{ofZ}

@@ -26,7 +26,7 @@ passes4 rs n = every n (λ i. rowSorted rs i)
 unfoldable pub passes5 : List ℕ → ℕ → Bool
 passes5 rs n = every n (λ i. namedOnce rs n i) && lastFits rs (n - 1)
 
-pub record Formed (rs : List ℕ) (n : ℕ) : Type 0 where
+pub record WellFormed (rs : List ℕ) (n : ℕ) : Type 0 where
   pub listed : passes3 rs n ≡ true
   pub sorted : passes4 rs n ≡ true
   pub named : passes5 rs n ≡ true
@@ -53,9 +53,9 @@ pub data RowsGround (rs : List ℕ) (n : ℕ) : ℕ → Type 0 where
   rows-3 : passes3 rs n ≡ false → RowsGround rs n notListed
   rows-4 : passes3 rs n ≡ true → passes4 rs n ≡ false → RowsGround rs n notSorted
   rows-5 : passes3 rs n ≡ true → passes4 rs n ≡ true → passes5 rs n ≡ false → RowsGround rs n notNamed
-  rows-6 : Formed rs n → (Small rs n → ⊥) → RowsGround rs n notSmall
-  rows-7 : Formed rs n → Small rs n → Untyped rs n → RowsGround rs n notTyped
-  rows-0 : Formed rs n → Small rs n → IsFlow rs n → RowsGround rs n 0
+  rows-6 : WellFormed rs n → (Small rs n → ⊥) → RowsGround rs n notSmall
+  rows-7 : WellFormed rs n → Small rs n → Untyped rs n → RowsGround rs n notTyped
+  rows-0 : WellFormed rs n → Small rs n → IsFlow rs n → RowsGround rs n 0
 
 -- ---- as a function
 

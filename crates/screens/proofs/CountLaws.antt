@@ -18,7 +18,7 @@ use Rattle.decimal.specs.declared.field.Reading.{Reading}
 use Rattle.decimal.specs.declared.field.Reading.the-variants.{Number, Unreadable}
 use Rattle.decimal.proofs.Answers.{number-read, nothing-said}
 use Rattle.rows.specs.Rows.{maxRows}
-use Rattle.screens.specs.Counts.{countBytes, countSaid, countOf}
+use Rattle.screens.specs.Counts.{countBytes, countSaid, countIn}
 
 -- ---- the number that bits say
 
@@ -41,24 +41,24 @@ few-none n g h = cases (leb half n)
 -- ---- the bytes
 
 module _ (s : List ℕ) where
-  pub no-count : (length s ≡ countBytes → ⊥) → 0 ≡ countOf s
-  unfolding countOf
+  pub no-count : (length s ≡ countBytes → ⊥) → 0 ≡ countIn s
+  unfolding countIn
   no-count h = rw (ne-eqb (length s) countBytes h)
 
-  pub no-end : length s ≡ countBytes → (getD s rowColumns 0 ≡ 10 → ⊥) → 0 ≡ countOf s
-  unfolding countOf
+  pub no-end : length s ≡ countBytes → (getD s rowColumns 0 ≡ 10 → ⊥) → 0 ≡ countIn s
+  unfolding countIn
   no-end l h = rw (eq-eqb (length s) countBytes l, ne-eqb (getD s rowColumns 0) 10 h)
 
   module _ (l : length s ≡ countBytes) (b : getD s rowColumns 0 ≡ 10) where
-    said : countSaid (readsAt s 0 rowColumns) ≡ countOf s
-    unfolding countOf
+    said : countSaid (readsAt s 0 rowColumns) ≡ countIn s
+    unfolding countIn
     said = rw (eq-eqb (length s) countBytes l, eq-eqb (getD s rowColumns 0) 10 b)
 
     module _ (r : Reading) (e : r ≡ reading (readsAt s 0 rowColumns)) where
-      pub count-number : (n m : ℕ) → r ≡ Number n → m ≡ countSaid (number (toZ w32 n)) → m ≡ countOf s
+      pub count-number : (n m : ℕ) → r ≡ Number n → m ≡ countSaid (number (toZ w32 n)) → m ≡ countIn s
       count-number n m h g = g ∙ ap countSaid (sym (number-read s 0 rowColumns n (sym h ∙ e) .is)) ∙ said
 
-      pub count-unread : r ≡ Unreadable → 0 ≡ countOf s
+      pub count-unread : r ≡ Unreadable → 0 ≡ countIn s
       unfolding countSaid
       count-unread h = ap countSaid (sym (nothing-said (readsAt s 0 rowColumns) (sym h ∙ e))) ∙ said
 
@@ -69,8 +69,8 @@ said-few (number (pos n)) = cases (leb n maxRows) (λ e. rw e (leb-true n maxRow
 said-few (number (negsuc n)) = omega arith
 said-few unreadable = omega arith
 
-pub count-few : (s : List ℕ) → countOf s ≤ maxRows
-unfolding countOf
+pub count-few : (s : List ℕ) → countIn s ≤ maxRows
+unfolding countIn
 count-few s = cases (eqb (length s) countBytes)
     (λ e. cases (eqb (getD s rowColumns 0) 10) (λ g. rw (e, g) (said-few (readsAt s 0 rowColumns))) (λ g. rw (e, g) (omega arith)))
     (λ e. rw e (omega arith))

@@ -2,18 +2,17 @@
 use mathlib.Core.Path.{_≡_, sym, ap, _∙_}
 use mathlib.Core.List.{List, [], _∷_, _++_}
 use Prim.Native.Nat.{ℕ, _+_, _*_}
-use native.Mathlib.Omega.{arith}
 use lib.ListN.{length, set}
 use mir.Syntax.{w32}
 use mir.Val.{toZ}
 use Rattle.decimal.specs.Field.{rowColumns, wordColumns, actionColumns, newline, written, putAt}
 use Rattle.tophat.specs.Syntax.{maxLeaves}
-use Rattle.formats.specs.Records.{total, Item, putItems, itemsOf}
+use Rattle.formats.specs.Records.{total, putItems, itemsOf}
 use Rattle.formats.specs.Heads.{headColumns, headLeaves}
-use Rattle.formats.proofs.Records.{widths, put-more}
+use Rattle.formats.proofs.Records.{put-more}
 use Rattle.formats.proofs.Loops.{widths-total}
 use Rattle.screens.specs.declared.head.Head.{Head}
-use Rattle.screens.specs.Heads.{headItems, headOver}
+use Rattle.screens.specs.Heads.{headOver}
 
 -- one field written
 abbrev pub put : List ℕ → ℕ → ℕ → ℕ → List ℕ

@@ -1,14 +1,14 @@
 -- What stands over the front: where each number fits its columns, a head line is `headText`. Rests on formats' laws of fields.
 use mathlib.Core.Path.{_≡_, sym, ap, subst, _∙_}
-use mathlib.Core.List.{List, [], _∷_, _++_, append-assoc, map, map-append}
-use Prim.Native.Nat.{ℕ, zero, suc, _+_, _*_, _^_, _<_, _≤_}
+use mathlib.Core.List.{List, [], _∷_, _++_, append-assoc}
+use Prim.Native.Nat.{ℕ, suc, _+_, _^_, _<_, _≤_}
 use native.Mathlib.Omega.{arith}
 use lib.ListN.{length, getD, drop, set, length-append}
 use lib.Seq.{set-at, drop-cons}
 use mir.Syntax.{w32}
 use mir.Val.{toZ}
 use mir.Facts.{toZ-pos}
-use Rattle.word.specs.Word.{words, half, AllBits}
+use Rattle.word.specs.Word.{half, AllBits}
 use Rattle.word.proofs.TwosComplement.{number-word}
 use Rattle.decimal.specs.Field.{rowColumns, wordColumns, newline}
 use Rattle.tophat.specs.Syntax.{maxLeaves}

@@ -17,5 +17,5 @@ countSaid (number (pos n)) = cond (leb n maxRows) n 0
 countSaid (number (negsuc n)) = 0
 countSaid unreadable = 0
 
-unfoldable pub countOf : List ℕ → ℕ
-countOf s = cond (eqb (length s) countBytes && eqb (getD s rowColumns 0) newline) (countSaid (readsAt s 0 rowColumns)) 0
+unfoldable pub countIn : List ℕ → ℕ
+countIn s = cond (eqb (length s) countBytes && eqb (getD s rowColumns 0) newline) (countSaid (readsAt s 0 rowColumns)) 0

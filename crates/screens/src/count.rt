@@ -5,7 +5,7 @@ ghost use mir.Syntax.{w32};
 ghost use mir.Val.{toZ};
 ghost use Rattle.decimal.specs.Field.{number};
 ghost use Rattle.rows.specs.Rows.{maxRows};
-ghost use Rattle.screens.specs.Counts.{countSaid, countOf};
+ghost use Rattle.screens.specs.Counts.{countSaid, countIn};
 use decimal::field;
 use decimal::field::NEWLINE;
 use decimal::field::ROW_COLUMNS;
@@ -28,7 +28,7 @@ fn few(bits: u32) -> usize
 
 // The row count that the bytes say: 1 to 256, and 0 where they say none.
 pub fn read(s: &[u8]) -> usize
-    ensures { λ r. ⌜ r ≡ countOf (now (s .entry)) ⌝ }
+    ensures { λ r. ⌜ r ≡ countIn (now (s .entry)) ⌝ }
     ensures { λ r. ⌜ r ≤ maxRows ⌝ }
 {
     if s.len() != COUNT_BYTES {

@@ -8,9 +8,10 @@ use native.Mathlib.Omega.{arith}
 use borrow.Author.Tests.{eq-eqb, ne-eqb}
 use Rattle.tophat.specs.Syntax.{maxLeaves, Ty, unit, truth, number, pair, leaves}
 use Rattle.tophat.proofs.ComputeTyping.{firstTo, secondTo}
+use Rattle.tophat.proofs.TypingAgrees.{type-to}
 use Rattle.shape.specs.Shape.{put, asShape, maybeShape, asType, pairShape, firstShape, secondShape, leavesIn, shapeLeaves}
 use Rattle.shape.specs.Digits.{maxDigits, count, width}
-use Rattle.shape.proofs.Puts.{leaves-pos, put-split, shape-pair, shape-range, fits, too-big, as-type}
+use Rattle.shape.proofs.Puts.{leaves-pos, put-split, shape-pair, shape-range, too-big, as-type}
 use Rattle.shape.proofs.Counts.{count-first, by-type, leaves-is, leaves-not, of-leaves}
 
 -- ---- count_leaves
@@ -119,7 +120,7 @@ module _ (a b m n : ℕ) (h : m ≡ shapeLeaves a) (g : n ≡ shapeLeaves b) (y 
   pair-is w x l =
       let (τ, p, _, k, q) = read-some a (λ e. y (h ∙ e)) in
       let (υ, r, _, j, s) = read-some b (λ e. z (g ∙ e)) in
-      let t = fits (pair τ υ) (omega arith) in
+      let t = type-to (pair τ υ) (omega arith) in
       let v : w ≡ width (leaves τ) = x ∙ ap width (h ∙ sym k) in
       let e : (a + w * b) * 4 ≡ (asShape τ + width (leaves τ) * asShape υ) * 4 = (λ i. (p i + v i * r i) * 4) in
       (pair τ υ, omega arith, e ∙ sym (shape-pair τ υ), rw (q, s, t))

@@ -10,6 +10,7 @@ use lib.Dec.{eqb}
 use borrow.Author.Tests.{ne-eqb, eqb-true, eqb-false}
 use Rattle.tophat.specs.Syntax.{maxLeaves, Ty, unit, truth, number, pair, leaves}
 use Rattle.tophat.proofs.ComputeTyping.{ask, typeTo}
+use Rattle.tophat.proofs.TypingAgrees.{type-to}
 use Rattle.shape.specs.Shape.{put, asShape, leafOf, front, asType}
 use Rattle.shape.specs.Digits.{width}
 use Rattle.match_laws.proofs.Ranges.{in-range}
@@ -167,19 +168,10 @@ front-back (suc d) c =
 
 -- ---- so for numbers and types of at most maxLeaves leaves
 
-ask-yes : {P X : Type 0} (d : Dec P) (o : Option X) → P → ask d o ≡ o
-unfolding ask
-ask-yes (yes p) o h = refl
-ask-yes (no p) o h = absurd (p h)
-
 ask-no : {P X : Type 0} (d : Dec P) (o : Option X) → (P → ⊥) → ask d o ≡ none
 unfolding ask
 ask-no (yes p) o h = absurd (h p)
 ask-no (no p) o h = refl
-
-pub fits : (τ : Ty) → leaves τ ≤ maxLeaves → typeTo τ ≡ some τ
-unfolding typeTo
-fits τ h = ask-yes _ (some τ) h
 
 pub too-big : (τ : Ty) → (leaves τ ≤ maxLeaves → ⊥) → typeTo τ ≡ none
 unfolding typeTo
@@ -187,7 +179,7 @@ too-big τ h = ask-no _ (some τ) h
 
 pub as-type : (τ : Ty) → leaves τ ≤ maxLeaves → asType (asShape τ) ≡ some τ
 unfolding asType asShape bind
-as-type τ h = let e = front-put τ maxLeaves 0 h in rw e (fits τ h)
+as-type τ h = let e = front-put τ maxLeaves 0 h in rw e (type-to τ h)
 
 -- a number that is read as a type is its shape
 abbrev IsShape : Option Ty → ℕ → Type 0

@@ -1,12 +1,12 @@
 -- `accepted_rows`, each way out: its count is the definition's, and the words at exit are the engine's own rows. Rests on AcceptedRows.
 use mathlib.Core.Path.{_≡_, sym, ap, subst, _∙_}
-use mathlib.Core.Bool.{Bool, true, false, not, _&&_}
+use mathlib.Core.Bool.{Bool, true, false, not}
 use mathlib.Core.List.{List, _++_, map}
-use Prim.Native.Nat.{ℕ, _*_, _%_, _/_, _≤_}
+use Prim.Native.Nat.{ℕ, _*_, _≤_}
 use native.Mathlib.Omega.{arith}
 use borrow.Author.Tests.{leb-true, not-true, not-false}
 use borrow.Table.Steps.{cases}
-use lib.Dec.{leb, eqb}
+use lib.Dec.{leb}
 use lib.IntN.{ℤ}
 use lib.ListN.{length, take, replicate, length-replicate}
 use mir.Syntax.{w32}
@@ -17,7 +17,6 @@ use Rattle.word.proofs.Laid.{laid-front}
 use Rattle.word.proofs.Lists.{drop-zeros, words-whole}
 use Rattle.rows.specs.Rows.{maxRows, rowWords}
 use Rattle.rows.specs.Lent.{rowsSize, ownRows, rowCount}
-use Rattle.rows.specs.Ground.{groundOfRows}
 use Rattle.grounds.specs.Accepted.{acceptedRows}
 use Rattle.sheet.specs.Accepted.{acceptsRows, acceptedCount}
 use Rattle.sheet.proofs.AcceptedRows.{passed-of}

@@ -21,7 +21,6 @@ use Rattle.decimal.specs.Field.{rowColumns}
 use Rattle.formats.specs.Lines.{lineBytes, linesSay}
 use Rattle.formats.proofs.Items.{Fits, number-fits}
 use Rattle.rows.specs.Kinds.{kindLimit}
-use Rattle.rows.specs.GroundNumbers.{notSized, notRead, wrongMemory}
 use Rattle.rows.specs.Rows.{maxRows, rowWords, word, opA, opB, opC, listed, truthCell, rowListed}
 use Rattle.rows.specs.Lent.{ownRows, rowCount}
 use Rattle.rows.specs.Ground.{groundOfRows, passes3}

@@ -1,9 +1,9 @@
 -- The scan of lines: what the functions of src/scan.rt read and keep, each way. Rests on formats' laws of lines.
 use mathlib.Core.Path.{_≡_, refl, sym, ap, subst, _∙_}
 use mathlib.Core.Bool.{Bool, true, false, not, _&&_}
-use mathlib.Core.Option.{Option, none, some}
+use mathlib.Core.Option.{none, some}
 use mathlib.Core.List.{List, [], _∷_, _++_, map}
-use Prim.Native.Nat.{ℕ, zero, suc, _+_, _*_, _-_, _<_, _≤_}
+use Prim.Native.Nat.{ℕ, zero, suc, _+_, _*_, _-_, _<_}
 use native.Mathlib.Numerals.{add-one}
 use native.Mathlib.Omega.{arith}
 use borrow.Author.Tests.{not-true, not-false, eq-eqb, ne-eqb, eqb-true, eqb-false}
@@ -21,6 +21,7 @@ use Rattle.word.proofs.Laid.{map-append}
 use Rattle.decimal.specs.Field.{Field, number, unreadable, rowColumns, wordColumns, newline, readsAt, reading}
 use Rattle.decimal.specs.declared.field.Reading.the-variants.{Number, Unreadable}
 use Rattle.decimal.proofs.Answers.{reads-at-word}
+use Rattle.decimal.proofs.WriteLaws.{sets-last}
 use Rattle.formats.specs.Records.{total, placeOf}
 use Rattle.formats.specs.Lines.{lineColumns, lineBytes, lineSays, linesSay}
 use Rattle.formats.proofs.Loops.{number-of, unreadable-of}
@@ -93,11 +94,6 @@ module _ (s : List ℕ) (i at : ℕ) (there : at ≡ i * lineBytes + total lineC
 
 -- ---- a line
 
--- one word more
-sets-more : (l : List ℕ) (at : ℕ) (xs : List ℕ) (x : ℕ) → set (sets l at xs) (at + length xs) x ≡ sets l at (xs ++ x ∷ [])
-sets-more l at [] x = ap (λ k. set l k x) {x = at + 0} {y = at} (omega arith)
-sets-more l at (y ∷ xs) x = ap (λ k. set (sets (set l at y) (suc at) xs) k x) {x = at + suc (length xs)} {y = suc at + length xs} (omega arith) ∙ sets-more (set l at y) (suc at) xs x
-
 module _ (s : List ℕ) (i : ℕ) where
   -- a field that says the number i, or not
   row-said : (f : Field) → saysRow f i ≡ true → f ≡ number (pos i)
@@ -150,7 +146,7 @@ module _ (s : List ℕ) (i : ℕ) where
           long = length-append (h .said) (z ∷ []) ∙ ap (λ n. n + 1) (h .long);
           row = subst (λ j. RowTo s i j (h .said ++ z ∷ [])) (sym (add-one k)) (row-more s i k (h .said) z (omega arith) (h .row) f);
           kept =
-              (λ j. set (h .kept j) (i * rowWords + sym m j) (b j)) ∙ sets-more own₀ (i * rowWords) (map (ofZ w32) (h .said)) (ofZ w32 z)
+              (λ j. set (h .kept j) (i * rowWords + sym m j) (b j)) ∙ sets-last own₀ (i * rowWords) (map (ofZ w32) (h .said)) (ofZ w32 z)
               ∙ ap (sets own₀ (i * rowWords)) (sym (map-append (ofZ w32) (h .said) (z ∷ [])));
         }
 

@@ -1,6 +1,6 @@
 -- Rows written as a sheet: words, four a row, whose kinds fit their columns, are what the lines of some text say. Rests on formats' laws of
 -- lines.
-use mathlib.Core.Path.{_≡_, refl, sym, ap, subst, _∙_}
+use mathlib.Core.Path.{_≡_, refl, sym, ap, _∙_}
 use mathlib.Core.Option.{some}
 use mathlib.Core.List.{List, [], _∷_, _++_, append-nil, append-assoc}
 use mathlib.Core.Logic.{⊎-elim}

@@ -18,7 +18,7 @@ use Rattle.tophat.specs.Typing.{CodeType, t-edit, t-enter, t-update, t-then, t-
 use Rattle.tophat.specs.Typing.{TaskType, k-filled, k-blank, k-entered, k-shared, k-then-before, k-then-after, k-next-before, k-next-after, k-failed, k-both, k-either, k-or-left, k-or-right}
 use Rattle.tophat.specs.Typing.{k-unpicked, k-picked-left, k-picked-right, k-if-true, k-if-false, k-bound}
 use Rattle.tophat.proofs.Basics.{no-some, All, all-none, all-some, all-is}
-use Rattle.tophat.proofs.TypingAgrees.{infer-is, infer-task-is}
+use Rattle.tophat.proofs.TypingAgrees.{infer-is, infer-task-is, bind-all}
 use Rattle.tophat.proofs.TypeLeaves.{type-leaves, task-type-leaves}
 use Rattle.tophat.proofs.Leaves.{given-gives}
 use Rattle.shape.specs.Shape.{asShape}
@@ -40,11 +40,6 @@ use Rattle.state.proofs.OneState.{typed-at, only-unit, types-length}
 use Rattle.state.proofs.SitsOf.{state-writing}
 
 -- ---- answers
-
-bind-all : {X Y : Type 0} {P : X → Type 0} {Q : Y → Type 0} {o : Option X} {f : X → Option Y} → All P o → ((x : X) → P x → All Q (f x)) → All Q (bind o f)
-unfolding bind
-bind-all all-none h = all-none
-bind-all (all-some p) h = h _ p
 
 all-of : {X : Type 0} {P : X → Type 0} (o : Option X) → ((x : X) → o ≡ some x → P x) → All P o
 all-of none h = all-none

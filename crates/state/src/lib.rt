@@ -15,7 +15,7 @@ ghost use mathlib.Core.Path.{_≡_};
 ghost use mathlib.Core.List.{[], _∷_};
 ghost use Prim.Native.Nat.{_<_, _≤_};
 ghost use lib.ListN.{length, getD, set};
-ghost use Rattle.rows.specs.Rows.{maxRows, rowWords, word};
+ghost use Rattle.rows.specs.Rows.{maxRows, word};
 ghost use Rattle.rows.specs.Enclosing.{maxBinders};
 ghost use Rattle.state.specs.Layout.{stateWords, place, at};
 ghost use Rattle.state.specs.Holds.{valueLength, slotPlace, slot};

@@ -13,7 +13,7 @@ use lib.ListN.{getD, length-append, List·getD-append}
 use lib.Seq.{getD-append-seam}
 use borrow.Author.Tests.{not-true, not-false, eq-eqb, ne-eqb}
 use Rattle.word.specs.Word.{AllBits}
-use Rattle.tophat.specs.Syntax.{Ty, Val, vunit, Store}
+use Rattle.tophat.specs.Syntax.{Val, vunit, Store}
 use Rattle.shape.specs.Shape.{asShape}
 use Rattle.rows.specs.Kinds.{cellK, numberOf}
 use Rattle.rows.specs.Rows.{word}

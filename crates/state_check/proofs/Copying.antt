@@ -30,7 +30,7 @@ use Rattle.state.specs.Words.{Laid, valueAt}
 use Rattle.state.specs.Reading.{readValue, byTag, readTask}
 use Rattle.state_check.specs.declared.Part.{Part}
 use Rattle.state_check.specs.declared.Part.the-variants.{Bad, Alone, Filled, Below, Bound, Two}
-use Rattle.state_check.specs.Parts.{tagged, partFrom, partOf}
+use Rattle.state_check.specs.Parts.{taggedPart, partFrom, partOf}
 use Rattle.state_check.specs.Copies.{Sheet, Site, Copy, CopyOk, ValueOk}
 use Rattle.state_check.proofs.Laying.{clear-under, below, clear-a, clear-b, neither, left, right, two}
 
@@ -88,7 +88,7 @@ module _ (rs ws y y₁ : List ℕ) (i : ℕ) (env : List ℕ) (d : ℕ) (r : Boo
 
     -- one of three, by the tag
     tags : {p q t : Part} {o₁ o₂ o₃ : Option X} → (at ws i 0 ≡ own → St p → Got r Q o₁) → (at ws i 0 ≡ one → St q → Got r Q o₂) → (at ws i 0 ≡ other → St t → Got r Q o₃)
-        → St (tagged (at ws i 0) p q t) → Got r Q (byTag ws i o₁ o₂ o₃)
+        → St (taggedPart (at ws i 0) p q t) → Got r Q (byTag ws i o₁ o₂ o₃)
     unfolding byTag
     tags f g h s = pick (eqb (at ws i 0) own) (λ e. f (eqb-true _ _ e)) (λ _. pick (eqb (at ws i 0) one) (λ e. g (eqb-true _ _ e)) (λ _. pick (eqb (at ws i 0) other) (λ e. h (eqb-true _ _ e)) (λ _. none-held))) s
 

@@ -11,6 +11,7 @@ use native.Mathlib.Nat.{eq-or-lt-of-le}
 use native.Mathlib.Omega.{arith}
 use lib.ListN.{length, getD, replicate, take, length-take, List·getD-eq-default}
 use lib.Seq.{ext-getD, length-take-le}
+use Rattle.word.specs.Decides.{Decides}
 use Rattle.tophat.specs.Syntax.{TaskOf, Store}
 use Rattle.tophat.specs.Typing.{ValueTypes, small-nil}
 use Rattle.tophat.proofs.Basics.{no-some, some-is}
@@ -34,7 +35,7 @@ use Rattle.state.specs.Writing.{Writing}
 use Rattle.state.proofs.SitsOf.{last-sits, within, state-writing, state-is}
 use Rattle.state.proofs.Reading.{read-typed, holds-read, store-typed, stores-read, decode-sound, decode-is}
 use Rattle.state_check.specs.Copies.{Sheet, Site, Copy, CopyOk, CopyCells, CellsOk}
-use Rattle.state_check.specs.States.{Answer, State, Alike, Ends, HeldOk}
+use Rattle.state_check.specs.States.{State, Alike, ZerosAfter, HeldOk}
 
 -- ---- the same words
 
@@ -44,14 +45,14 @@ alike-none x y j l = absurd (omega arith)
 pub alike-more : (x y : List ℕ) (k : ℕ) → Alike x y k → getD x k 0 ≡ getD y k 0 → Alike x y (k + 1)
 alike-more x y k h e j l = ⊎-elim (λ (q : j ≡ k). ap (λ m. getD x m 0) q ∙ e ∙ sym (ap (λ m. getD y m 0) q)) (λ (q : j < k). h j q) (eq-or-lt-of-le (let m : j ≤ k = omega arith in m))
 
-pub alike-yes : (x y : List ℕ) (k m : ℕ) → Alike x y k → m ≤ k → Answer true (Alike x y m)
-alike-yes x y k m h g = record { pos = λ _ j q. h j (omega arith); neg = λ e. absurd (false≢true (sym e)) }
+pub alike-yes : (x y : List ℕ) (k m : ℕ) → Alike x y k → m ≤ k → Decides true (Alike x y m)
+alike-yes x y k m h g = record { yes = λ _ j q. h j (omega arith); no = λ e. absurd (false≢true (sym e)) }
 
-pub alike-no : (x y : List ℕ) (k m : ℕ) → k < m → (getD x k 0 ≡ getD y k 0 → ⊥) → Answer false (Alike x y m)
-alike-no x y k m l n = record { pos = λ e. absurd (false≢true e); neg = λ _ h. n (h k l) }
+pub alike-no : (x y : List ℕ) (k m : ℕ) → k < m → (getD x k 0 ≡ getD y k 0 → ⊥) → Decides false (Alike x y m)
+alike-no x y k m l n = record { yes = λ e. absurd (false≢true e); no = λ _ h. n (h k l) }
 
 -- words that are the same in n rows, and zeros after them
-alike-all : {x y : List ℕ} (n : ℕ) → length x ≡ length y → Ends n x → Ends n y → Alike x y (n * stateWords) → x ≡ y
+alike-all : {x y : List ℕ} (n : ℕ) → length x ≡ length y → ZerosAfter n x → ZerosAfter n y → Alike x y (n * stateWords) → x ≡ y
 alike-all {x} {y} n l p q h = ext-getD 0 x y l (λ j _. by j (decLt j (n * stateWords)))
   where
     by : (j : ℕ) → Dec (j < n * stateWords) → getD x j 0 ≡ getD y j 0
@@ -59,7 +60,7 @@ alike-all {x} {y} n l p q h = ext-getD 0 x y l (λ j _. by j (decLt j (n * state
     by j (no k) = p j (omega arith) ∙ sym (q j (omega arith))
 
 -- words that are those of n rows alone
-same-ends : {y : List ℕ} (n : ℕ) → Same (λ j. ⊥) y (take (n * stateWords) y) → Ends n y
+same-ends : {y : List ℕ} (n : ℕ) → Same (λ j. ⊥) y (take (n * stateWords) y) → ZerosAfter n y
 same-ends {y} n s k h =
     let e : k ≡ place (k / stateWords) (k % stateWords) = omega arith in
     let l = length-take (n * stateWords) y in
@@ -139,32 +140,32 @@ zero-rows n e j = subst (λ zs. Row zs j []) (sym e) (zero-row n j)
 -- what `held` returns
 module _ {rs ws zs y : List ℕ} {n : ℕ} {q : Bool} (l : 1 ≤ n) (zero : (j : ℕ) → Row zs j []) (cells : CellsOk rs ws zs y n q) where
   pub held-no-cells : q ≡ false → HeldOk rs n ws y false
-  held-no-cells e a rest = (record { pos = λ z. absurd (false≢true z); neg = λ _ st. no-store rs n ws l a rest zero cells e st }, λ z. absurd (false≢true z))
+  held-no-cells e a rest = (record { yes = λ z. absurd (false≢true z); no = λ _ st. no-store rs n ws l a rest zero cells e st }, λ z. absurd (false≢true z))
 
   module _ (e : q ≡ true) {y₁ : List ℕ} {p : Bool} (ok : CopyOk rs ws y y₁ (n - 1) (replicate maxBinders 0) 0 p) where
     pub held-no-task : p ≡ false → HeldOk rs n ws y₁ false
-    held-no-task h a rest = (record { pos = λ z. absurd (false≢true z); neg = λ _ st. no-task rs n ws l a rest zero cells e ok h st }, λ z. absurd (false≢true z))
+    held-no-task h a rest = (record { yes = λ z. absurd (false≢true z); no = λ _ st. no-task rs n ws l a rest zero cells e ok h st }, λ z. absurd (false≢true z))
 
-    pub held-same : {r : Bool} → p ≡ true → Ends n ws → length ws ≡ length y₁ → Answer r (Alike ws y₁ (n * stateWords)) → HeldOk rs n ws y₁ r
+    pub held-same : {r : Bool} → p ≡ true → ZerosAfter n ws → length ws ≡ length y₁ → Decides r (Alike ws y₁ (n * stateWords)) → HeldOk rs n ws y₁ r
     held-same {r} h d m s a rest =
         let k = taken e cells in
         let t = taken h (tasks rs n ws l a rest zero cells e ok) in
         let w = written rs n ws l a rest zero (k .has) (t .has) in
         let ends = same-ends n (taken-same 0 (within rs n a rest) (last-sits rs n a) w) in
-        let whole : r ≡ true → ws ≡ y₁ = λ z. alike-all n m d ends (s .pos z) in (
+        let whole : r ≡ true → ws ≡ y₁ = λ z. alike-all n m d ends (s .yes z) in (
           record {
-            pos = λ z. record {
+            yes = λ z. record {
               task = t .val;
               store = k .val;
               typed = read-typed rs ws (n - 1) (a .flow .typed) (t .is);
               stored = subst (ValueTypes (k .val)) (sym (types rs n ws l a rest)) (store-typed rs ws n (k .is));
               writing = subst (Writing rs (n - 1) (a .code) (t .val) (k .val)) (sym (whole z)) w;
             };
-            neg = λ z st.
+            no = λ z st.
                 let x : t .val ≡ st .task = some-is (sym (t .is) ∙ task-there rs n ws l a rest st) in
                 let v : k .val ≡ st .store = some-is (sym (k .is) ∙ store-there rs n ws l a rest st) in
                 let w₁ = subst (λ s. Writing rs (n - 1) (a .code) (st .task) s y₁) v (subst (λ t. Writing rs (n - 1) (a .code) t (k .val) y₁) x w) in
-                s .neg z (λ j _. ap (λ v. getD v j 0) (writing-one m (st .writing) w₁));
+                s .no z (λ j _. ap (λ v. getD v j 0) (writing-one m (st .writing) w₁));
           },
           λ z. sym (whole z),
         )

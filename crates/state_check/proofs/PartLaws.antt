@@ -21,21 +21,21 @@ use Rattle.state.specs.Contracts.{Fine}
 use Rattle.state.proofs.Calls.{fine-at}
 use Rattle.state_check.specs.declared.Part.{Part}
 use Rattle.state_check.specs.declared.Part.the-variants.{Bad, Alone, Filled, Below, Bound, Two}
-use Rattle.state_check.specs.Parts.{tagged, partBy, partFrom, partOf, Lower}
+use Rattle.state_check.specs.Parts.{taggedPart, partBy, partFrom, partOf, Lower}
 
 -- ---- by the tag
 
 module _ (x : ℕ) (p q r : Part) where
-  pub tag-own : x ≡ own → p ≡ tagged x p q r
+  pub tag-own : x ≡ own → p ≡ taggedPart x p q r
   tag-own e = let h = eq-eqb x own e in rw h
 
-  pub tag-one : (x ≡ own → ⊥) → x ≡ one → q ≡ tagged x p q r
+  pub tag-one : (x ≡ own → ⊥) → x ≡ one → q ≡ taggedPart x p q r
   tag-one n e = let g = ne-eqb x own n in let h = eq-eqb x one e in rw (g, h)
 
-  pub tag-other : (x ≡ own → ⊥) → (x ≡ one → ⊥) → x ≡ other → r ≡ tagged x p q r
+  pub tag-other : (x ≡ own → ⊥) → (x ≡ one → ⊥) → x ≡ other → r ≡ taggedPart x p q r
   tag-other n m e = let f = ne-eqb x own n in let g = ne-eqb x one m in let h = eq-eqb x other e in rw (f, g, h)
 
-  pub tag-none : (x ≡ own → ⊥) → (x ≡ one → ⊥) → (x ≡ other → ⊥) → Bad ≡ tagged x p q r
+  pub tag-none : (x ≡ own → ⊥) → (x ≡ one → ⊥) → (x ≡ other → ⊥) → Bad ≡ taggedPart x p q r
   tag-none n m o = let f = ne-eqb x own n in let g = ne-eqb x one m in let h = ne-eqb x other o in rw (f, g, h)
 
 -- ---- the arms of part_from
@@ -67,7 +67,7 @@ module _ (x a b c : ℕ) where
   pub part-one : {p : Part} (ks : List ℕ) (k : ℕ) → AllOf (Is p) ks → OneOf ks k → p ≡ partFrom k x a b c
   part-one {p} ks k e h = one-of (Is p) ks e h
 
-  pub part-step : {p : Part} (k : ℕ) → numberOf (taskK editK) ≤ k → k < numberOf (taskK failK) → NoneOf armKeys k → p ≡ tagged x (Below a) (Bound a b) Bad → p ≡ partFrom k x a b c
+  pub part-step : {p : Part} (k : ℕ) → numberOf (taskK editK) ≤ k → k < numberOf (taskK failK) → NoneOf armKeys k → p ≡ taggedPart x (Below a) (Bound a b) Bad → p ≡ partFrom k x a b c
   unfolding kindOf partFrom
   part-step {p} k l h g e = in-gap (Is p) armKeys (numberOf (taskK editK)) 5 (tt, (tt, (tt, (e, (e, tt))))) l h g
 
@@ -91,7 +91,7 @@ module _ (x a b c : ℕ) where
     abbrev L : Part → Type 0
     L p = Lower p i
 
-    by : (p q r : Part) → L p → L q → L r → L (tagged x p q r)
+    by : (p q r : Part) → L p → L q → L r → L (taggedPart x p q r)
     by p q r h g f = by-test L (eqb x own) (λ _. h) (λ _. by-test L (eqb x one) (λ _. g) (λ _. by-test L (eqb x other) (λ _. f) (λ _. tt)))
 
     abbrev Low : ℕ → Type 0

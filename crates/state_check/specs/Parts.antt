@@ -11,22 +11,22 @@ use Rattle.state_check.specs.declared.Part.{Part}
 use Rattle.state_check.specs.declared.Part.the-variants.{Bad, Alone, Filled, Below, Bound, Two}
 
 -- one of three parts, by the tag
-abbrev pub tagged : ℕ → Part → Part → Part → Part
-tagged x p q r = cond (eqb x own) p (cond (eqb x one) q (cond (eqb x other) r Bad))
+abbrev pub taggedPart : ℕ → Part → Part → Part → Part
+taggedPart x p q r = cond (eqb x own) p (cond (eqb x one) q (cond (eqb x other) r Bad))
 
 -- a row of a kind, or of none, with operands a, b, c and the tag x
 abbrev pub partBy : Option Kind → ℕ → ℕ → ℕ → ℕ → Part
-partBy (some (eitherK ifK)) x a b c = tagged x Bad (Below b) (Below c)
-partBy (some (eitherK letK)) x a b c = tagged x Bad (Bound a b) Bad
-partBy (some (taskK editK)) x a b c = tagged x (Filled a) Bad Bad
-partBy (some (taskK enterK)) x a b c = tagged x Alone (Filled a) Bad
-partBy (some (taskK updateK)) x a b c = tagged x Alone Bad Bad
-partBy (some (taskK thenK)) x a b c = tagged x (Below a) (Bound a b) Bad
-partBy (some (taskK nextK)) x a b c = tagged x (Below a) (Bound a b) Bad
-partBy (some (taskK failK)) x a b c = tagged x Alone Bad Bad
-partBy (some (taskK andK)) x a b c = tagged x (Two a b) Bad Bad
-partBy (some (taskK orK)) x a b c = tagged x (Two a b) (Below a) (Below b)
-partBy (some (taskK xorK)) x a b c = tagged x Alone (Below a) (Below b)
+partBy (some (eitherK ifK)) x a b c = taggedPart x Bad (Below b) (Below c)
+partBy (some (eitherK letK)) x a b c = taggedPart x Bad (Bound a b) Bad
+partBy (some (taskK editK)) x a b c = taggedPart x (Filled a) Bad Bad
+partBy (some (taskK enterK)) x a b c = taggedPart x Alone (Filled a) Bad
+partBy (some (taskK updateK)) x a b c = taggedPart x Alone Bad Bad
+partBy (some (taskK thenK)) x a b c = taggedPart x (Below a) (Bound a b) Bad
+partBy (some (taskK nextK)) x a b c = taggedPart x (Below a) (Bound a b) Bad
+partBy (some (taskK failK)) x a b c = taggedPart x Alone Bad Bad
+partBy (some (taskK andK)) x a b c = taggedPart x (Two a b) Bad Bad
+partBy (some (taskK orK)) x a b c = taggedPart x (Two a b) (Below a) (Below b)
+partBy (some (taskK xorK)) x a b c = taggedPart x Alone (Below a) (Below b)
 partBy (some (typeK k)) x a b c = Bad
 partBy (some cellK) x a b c = Bad
 partBy (some (plainK k)) x a b c = Bad

@@ -24,12 +24,13 @@ ghost use mathlib.Core.Path.{_≡_};
 ghost use mathlib.Core.Bool.{true, false};
 ghost use Prim.Native.Nat.{_*_, _-_, _<_, _≤_};
 ghost use lib.ListN.{length, replicate};
+ghost use Rattle.word.specs.Decides.{Decides};
 ghost use Rattle.rows.specs.Rows.{maxRows};
 ghost use Rattle.state.specs.Layout.{stateWords};
 ghost use Rattle.state.specs.Contracts.{Fine};
-ghost use Rattle.state_check.specs.Parts.{tagged, partFrom, partOf, Lower};
+ghost use Rattle.state_check.specs.Parts.{taggedPart, partFrom, partOf, Lower};
 ghost use Rattle.state_check.specs.Copies.{CopyOk, ValueOk, CellOk, CellsOk};
-ghost use Rattle.state_check.specs.States.{Answer, Alike, Lent, HeldOk};
+ghost use Rattle.state_check.specs.States.{Alike, ToWrite, HeldOk};
 
 // What reading does with a state row, and the rows that it then reads.
 pub enum Part {
@@ -42,7 +43,7 @@ pub enum Part {
 }
 
 fn by_tag(tag: u32, p: Part, q: Part, r: Part) -> Part
-    ensures { λ s. ⌜ s ≡ tagged tag p q r ⌝ }
+    ensures { λ s. ⌜ s ≡ taggedPart tag p q r ⌝ }
 {
     if tag == OWN {
         return p;
@@ -190,7 +191,7 @@ fn copy_cells(
 // Are the first m words the same?
 fn alike(x: &[u32], y: &[u32], m: usize) -> bool
     requires { ⌜ (m ≤ length (now x)) × (m ≤ length (now y)) ⌝ }
-    ensures { λ r. ⌜ Answer r (Alike (now (x .entry)) (now (y .entry)) m) ⌝ }
+    ensures { λ r. ⌜ Decides r (Alike (now (x .entry)) (now (y .entry)) m) ⌝ }
 {
     for k in 0..m {
         if x[k] != y[k] {
@@ -208,7 +209,7 @@ fn written(
     work: &mut [u32; STATE_SIZE],
 ) -> bool
     requires { ⌜ (1 ≤ n) × Fine (now rows) (n - 1) 0 ⌝ }
-    requires { ⌜ Lent n (now state) (now work) ⌝ }
+    requires { ⌜ ToWrite n (now state) (now work) ⌝ }
     ensures { λ r. ⌜ HeldOk (now (rows .entry)) n (now (state .entry)) (now (work .exit)) r ⌝ }
 {
     if copy_cells(rows, n, state, work) {
@@ -230,7 +231,7 @@ pub fn held(
     work: &mut [u32; STATE_SIZE],
 ) -> bool
     requires { ⌜ (1 ≤ n) × Fine (now rows) (n - 1) 0 ⌝ }
-    requires { ⌜ Lent n (now state) (now work) ⌝ }
+    requires { ⌜ ToWrite n (now state) (now work) ⌝ }
     ensures { λ r. ⌜ HeldOk (now (rows .entry)) n (now (state .entry)) (now (work .exit)) r ⌝ }
     ensures { λ r. ⌜ (r ≡ false → now (work .exit) ≡ replicate (maxRows * stateWords) 0) ⌝ }
 {

@@ -138,7 +138,7 @@ met-by (v-pair {v = v} {w = w} {τ = τ} {υ = υ} g h) {ks} {ls} d =
     subst (λ ks. Meets ks ((leavesOf v ++ leavesOf w) ++ ls)) (sym e) (subst (λ ls. Meets (leafKinds τ ++ (leafKinds υ ++ ks)) ls) (sym f) (met-by g (met-by h d)))
 
 -- unused leaves
-zeros-met : (n : ℕ) → Meets (replicate n noLeaf) (replicate n (pos 0))
+pub zeros-met : (n : ℕ) → Meets (replicate n noLeaf) (replicate n (pos 0))
 zeros-met zero = m-end
 zeros-met (suc n) = m-none (zeros-met n)
 

@@ -16,7 +16,7 @@ use Rattle.tophat.specs.Typing.{CodeType, t-edit, t-enter, t-update, t-t
 use Rattle.tophat.proofs.Basics.{no-some, some-is, All, all-none, all-some, all-is, all-map}
 use Rattle.tophat.proofs.ComputeTyping.{ask, nth, takes, gives, numberTo, opTo, sameTo, ifTo, typeTo, firstTo, secondTo, assignTo, infer, inferTask}
 
-ask-yes : {P X : Type 0} (d : Dec P) (o : Option X) → P → ask d o ≡ o
+pub ask-yes : {P X : Type 0} (d : Dec P) (o : Option X) → P → ask d o ≡ o
 unfolding ask
 ask-yes (yes p) o h = refl
 ask-yes (no p) o h = absurd (p h)
@@ -50,7 +50,7 @@ if-to : (τ : Ty) → ifTo truth τ τ ≡ some τ
 unfolding ifTo
 if-to τ = ask-yes _ _ refl ∙ same-to τ
 
-type-to : (τ : Ty) → leaves τ ≤ maxLeaves → typeTo τ ≡ some τ
+pub type-to : (τ : Ty) → leaves τ ≤ maxLeaves → typeTo τ ≡ some τ
 unfolding typeTo
 type-to τ h = ask-yes _ _ h
 
@@ -98,7 +98,7 @@ pub one-task-type : {Σ Γ : List Ty} {c : Code} {τ υ : Ty} → CodeType Σ Γ
 one-task-type d d₁ = some-is (sym (infer-task-is d) ∙ infer-task-is d₁)
 
 -- computed types are derived: the steps
-bind-all : {X Y : Type 0} {P : X → Type 0} {Q : Y → Type 0} {o : Option X} {f : X → Option Y} → All P o → ((x : X) → P x → All Q (f x)) → All Q (bind o f)
+pub bind-all : {X Y : Type 0} {P : X → Type 0} {Q : Y → Type 0} {o : Option X} {f : X → Option Y} → All P o → ((x : X) → P x → All Q (f x)) → All Q (bind o f)
 unfolding bind
 bind-all all-none h = all-none
 bind-all (all-some p) h = h _ p

@@ -56,7 +56,8 @@ pub data Handles : (c : Code) → Env → Store → TaskOf c → Path → Action
       → Handles a ρ s t p x t₁ s₁ → Handles (next a b) ρ s (before t) p x (before t₁) s₁
   -- 01: "44 takes Continue if A has a value v and B evaluated under v does not fail"
   h-next : {ρ : Env} {s s₁ : Store} {a b : Code} {t : TaskOf a} {u : TaskOf b} {v : Val}
-      → value a t s ≡ some v → EvaluatesTask b (v ∷ ρ) s u s₁ → Fails b (v ∷ ρ) s₁ u false → Handles (next a b) ρ s (before t) [] (press continue) (after v u) s₁
+      → value a t s ≡ some v → EvaluatesTask b (v ∷ ρ) s u s₁ → Fails b (v ∷ ρ) s₁ u false
+      → Handles (next a b) ρ s (before t) [] (press continue) (after v u) s₁
   h-first-and : {ρ : Env} {s s₁ : Store} {a b : Code} {t t₁ : TaskOf a} {u : TaskOf b} {p : Path} {x : Action}
       → Handles a ρ s t p x t₁ s₁ → Handles (and a b) ρ s (both t u) (first ∷ p) x (both t₁ u) s₁
   h-second-and : {ρ : Env} {s s₁ : Store} {a b : Code} {t : TaskOf a} {u u₁ : TaskOf b} {p : Path} {x : Action}

@@ -17,8 +17,9 @@ use borrow.Author.Tests.{lt-ltb, ltb-true, ltb-false, ne-eqb}
 use Rattle.word.specs.Word.{half, IsWord}
 use Rattle.tophat.specs.Syntax.{maxLeaves, Ty, number, pair, leaves, Exp, Code}
 use Rattle.tophat.proofs.ComputeTyping.{ask, nth, numberTo, typeTo, infer, inferTask}
+use Rattle.tophat.proofs.TypingAgrees.{type-to}
 use Rattle.shape.specs.Shape.{put, asShape, maybeShape}
-use Rattle.shape.proofs.Puts.{by-test, fits, shape-pos}
+use Rattle.shape.proofs.Puts.{by-test, shape-pos}
 use Rattle.rows.specs.Kinds.{Sort, taskS, typeK, unitK, truthK, numberK, pairK, cellK, plainK, eunitK, etruthK, enumberK, ebinderK, eopK, epairK, efstK, esndK, ederefK, eassignK, eitherK, ifK, letK, taskK, editK, enterK, updateK, thenK, nextK, failK, andK, orK, xorK}
 use Rattle.rows.specs.Rows.{opA, opB, opC, sameSort, sortNumber, rowSorted}
 use Rattle.rows.specs.Enclosing.{maxBinders}
@@ -81,10 +82,10 @@ module _ (rs : List ℕ) where
     type-good (r-pair {i = i} {τ = τ} {υ = υ} k p q d d₁) l env n =
         let h = small i (pair τ υ) l (r-pair k p q d d₁) in
         let g = pair-good (type-good d (omega arith) env n) (type-good d₁ (omega arith) env n) in
-        record { is = row-is rs env n i (typeK pairK) _ k (is2 i (opA rs i) (opB rs i) _ p q) ∙ g .is ∙ ap maybeShape (fits (pair τ υ) h); small = h }
+        record { is = row-is rs env n i (typeK pairK) _ k (is2 i (opA rs i) (opB rs i) _ p q) ∙ g .is ∙ ap maybeShape (type-to (pair τ υ) h); small = h }
 
     row-good : {i : ℕ} {τ : Ty} → ReadsType rs i τ → i < N → (env : List ℕ) (n : ℕ) → Good (typeTo τ) (typeOf rs env n i)
-    row-good {i = i} {τ = τ} d l env n = subst (λ o. Good o (typeOf rs env n i)) (sym (fits τ (small i τ l d))) (type-good d l env n)
+    row-good {i = i} {τ = τ} d l env n = subst (λ o. Good o (typeOf rs env n i)) (sym (type-to τ (small i τ l d))) (type-good d l env n)
 
     cell-good : {i : ℕ} {τ : Ty} → ReadsCell rs i τ → i < N → (env : List ℕ) (n : ℕ) → Good (nth cells i) (typeOf rs env n i)
     cell-good {τ = τ} (r-cell {i = i} k p d) l env n =

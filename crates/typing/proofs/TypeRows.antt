@@ -6,8 +6,8 @@ use Prim.Native.Nat.{ℕ, _≤_}
 use native.Mathlib.Omega.{arith}
 use borrow.Author.Tests.{lt-ltb}
 use Rattle.tophat.specs.Syntax.{maxLeaves, Ty, pair, leaves}
+use Rattle.tophat.proofs.TypingAgrees.{type-to}
 use Rattle.shape.specs.Shape.{put, asShape, maybeShape, pairShape}
-use Rattle.shape.proofs.Puts.{fits}
 use Rattle.shape.proofs.Shapes.{pair-of}
 use Rattle.rows.specs.Kinds.{Kind, typeK, unitK, truthK, numberK, pairK}
 use Rattle.rows.specs.Rows.{opA, opB, opC, OfKind}
@@ -26,7 +26,7 @@ row-is rs env n i k x e h = type-is rs env n i ∙ ap (typeNode (λ e m j. typeO
 
 pair-is : (τ υ : Ty) → leaves (pair τ υ) ≤ maxLeaves → pairShape (asShape τ) (asShape υ) ≡ asShape (pair τ υ)
 unfolding leaves bind maybeShape
-pair-is τ υ l = pair-of (some τ) (omega arith) (some υ) (omega arith) ∙ ap maybeShape (fits (pair τ υ) l)
+pair-is τ υ l = pair-of (some τ) (omega arith) (some υ) (omega arith) ∙ ap maybeShape (type-to (pair τ υ) l)
 
 pub type-shape : {rs : List ℕ} {i : ℕ} {τ : Ty} → ReadsType rs i τ → leaves τ ≤ maxLeaves → (env : List ℕ) (n : ℕ) → typeOf rs env n i ≡ asShape τ
 unfolding asShape put leaves

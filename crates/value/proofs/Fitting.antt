@@ -21,6 +21,7 @@ use Rattle.tophat.specs.Leaves.{padded, Leaf, noLeaf, unitLeaf, truthLeaf, numb
 use Rattle.tophat.specs.Typing.{ValueType, typeOf}
 use Rattle.tophat.proofs.Leaves.{type-of, given-gives, gives-given}
 use Rattle.tophat.proofs.Basics.{no-some}
+use Rattle.match_laws.proofs.Ranges.{and-false}
 use Rattle.rows.specs.Ground.{isSome}
 use Rattle.shape.specs.Shape.{asShape, asType, kindsIn, kindsOf}
 use Rattle.shape.proofs.Puts.{as-type}
@@ -74,10 +75,6 @@ all-met [] [] e h = refl
 all-met [] (n ∷ ls) e h = absurd (omega arith)
 all-met (k ∷ ks) [] e h = absurd (omega arith)
 all-met (k ∷ ks) (n ∷ ls) e h = ap₂ _&&_ (h 0 (suc-le-suc zero-le)) (all-met ks ls (omega arith) (λ j l. h (suc j) (suc-le-suc l)))
-
-and-false : (b : Bool) → (b && false) ≡ false
-and-false true = refl
-and-false false = refl
 
 one-unmet : (ks : List Leaf) (ls : List ℕ) (j : ℕ) → j < length ks → j < length ls → meetsLeaf (getD ks j noLeaf) (toZ w32 (getD ls j 0)) ≡ false → meets ks (map (toZ w32) ls) ≡ false
 unfolding meets

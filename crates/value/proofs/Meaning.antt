@@ -23,9 +23,10 @@ use Rattle.tophat.specs.Typing.{ValueType, v-unit, v-truth, v-number, v-pair, t
 use Rattle.tophat.specs.Leaves.{leavesOf, padded}
 use Rattle.tophat.proofs.ComputeEvaluation.{leaf, isTrue, apply}
 use Rattle.tophat.proofs.ComputeTyping.{firstTo, secondTo}
+use Rattle.tophat.proofs.TypingAgrees.{type-to}
 use Rattle.shape.specs.Shape.{asShape, maybeShape, pairShape, firstShape, secondShape, shapeLeaves}
 use Rattle.match_laws.proofs.Ranges.{past}
-use Rattle.shape.proofs.Puts.{by-test, leaves-pos, fits, as-type}
+use Rattle.shape.proofs.Puts.{by-test, leaves-pos, as-type}
 use Rattle.shape.proofs.Counts.{shape-leaves}
 use Rattle.value.specs.declared.Found.{Found}
 use Rattle.value.specs.Values.{leafBits, asValue, noLeaves, firstNumber, joinedAt, pairValue, firstValue, secondValue}
@@ -79,7 +80,7 @@ leaf-count v h =
     ∙ ap (λ n. length (leavesOf v) + n) (length-replicate m (pos 0)) ∙ omega (arith, leaves-length v)
 
 -- a value's leaves are words, and so are read back from their bits
-leaves-words : {v : Val} {τ : Ty} → ValueType v τ → AllWords (leavesOf v)
+pub leaves-words : {v : Val} {τ : Ty} → ValueType v τ → AllWords (leavesOf v)
 unfolding leavesOf
 leaves-words v-unit zero = omega arith
 leaves-words v-unit (suc i) = omega arith
@@ -120,7 +121,7 @@ module _ (v w : Val) (h : leaves (typeOf v) + leaves (typeOf w) ≤ maxLeaves) w
 
   pair-shape : pairShape (asShape (typeOf v)) (asShape (typeOf w)) ≡ asShape (typeOf (vpair v w))
   unfolding pairShape bind maybeShape typeOf
-  pair-shape = rw (as-type (typeOf v) first-small, as-type (typeOf w) second-small, fits (pair (typeOf v) (typeOf w)) small)
+  pair-shape = rw (as-type (typeOf v) first-small, as-type (typeOf w) second-small, type-to (pair (typeOf v) (typeOf w)) small)
 
   first-shape : firstShape (asShape (typeOf (vpair v w))) ≡ asShape (typeOf v)
   unfolding firstShape bind maybeShape firstTo typeOf

@@ -3,6 +3,11 @@ use Prim.Native.Nat.{_*_}
 use native.Mathlib.Omega.{arith}
 use borrow.Author.Needs.{needs}
 use lib.IntN.{pos}
+use Rattle.formats.specs.Lines.{lineBytes}
+use Rattle.rows.specs.Rows.{maxRows, rowWords}
+use Rattle.rows.specs.Lent.{rowsSize}
+use Rattle.state.specs.Layout.{stateWords}
+use Rattle.state.specs.Lent.{stateSize}
 use Rattle.console.proofs.Fronts.{fresh}
 use Rattle.console.proofs.session.Statement.{statement}
 use Rattle.console.proofs.session.Tie as tie
@@ -16,13 +21,13 @@ session-spec = tie.close (tie.spec
     (λ c κs. search needs)
     (λ c. search needs)
     (λ c. search needs)
-    (λ c. let n = c .before .read2 in fresh (n .result * 45) 11520 0 (omega (arith, n .ensures .1)))
+    (λ c. let n = c .before .read2 in fresh (n .result * lineBytes) (maxRows * lineBytes) 0 (omega (arith, n .ensures .1)))
     (λ c. search needs)
     (λ c. search needs)
-    (λ c. let n = c .before .before .read2 in fresh (n .result * 4) 1024 (pos 0) (omega (arith, n .ensures .1)))
+    (λ c. let n = c .before .before .read2 in fresh (n .result * rowWords) rowsSize (pos 0) (omega (arith, n .ensures .1)))
     (λ c. search needs)
     (λ c. search needs)
-    (λ c. let n = c .before .before .before .read2 in fresh (n .result * 16) 4096 (pos 0) (omega (arith, n .ensures .1)))
+    (λ c. let n = c .before .before .before .read2 in fresh (n .result * stateWords) stateSize (pos 0) (omega (arith, n .ensures .1)))
     (λ c. search needs)
     (λ c κs. search needs)
     (λ c. search needs))

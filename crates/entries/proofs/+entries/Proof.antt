@@ -43,100 +43,231 @@ entries-handed-on-requires : (t : ℕ) → entries-lts.Need-handed-on-requires (
 entries-handed-on-requires t c κs = (c .before .pre .1 .0) .low
 
 entries-enclose-requires : (t : ℕ) → entries-lts.Need-enclose-requires (entries-calls t) (entries-at t) entries.Post
-entries-enclose-requires t c κs = let s = c .before .before .before .before .before in ((s .pre .1 .0) .low, (s .pre .1 .0) .room)
+entries-enclose-requires t c κs =
+    let start = c .before .before .before .before .before in
+    ((start .pre .1 .0) .low, (start .pre .1 .0) .room)
 
 entries-operand-requires : (t : ℕ) → entries-lts.Need-operand-requires (entries-calls t) (entries-at t) entries.Post
-entries-operand-requires t c κs = ((c .before .before .before .before .before .before .pre .1 .0) .low, c .before .before .before .before .handed-on .ensures .low)
+entries-operand-requires t c κs =
+    let handed-on = c .before .before .before .before in
+    let start = handed-on .before .before in
+    ((start .pre .1 .0) .low, handed-on .handed-on .ensures .low)
 
 entries-entries-requires : (t : ℕ) → entries-lts.Need-entries-requires (entries-calls t) (entries-at t) entries.Post
-entries-entries-requires t c κs = let s = c .before .before .before .before .before .before .before .before .before in call-at (s .pre) (c .before .before .operand .result) (c .before .before .before .enclose .result) _ _ (low-part (s .args .rows .now) (s .args .row) (s .pre .1 .0) (c .before .before .before .before .before .before .before .handed-on .ensures .on (c .before .before .before .before .before .before .if1 .taken)) (c .before .before .operand .ensures)) (c .before .before .before .enclose .ensures .room) (s .pre .1 .1)
+entries-entries-requires t c κs =
+    let operand = c .before .before in
+    let enclose = operand .before in
+    let if1 = enclose .before .before .before in
+    let handed-on = if1 .before in
+    let start = handed-on .before .before in
+    call-at (start .pre) (operand .operand .result) (enclose .enclose .result) _ _
+    (low-part (start .args .rows .now) (start .args .row) (start .pre .1 .0) (handed-on .handed-on .ensures .on (if1 .if1 .taken)) (operand .operand .ensures))
+    (enclose .enclose .ensures .room) (start .pre .1 .1)
 
 entries-same-length : (t : ℕ) → entries-lts.Need-same-length (entries-calls t) (entries-at t) entries.Post
 entries-same-length t c = c .before .before .entries .kept .1 .1 .1 .1 .1 .1 .1 .0
 
 entries-returns : (t : ℕ) → entries-lts.Need-returns (entries-calls t) (entries-at t) entries.Post
-entries-returns t c = let s = c .before .before .before .before .before .before .before .before .before .before .before .before in (c .before .before .entries .ensures .0, entries-hands (s .args .rows .now) (s .args .state .now) (s .args .row) (s .args .env .now) (s .args .depth) (pathOf (s .args .marks)) (s .args .list .now) (c .before .before .before .before .before .before .before .before .before .before .handed-on .ensures .on (c .before .before .before .before .before .before .before .before .before .if1 .taken)) (c .before .before .before .before .before .operand .ensures) (c .before .before .before .before .before .before .enclose .last .1 .1 .1 .0) (c .before .before .before .before .before .before .enclose .result) (c .before .before .before .before .before .before .enclose .ensures) (c .before .before .entries .last .1 .1 .1 .1 .1 .1 .1 .0) (c .before .before .entries .result) (c .before .before .entries .ensures .1))
+entries-returns t c =
+    let entries = c .before .before in
+    let operand = entries .before .before .before in
+    let enclose = operand .before in
+    let if1 = enclose .before .before .before in
+    let handed-on = if1 .before in
+    let start = handed-on .before .before in
+    (entries .entries .ensures .0, entries-hands (start .args .rows .now) (start .args .state .now) (start .args .row) (start .args .env .now) (start .args .depth) (pathOf (start .args .marks)) (start .args .list .now) (handed-on .handed-on .ensures .on (if1 .if1 .taken)) (operand .operand .ensures) (enclose .enclose .last .1 .1 .1 .0) (enclose .enclose .result) (enclose .enclose .ensures) (entries .entries .last .1 .1 .1 .1 .1 .1 .1 .0) (entries .entries .result) (entries .entries .ensures .1))
 
 entries-get-requires : (t : ℕ) → entries-lts.Need-get-requires (entries-calls t) (entries-at t) entries.Post
 entries-get-requires t c κs = ((c .before .before .before .pre .1 .0) .low, omega arith)
 
 entries-operand-requires-2 : (t : ℕ) → entries-lts.Need-operand-requires-2 (entries-calls t) (entries-at t) entries.Post
-entries-operand-requires-2 t c κs = ((c .before .before .before .before .pre .1 .0) .low, omega arith)
+entries-operand-requires-2 t c κs =
+    let start = c .before .before .before .before in
+    ((start .pre .1 .0) .low, omega arith)
 
 entries-operand-requires-3 : (t : ℕ) → entries-lts.Need-operand-requires-3 (entries-calls t) (entries-at t) entries.Post
-entries-operand-requires-3 t c κs = ((c .before .before .before .before .before .pre .1 .0) .low, omega arith)
+entries-operand-requires-3 t c κs =
+    let start = c .before .before .before .before .before in
+    ((start .pre .1 .0) .low, omega arith)
 
 entries-entries-requires-2 : (t : ℕ) → entries-lts.Need-entries-requires-2 (entries-calls t) (entries-at t) entries.Post
-entries-entries-requires-2 t c κs = let s = c .before .before .before .before .before .before .before .before in call-at (s .pre) (c .before .before .before .operand2 .result) _ _ _ (low-a (s .pre .1 .0) (c .before .before .before .before .get .result) (c .before .before .before .operand2 .result) (c .before .before .before .before .get .ensures) (c .before .before .before .operand2 .ensures) (omega (arith, c .before .match .keys1))) ((s .pre .1 .0) .room) (s .pre .1 .1)
+entries-entries-requires-2 t c κs =
+    let match-at = c .before in
+    let operand2 = match-at .before .before in
+    let get = operand2 .before in
+    let start = get .before .before .before .before in
+    call-at (start .pre) (operand2 .operand2 .result) _ _ _
+    (low-a (start .pre .1 .0) (get .get .result) (operand2 .operand2 .result) (get .get .ensures) (operand2 .operand2 .ensures) (omega (arith, match-at .match .keys1)))
+    ((start .pre .1 .0) .room) (start .pre .1 .1)
 
 entries-entries-requires-3 : (t : ℕ) → entries-lts.Need-entries-requires-3 (entries-calls t) (entries-at t) entries.Post
-entries-entries-requires-3 t c κs = let s = c .before .before .before .before .before .before .before .before in call-at (s .pre) (c .before .before .before .operand2 .result) _ _ _ (low-a (s .pre .1 .0) (c .before .before .before .before .get .result) (c .before .before .before .operand2 .result) (c .before .before .before .before .get .ensures) (c .before .before .before .operand2 .ensures) (omega (arith, c .before .match .keys2))) ((s .pre .1 .0) .room) (s .pre .1 .1)
+entries-entries-requires-3 t c κs =
+    let match-at = c .before in
+    let operand2 = match-at .before .before in
+    let get = operand2 .before in
+    let start = get .before .before .before .before in
+    call-at (start .pre) (operand2 .operand2 .result) _ _ _
+    (low-a (start .pre .1 .0) (get .get .result) (operand2 .operand2 .result) (get .get .ensures) (operand2 .operand2 .ensures) (omega (arith, match-at .match .keys2)))
+    ((start .pre .1 .0) .room) (start .pre .1 .1)
 
 entries-goes-on-requires : (t : ℕ) → entries-lts.Need-goes-on-requires (entries-calls t) (entries-at t) entries.Post
-entries-goes-on-requires t c κs = ((c .before .before .before .before .before .before .before .before .before .before .before .pre .1 .0), omega (arith, (c .before .before .before .before .before .before .before .get .ensures), c .before .before .before .before .match .keys2))
+entries-goes-on-requires t c κs =
+    let match-at = c .before .before .before .before in
+    let get = match-at .before .before .before in
+    let start = get .before .before .before .before in
+    ((start .pre .1 .0), omega (arith, (get .get .ensures), match-at .match .keys2))
 
 entries-sub-button : (t : ℕ) → entries-lts.Need-sub-button (entries-calls t) (entries-at t) entries.Post
-entries-sub-button t c = omega (arith, c .before .before .before .entries3 .ensures .0, (c .before .before .before .entries3 .kept .1 .1 .1 .1 .1 .1 .1 .0))
+entries-sub-button t c =
+    let entries3 = c .before .before .before in
+    omega (arith, entries3 .entries3 .ensures .0, (entries3 .entries3 .kept .1 .1 .1 .1 .1 .1 .1 .0))
 
 entries-part-button-start : (t : ℕ) → entries-lts.Need-part-button-start (entries-calls t) (entries-at t) entries.Post
-entries-part-button-start t c = omega (arith, c .before .before .before .entries3 .ensures .0, (c .before .before .before .entries3 .kept .1 .1 .1 .1 .1 .1 .1 .0))
+entries-part-button-start t c =
+    let entries3 = c .before .before .before in
+    omega (arith, entries3 .entries3 .ensures .0, (entries3 .entries3 .kept .1 .1 .1 .1 .1 .1 .1 .0))
 
 entries-part-button-end : (t : ℕ) → entries-lts.Need-part-button-end (entries-calls t) (entries-at t) entries.Post
-entries-part-button-end t c = omega (arith, c .before .before .before .entries3 .ensures .0, (c .before .before .before .entries3 .kept .1 .1 .1 .1 .1 .1 .1 .0))
+entries-part-button-end t c =
+    let entries3 = c .before .before .before in
+    omega (arith, entries3 .entries3 .ensures .0, (entries3 .entries3 .kept .1 .1 .1 .1 .1 .1 .1 .0))
 
 entries-button-requires : (t : ℕ) → entries-lts.Need-button-requires (entries-calls t) (entries-at t) entries.Post
-entries-button-requires t c κs = ((c .before .before .before .before .before .before .before .before .before .before .before .before .before .pre .1 .1) .few, omega arith)
+entries-button-requires t c κs =
+    let start = c .before .before .before .before .before .before .before .before .before .before .before .before .before in
+    ((start .pre .1 .1) .few, omega arith)
 
 entries-add-result : (t : ℕ) → entries-lts.Need-add-result (entries-calls t) (entries-at t) entries.Post
-entries-add-result t c = let s = c .before .before .before .before .before .before .before .before .before .before .before .before .before .before .before .before in let h = room-after (s .args .list .now) (c .before .before .before .before .before .before .before .entries3 .last .1 .1 .1 .1 .1 .1 .1 .0) (c .before .before .button .last .0) (c .before .before .before .before .before .before .before .entries3 .result) (c .before .before .button .result) (c .before .before .before .before .before .before .before .entries3 .kept .1 .1 .1 .1 .1 .1 .1 .0) (c .before .before .before .before .before .before .before .entries3 .ensures .0) (c .before .before .button .ensures .room) in let g = s .good in omega (arith, h, g)
+entries-add-result t c =
+    let button = c .before .before in
+    let entries3 = button .before .before .before .before .before in
+    let good = entries3 .before .before .before .before .before .before .before .before .before in
+    let h = room-after (good .args .list .now) (entries3 .entries3 .last .1 .1 .1 .1 .1 .1 .1 .0) (button .button .last .0) (entries3 .entries3 .result) (button .button .result) (entries3 .entries3 .kept .1 .1 .1 .1 .1 .1 .1 .0) (entries3 .entries3 .ensures .0) (button .button .ensures .room) in
+    let g = good .good in
+    omega (arith, h, g)
 
 entries-choice-requires : (t : ℕ) → entries-lts.Need-choice-requires (entries-calls t) (entries-at t) entries.Post
-entries-choice-requires t c κs = let s = c .before .before .before .before .before .before .before .before in ((s .pre .1 .0), sym (c .before .before .before .before .get .ensures) ∙ c .before .match .keys3, (c .before .before .before .before .before .before .handed-on .ensures .none (c .before .before .before .before .before .if1 .left)), (s .pre .1 .1) .few)
+entries-choice-requires t c κs =
+    let match-at = c .before in
+    let get = match-at .before .before .before in
+    let if1 = get .before in
+    let handed-on = if1 .before in
+    let start = handed-on .before .before in
+    ((start .pre .1 .0), sym (get .get .ensures) ∙ match-at .match .keys3, (handed-on .handed-on .ensures .none (if1 .if1 .left)), (start .pre .1 .1) .few)
 
 entries-offer-requires : (t : ℕ) → entries-lts.Need-offer-requires (entries-calls t) (entries-at t) entries.Post
-entries-offer-requires t c κs = let s = c .before .before .before .before .before .before .before .before .before .before in (fine-at (s .pre .1 .0) (s .args .row) 0 (omega arith) (omega arith), omega (arith, (c .before .before .before .before .before .before .get .ensures), c .before .before .if2 .left), omega (arith, (c .before .before .before .before .before .before .get .ensures), c .before .if3 .taken), (s .pre .1 .1) .few)
+entries-offer-requires t c κs =
+    let if3 = c .before in
+    let if2 = if3 .before in
+    let get = if2 .before .before .before .before in
+    let start = get .before .before .before .before in
+    (fine-at (start .pre .1 .0) (start .args .row) 0 (omega arith) (omega arith), omega (arith, (get .get .ensures), if2 .if2 .left), omega (arith, (get .get .ensures), if3 .if3 .taken), (start .pre .1 .1) .few)
 
 entries-returns-2 : (t : ℕ) → entries-lts.Need-returns-2 (entries-calls t) (entries-at t) entries.Post
-entries-returns-2 t c = let s = c .before .before .before .before .before .before .before .before .before .before .before .before in (omega arith, entries-full (s .args .rows .now) (s .args .state .now) (s .args .row) (s .args .env .now) (s .args .depth) (pathOf (s .args .marks)) (s .args .list .now) (c .before .before .before .before .before .before .before .before .before .before .handed-on .ensures .none (c .before .before .before .before .before .before .before .before .before .if1 .left)) (omega (arith, (c .before .before .before .before .before .before .before .before .get .ensures), c .before .before .if4 .left)) (omega (arith, (c .before .before .before .before .before .before .before .before .get .ensures), c .before .if5 .taken)) (path-full (s .pre .1 .1) (c .if6 .taken)))
+entries-returns-2 t c =
+    let if5 = c .before in
+    let if4 = if5 .before in
+    let get = if4 .before .before .before .before .before .before in
+    let if1 = get .before in
+    let handed-on = if1 .before in
+    let start = handed-on .before .before in
+    (omega arith, entries-full (start .args .rows .now) (start .args .state .now) (start .args .row) (start .args .env .now) (start .args .depth) (pathOf (start .args .marks)) (start .args .list .now) (handed-on .handed-on .ensures .none (if1 .if1 .left)) (omega (arith, (get .get .ensures), if4 .if4 .left)) (omega (arith, (get .get .ensures), if5 .if5 .taken)) (path-full (start .pre .1 .1) (c .if6 .taken)))
 
 entries-mul-two : (t : ℕ) → entries-lts.Need-mul-two (entries-calls t) (entries-at t) entries.Post
-entries-mul-two t c = omega (arith, unit-most (c .before .before .before .before .before .before .before .before .before .before .before .before .pre .1 .1))
+entries-mul-two t c =
+    let start = c .before .before .before .before .before .before .before .before .before .before .before .before in
+    omega (arith, unit-most (start .pre .1 .1))
 
 entries-add-entries : (t : ℕ) → entries-lts.Need-add-entries (entries-calls t) (entries-at t) entries.Post
-entries-add-entries t c = let s = c .before .before .before .before .before .before .before .before .before .before .before .before in omega (arith, unit-most (s .pre .1 .1), path-most (s .pre .1 .1))
+entries-add-entries t c =
+    let start = c .before .before .before .before .before .before .before .before .before .before .before .before in
+    omega (arith, unit-most (start .pre .1 .1), path-most (start .pre .1 .1))
 
 entries-entries-requires-4 : (t : ℕ) → entries-lts.Need-entries-requires-4 (entries-calls t) (entries-at t) entries.Post
-entries-entries-requires-4 t c κs = let s = c .before .before .before .before .before .before .before .before .before .before .before .before .before in call-at (s .pre) (c .before .before .before .before .before .before .before .before .operand2 .result) _ _ _ (low-a (s .pre .1 .0) (c .before .before .before .before .before .before .before .before .before .get .result) (c .before .before .before .before .before .before .before .before .operand2 .result) (c .before .before .before .before .before .before .before .before .before .get .ensures) (c .before .before .before .before .before .before .before .before .operand2 .ensures) (omega (arith, c .before .before .before .if4 .left))) ((s .pre .1 .0) .room) (at-first (s .pre .1 .1) (c .before .if6 .left) .1)
+entries-entries-requires-4 t c κs =
+    let if6 = c .before in
+    let if4 = if6 .before .before in
+    let operand2 = if4 .before .before .before .before .before in
+    let get = operand2 .before in
+    let start = get .before .before .before .before in
+    call-at (start .pre) (operand2 .operand2 .result) _ _ _
+    (low-a (start .pre .1 .0) (get .get .result) (operand2 .operand2 .result) (get .get .ensures) (operand2 .operand2 .ensures) (omega (arith, if4 .if4 .left)))
+    ((start .pre .1 .0) .room) (at-first (start .pre .1 .1) (if6 .if6 .left) .1)
 
 entries-add-entries-2 : (t : ℕ) → entries-lts.Need-add-entries-2 (entries-calls t) (entries-at t) entries.Post
-entries-add-entries-2 t c = let s = c .before .before .before .before .before .before .before .before .before .before .before .before .before .before .before .before in omega (arith, unit-most (s .pre .1 .1), path-most (s .pre .1 .1))
+entries-add-entries-2 t c =
+    let start = c .before .before .before .before .before .before .before .before .before .before .before .before .before .before .before .before in
+    omega (arith, unit-most (start .pre .1 .1), path-most (start .pre .1 .1))
 
 entries-sub-entries : (t : ℕ) → entries-lts.Need-sub-entries (entries-calls t) (entries-at t) entries.Post
-entries-sub-entries t c = omega (arith, c .before .before .entries4 .ensures .0, (c .before .before .entries4 .kept .1 .1 .1 .1 .1 .1 .1 .0))
+entries-sub-entries t c =
+    let entries4 = c .before .before in
+    omega (arith, entries4 .entries4 .ensures .0, (entries4 .entries4 .kept .1 .1 .1 .1 .1 .1 .1 .0))
 
 entries-part-entries-start : (t : ℕ) → entries-lts.Need-part-entries-start (entries-calls t) (entries-at t) entries.Post
-entries-part-entries-start t c = omega (arith, c .before .before .entries4 .ensures .0, (c .before .before .entries4 .kept .1 .1 .1 .1 .1 .1 .1 .0))
+entries-part-entries-start t c =
+    let entries4 = c .before .before in
+    omega (arith, entries4 .entries4 .ensures .0, (entries4 .entries4 .kept .1 .1 .1 .1 .1 .1 .1 .0))
 
 entries-part-entries-end : (t : ℕ) → entries-lts.Need-part-entries-end (entries-calls t) (entries-at t) entries.Post
-entries-part-entries-end t c = omega (arith, c .before .before .entries4 .ensures .0, (c .before .before .entries4 .kept .1 .1 .1 .1 .1 .1 .1 .0))
+entries-part-entries-end t c =
+    let entries4 = c .before .before in
+    omega (arith, entries4 .entries4 .ensures .0, (entries4 .entries4 .kept .1 .1 .1 .1 .1 .1 .1 .0))
 
 entries-entries-requires-5 : (t : ℕ) → entries-lts.Need-entries-requires-5 (entries-calls t) (entries-at t) entries.Post
-entries-entries-requires-5 t c κs = let s = c .before .before .before .before .before .before .before .before .before .before .before .before .before .before .before .before .before in call-at (s .pre) (c .before .before .before .before .before .before .before .before .before .before .before .operand3 .result) _ _ _ (low-b (s .pre .1 .0) (c .before .before .before .before .before .before .before .before .before .before .before .before .before .get .result) (c .before .before .before .before .before .before .before .before .before .before .before .operand3 .result) (c .before .before .before .before .before .before .before .before .before .before .before .before .before .get .ensures) (c .before .before .before .before .before .before .before .before .before .before .before .operand3 .ensures) (omega (arith, c .before .before .before .before .before .before .before .if4 .left))) ((s .pre .1 .0) .room) (at-second (s .pre .1 .1) (c .before .before .before .before .before .if6 .left) .1)
+entries-entries-requires-5 t c κs =
+    let if6 = c .before .before .before .before .before in
+    let if4 = if6 .before .before in
+    let operand3 = if4 .before .before .before .before in
+    let get = operand3 .before .before in
+    let start = get .before .before .before .before in
+    call-at (start .pre) (operand3 .operand3 .result) _ _ _
+    (low-b (start .pre .1 .0) (get .get .result) (operand3 .operand3 .result) (get .get .ensures) (operand3 .operand3 .ensures) (omega (arith, if4 .if4 .left)))
+    ((start .pre .1 .0) .room) (at-second (start .pre .1 .1) (if6 .if6 .left) .1)
 
 entries-add-result-2 : (t : ℕ) → entries-lts.Need-add-result-2 (entries-calls t) (entries-at t) entries.Post
-entries-add-result-2 t c = let s = c .before .before .before .before .before .before .before .before .before .before .before .before .before .before .before .before .before .before .before .before in let h = room-after (s .args .list .now) (c .before .before .before .before .before .before .entries4 .last .1 .1 .1 .1 .1 .1 .1 .0) (c .before .before .entries5 .last .1 .1 .1 .1 .1 .1 .1 .0) (c .before .before .before .before .before .before .entries4 .result) (c .before .before .entries5 .result) (c .before .before .before .before .before .before .entries4 .kept .1 .1 .1 .1 .1 .1 .1 .0) (c .before .before .before .before .before .before .entries4 .ensures .0) (c .before .before .entries5 .ensures .0) in let g = s .good in omega (arith, h, g)
+entries-add-result-2 t c =
+    let entries5 = c .before .before in
+    let entries4 = entries5 .before .before .before .before in
+    let good = entries4 .before .before .before .before .before .before .before .before .before .before .before .before .before .before in
+    let h = room-after (good .args .list .now) (entries4 .entries4 .last .1 .1 .1 .1 .1 .1 .1 .0) (entries5 .entries5 .last .1 .1 .1 .1 .1 .1 .1 .0) (entries4 .entries4 .result) (entries5 .entries5 .result) (entries4 .entries4 .kept .1 .1 .1 .1 .1 .1 .1 .0) (entries4 .entries4 .ensures .0) (entries5 .entries5 .ensures .0) in
+    let g = good .good in
+    omega (arith, h, g)
 
 entries-same-length-2 : (t : ℕ) → entries-lts.Need-same-length-2 (entries-calls t) (entries-at t) entries.Post
 entries-same-length-2 t c = c .before .before .entries2 .kept .1 .1 .1 .1 .1 .1 .1 .0
 
 entries-returns-3 : (t : ℕ) → entries-lts.Need-returns-3 (entries-calls t) (entries-at t) entries.Post
-entries-returns-3 t c = let s = c .before .before .before .before .before .before .before .before .before .before .before in (c .before .before .entries2 .ensures .0, entries-then (s .args .rows .now) (s .args .state .now) (s .args .row) (s .args .env .now) (s .args .depth) (pathOf (s .args .marks)) (s .args .list .now) (c .before .before .before .before .before .before .before .before .before .handed-on .ensures .none (c .before .before .before .before .before .before .before .before .if1 .left)) (c .before .before .entries2 .last .1 .1 .1 .1 .1 .1 .1 .0) (c .before .before .before .before .before .before .operand2 .result) (c .before .before .entries2 .result) (sym (c .before .before .before .before .before .before .before .get .ensures) ∙ c .before .before .before .before .match .keys1) (c .before .before .before .before .before .before .operand2 .ensures) (c .before .before .entries2 .ensures .1))
+entries-returns-3 t c =
+    let entries2 = c .before .before in
+    let match-at = entries2 .before .before in
+    let operand2 = match-at .before .before in
+    let get = operand2 .before in
+    let if1 = get .before in
+    let handed-on = if1 .before in
+    let start = handed-on .before .before in
+    (entries2 .entries2 .ensures .0, entries-then (start .args .rows .now) (start .args .state .now) (start .args .row) (start .args .env .now) (start .args .depth) (pathOf (start .args .marks)) (start .args .list .now) (handed-on .handed-on .ensures .none (if1 .if1 .left)) (entries2 .entries2 .last .1 .1 .1 .1 .1 .1 .1 .0) (operand2 .operand2 .result) (entries2 .entries2 .result) (sym (get .get .ensures) ∙ match-at .match .keys1) (operand2 .operand2 .ensures) (entries2 .entries2 .ensures .1))
 
 entries-same-length-3 : (t : ℕ) → entries-lts.Need-same-length-3 (entries-calls t) (entries-at t) entries.Post
-entries-same-length-3 t c = same-len-mid (c .before .before .before .before .before .before .before .entries3 .result) (length (c .before .before .before .before .before .before .before .entries3 .last .1 .1 .1 .1 .1 .1 .1 .0) - c .before .before .before .before .before .before .before .entries3 .result) (c .before .before .before .before .before .before .before .entries3 .last .1 .1 .1 .1 .1 .1 .1 .0) (c .before .before .button .last .0) (c .before .before .button .kept .0) ∙ (c .before .before .before .before .before .before .before .entries3 .kept .1 .1 .1 .1 .1 .1 .1 .0)
+entries-same-length-3 t c =
+    let button = c .before .before in
+    let entries3 = button .before .before .before .before .before in
+    same-len-mid (entries3 .entries3 .result) (length (entries3 .entries3 .last .1 .1 .1 .1 .1 .1 .1 .0) - entries3 .entries3 .result)
+    (entries3 .entries3 .last .1 .1 .1 .1 .1 .1 .1 .0) (button .button .last .0) (button .button .kept .0) ∙
+    (entries3 .entries3 .kept .1 .1 .1 .1 .1 .1 .1 .0)
 
 entries-returns-4 : (t : ℕ) → entries-lts.Need-returns-4 (entries-calls t) (entries-at t) entries.Post
-entries-returns-4 t c = let s = c .before .before .before .before .before .before .before .before .before .before .before .before .before .before .before .before in (room-after (s .args .list .now) (c .before .before .before .before .before .before .before .entries3 .last .1 .1 .1 .1 .1 .1 .1 .0) (c .before .before .button .last .0) (c .before .before .before .before .before .before .before .entries3 .result) (c .before .before .button .result) (c .before .before .before .before .before .before .before .entries3 .kept .1 .1 .1 .1 .1 .1 .1 .0) (c .before .before .before .before .before .before .before .entries3 .ensures .0) (c .before .before .button .ensures .room), entries-next (s .args .rows .now) (s .args .state .now) (s .args .row) (s .args .env .now) (s .args .depth) (pathOf (s .args .marks)) (s .args .list .now) (c .before .before .before .before .before .before .before .before .before .before .before .before .before .before .handed-on .ensures .none (c .before .before .before .before .before .before .before .before .before .before .before .before .before .if1 .left)) (c .before .before .before .before .before .before .before .entries3 .last .1 .1 .1 .1 .1 .1 .1 .0) (c .before .before .button .last .0) (c .before .before .before .before .before .before .before .before .before .before .before .operand2 .result) (c .before .before .before .before .before .before .before .entries3 .result) (c .before .before .button .result) (c .before .before .before .before .goes-on .result) (sym (c .before .before .before .before .before .before .before .before .before .before .before .before .get .ensures) ∙ c .before .before .before .before .before .before .before .before .before .match .keys2) (c .before .before .before .before .before .before .before .before .before .before .before .operand2 .ensures) (c .before .before .before .before .before .before .before .entries3 .kept .1 .1 .1 .1 .1 .1 .1 .0) (c .before .before .before .before .before .before .before .entries3 .ensures .1) (c .before .before .before .before .goes-on .ensures) (c .before .before .button .ensures))
+entries-returns-4 t c =
+    let button = c .before .before in
+    let goes-on = button .before .before in
+    let entries3 = goes-on .before .before .before in
+    let match-at = entries3 .before .before in
+    let operand2 = match-at .before .before in
+    let get = operand2 .before in
+    let if1 = get .before in
+    let handed-on = if1 .before in
+    let start = handed-on .before .before in
+    (room-after (start .args .list .now) (entries3 .entries3 .last .1 .1 .1 .1 .1 .1 .1 .0) (button .button .last .0) (entries3 .entries3 .result) (button .button .result) (entries3 .entries3 .kept .1 .1 .1 .1 .1 .1 .1 .0) (entries3 .entries3 .ensures .0) (button .button .ensures .room), entries-next (start .args .rows .now) (start .args .state .now) (start .args .row) (start .args .env .now) (start .args .depth) (pathOf (start .args .marks)) (start .args .list .now) (handed-on .handed-on .ensures .none (if1 .if1 .left)) (entries3 .entries3 .last .1 .1 .1 .1 .1 .1 .1 .0) (button .button .last .0) (operand2 .operand2 .result) (entries3 .entries3 .result) (button .button .result) (goes-on .goes-on .result) (sym (get .get .ensures) ∙ match-at .match .keys2) (operand2 .operand2 .ensures) (entries3 .entries3 .kept .1 .1 .1 .1 .1 .1 .1 .0) (entries3 .entries3 .ensures .1) (goes-on .goes-on .ensures) (button .button .ensures))
 
 entries-same-length-4 : (t : ℕ) → entries-lts.Need-same-length-4 (entries-calls t) (entries-at t) entries.Post
 entries-same-length-4 t c = c .before .before .choice .kept .1 .1 .1 .1 .1 .1 .0
@@ -148,22 +279,60 @@ entries-same-length-5 : (t : ℕ) → entries-lts.Need-same-length-5 (entries-ca
 entries-same-length-5 t c = c .before .before .offer .kept .1 .1 .1 .1 .0
 
 entries-returns-6 : (t : ℕ) → entries-lts.Need-returns-6 (entries-calls t) (entries-at t) entries.Post
-entries-returns-6 t c = let s = c .before .before .before .before .before .before .before .before .before .before .before .before .before in (c .before .before .offer .ensures .0, c .before .before .offer .ensures .1 (s .args .env .now) (s .args .depth))
+entries-returns-6 t c =
+    let offer = c .before .before in
+    let start = offer .before .before .before .before .before .before .before .before .before .before .before in
+    (offer .offer .ensures .0, offer .offer .ensures .1 (start .args .env .now) (start .args .depth))
 
 entries-same-length-6 : (t : ℕ) → entries-lts.Need-same-length-6 (entries-calls t) (entries-at t) entries.Post
-entries-same-length-6 t c = same-len-mid (c .before .before .before .before .before .before .entries4 .result) (length (c .before .before .before .before .before .before .entries4 .last .1 .1 .1 .1 .1 .1 .1 .0) - c .before .before .before .before .before .before .entries4 .result) (c .before .before .before .before .before .before .entries4 .last .1 .1 .1 .1 .1 .1 .1 .0) (c .before .before .entries5 .last .1 .1 .1 .1 .1 .1 .1 .0) (c .before .before .entries5 .kept .1 .1 .1 .1 .1 .1 .1 .0) ∙ (c .before .before .before .before .before .before .entries4 .kept .1 .1 .1 .1 .1 .1 .1 .0)
+entries-same-length-6 t c =
+    let entries5 = c .before .before in
+    let entries4 = entries5 .before .before .before .before in
+    same-len-mid (entries4 .entries4 .result) (length (entries4 .entries4 .last .1 .1 .1 .1 .1 .1 .1 .0) - entries4 .entries4 .result)
+    (entries4 .entries4 .last .1 .1 .1 .1 .1 .1 .1 .0) (entries5 .entries5 .last .1 .1 .1 .1 .1 .1 .1 .0)
+    (entries5 .entries5 .kept .1 .1 .1 .1 .1 .1 .1 .0) ∙ (entries4 .entries4 .kept .1 .1 .1 .1 .1 .1 .1 .0)
 
 entries-returns-7 : (t : ℕ) → entries-lts.Need-returns-7 (entries-calls t) (entries-at t) entries.Post
-entries-returns-7 t c = let s = c .before .before .before .before .before .before .before .before .before .before .before .before .before .before .before .before .before .before .before .before in (room-after (s .args .list .now) (c .before .before .before .before .before .before .entries4 .last .1 .1 .1 .1 .1 .1 .1 .0) (c .before .before .entries5 .last .1 .1 .1 .1 .1 .1 .1 .0) (c .before .before .before .before .before .before .entries4 .result) (c .before .before .entries5 .result) (c .before .before .before .before .before .before .entries4 .kept .1 .1 .1 .1 .1 .1 .1 .0) (c .before .before .before .before .before .before .entries4 .ensures .0) (c .before .before .entries5 .ensures .0), entries-marked (s .args .rows .now) (s .args .state .now) (s .args .row) (s .args .env .now) (s .args .depth) (s .args .marks) (s .args .unit) (s .args .list .now) (c .before .before .before .before .before .before .entries4 .last .1 .1 .1 .1 .1 .1 .1 .0) (c .before .before .entries5 .last .1 .1 .1 .1 .1 .1 .1 .0) (c .before .before .before .before .before .before .before .before .before .before .before .before .before .before .before .operand2 .result) (c .before .before .before .before .before .before .before .before .before .before .before .before .before .before .operand3 .result) (c .before .before .before .before .before .before .entries4 .result) (c .before .before .entries5 .result) (s .pre .1 .1) (c .before .before .before .before .before .before .before .before .if6 .left) (c .before .before .before .before .before .before .before .before .before .before .before .before .before .before .before .before .before .before .handed-on .ensures .none (c .before .before .before .before .before .before .before .before .before .before .before .before .before .before .before .before .before .if1 .left)) (c .before .before .before .before .before .before .entries4 .kept .1 .1 .1 .1 .1 .1 .1 .0) (omega (arith, (c .before .before .before .before .before .before .before .before .before .before .before .before .before .before .before .before .get .ensures), c .before .before .before .before .before .before .before .before .before .before .if4 .left)) (omega (arith, (c .before .before .before .before .before .before .before .before .before .before .before .before .before .before .before .before .get .ensures), c .before .before .before .before .before .before .before .before .before .if5 .taken)) (c .before .before .before .before .before .before .before .before .before .before .before .before .before .before .before .operand2 .ensures) (c .before .before .before .before .before .before .before .before .before .before .before .before .before .before .operand3 .ensures) (c .before .before .before .before .before .before .entries4 .ensures .1) (c .before .before .entries5 .ensures .1))
+entries-returns-7 t c =
+    let entries5 = c .before .before in
+    let entries4 = entries5 .before .before .before .before in
+    let if6 = entries4 .before .before in
+    let if5 = if6 .before in
+    let if4 = if5 .before in
+    let operand3 = if4 .before .before .before .before in
+    let operand2 = operand3 .before in
+    let get = operand2 .before in
+    let if1 = get .before in
+    let handed-on = if1 .before in
+    let start = handed-on .before .before in
+    (room-after (start .args .list .now) (entries4 .entries4 .last .1 .1 .1 .1 .1 .1 .1 .0) (entries5 .entries5 .last .1 .1 .1 .1 .1 .1 .1 .0) (entries4 .entries4 .result) (entries5 .entries5 .result) (entries4 .entries4 .kept .1 .1 .1 .1 .1 .1 .1 .0) (entries4 .entries4 .ensures .0) (entries5 .entries5 .ensures .0), entries-marked (start .args .rows .now) (start .args .state .now) (start .args .row) (start .args .env .now) (start .args .depth) (start .args .marks) (start .args .unit) (start .args .list .now) (entries4 .entries4 .last .1 .1 .1 .1 .1 .1 .1 .0) (entries5 .entries5 .last .1 .1 .1 .1 .1 .1 .1 .0) (operand2 .operand2 .result) (operand3 .operand3 .result) (entries4 .entries4 .result) (entries5 .entries5 .result) (start .pre .1 .1) (if6 .if6 .left) (handed-on .handed-on .ensures .none (if1 .if1 .left)) (entries4 .entries4 .kept .1 .1 .1 .1 .1 .1 .1 .0) (omega (arith, (get .get .ensures), if4 .if4 .left)) (omega (arith, (get .get .ensures), if5 .if5 .taken)) (operand2 .operand2 .ensures) (operand3 .operand3 .ensures) (entries4 .entries4 .ensures .1) (entries5 .entries5 .ensures .1))
 
 entries-returns-8 : (t : ℕ) → entries-lts.Need-returns-8 (entries-calls t) (entries-at t) entries.Post
-entries-returns-8 t c = let s = c .before .before .before .before .before .before .before .before in (omega arith, entries-none (s .args .rows .now) (s .args .state .now) (s .args .row) (s .args .env .now) (s .args .depth) (pathOf (s .args .marks)) (s .args .list .now) (c .before .before .before .before .before .before .handed-on .ensures .none (c .before .before .before .before .before .if1 .left)) (λ h g. omega (arith, (c .before .before .before .before .get .ensures), c .if2 .taken, h)) (λ h g. omega (arith, (c .before .before .before .before .get .ensures), c .if2 .taken, h)))
+entries-returns-8 t c =
+    let get = c .before .before .before .before in
+    let if1 = get .before in
+    let handed-on = if1 .before in
+    let start = handed-on .before .before in
+    (omega arith, entries-none (start .args .rows .now) (start .args .state .now) (start .args .row) (start .args .env .now) (start .args .depth) (pathOf (start .args .marks)) (start .args .list .now) (handed-on .handed-on .ensures .none (if1 .if1 .left)) (λ h g. omega (arith, (get .get .ensures), c .if2 .taken, h)) (λ h g. omega (arith, (get .get .ensures), c .if2 .taken, h)))
 
 entries-returns-9 : (t : ℕ) → entries-lts.Need-returns-9 (entries-calls t) (entries-at t) entries.Post
-entries-returns-9 t c = let s = c .before .before .before .before .before .before .before .before .before .before in (omega arith, entries-none (s .args .rows .now) (s .args .state .now) (s .args .row) (s .args .env .now) (s .args .depth) (pathOf (s .args .marks)) (s .args .list .now) (c .before .before .before .before .before .before .before .before .handed-on .ensures .none (c .before .before .before .before .before .before .before .if1 .left)) (λ h g. none-mid (omega (arith, c .before .if3 .left)) (c .before .before .before .match .rest .0 .0 .1) (c .before .before .before .match .rest .0 .1) (omega (arith, (c .before .before .before .before .before .before .get .ensures), g))) (λ h g. omega (arith, (c .before .before .before .before .before .before .get .ensures), c .if4 .taken, h)))
+entries-returns-9 t c =
+    let if3 = c .before in
+    let match-at = if3 .before .before in
+    let get = match-at .before .before .before in
+    let if1 = get .before in
+    let handed-on = if1 .before in
+    let start = handed-on .before .before in
+    (omega arith, entries-none (start .args .rows .now) (start .args .state .now) (start .args .row) (start .args .env .now) (start .args .depth) (pathOf (start .args .marks)) (start .args .list .now) (handed-on .handed-on .ensures .none (if1 .if1 .left)) (λ h g. none-mid (omega (arith, if3 .if3 .left)) (match-at .match .rest .0 .0 .1) (match-at .match .rest .0 .1) (omega (arith, (get .get .ensures), g))) (λ h g. omega (arith, (get .get .ensures), c .if4 .taken, h)))
 
 entries-returns-10 : (t : ℕ) → entries-lts.Need-returns-10 (entries-calls t) (entries-at t) entries.Post
-entries-returns-10 t c = let s = c .before .before .before .before .before .before .before .before .before .before .before in (omega arith, entries-none (s .args .rows .now) (s .args .state .now) (s .args .row) (s .args .env .now) (s .args .depth) (pathOf (s .args .marks)) (s .args .list .now) (c .before .before .before .before .before .before .before .before .before .handed-on .ensures .none (c .before .before .before .before .before .before .before .before .if1 .left)) (λ h g. omega (arith, (c .before .before .before .before .before .before .before .get .ensures), c .if5 .left, g)) (λ h g. none-high (omega (arith, c .if5 .left)) (c .before .before .before .before .match .rest .1) (omega (arith, (c .before .before .before .before .before .before .before .get .ensures), g))))
+entries-returns-10 t c =
+    let match-at = c .before .before .before .before in
+    let get = match-at .before .before .before in
+    let if1 = get .before in
+    let handed-on = if1 .before in
+    let start = handed-on .before .before in
+    (omega arith, entries-none (start .args .rows .now) (start .args .state .now) (start .args .row) (start .args .env .now) (start .args .depth) (pathOf (start .args .marks)) (start .args .list .now) (handed-on .handed-on .ensures .none (if1 .if1 .left)) (λ h g. omega (arith, (get .get .ensures), c .if5 .left, g)) (λ h g. none-high (omega (arith, c .if5 .left)) (match-at .match .rest .1) (omega (arith, (get .get .ensures), g))))
 
 pub +entries-spec : {M : Type 1} → statement M
 +entries-spec = close μ-entries λ t. entries-lts.spec (entries-calls t) (entries-at t)

@@ -14,7 +14,10 @@ choice-spec = tie.close (tie.spec
     (λ c κs. search needs)
     (λ c κs. let s = c .before .before in let l = low-a (s .pre .0) _ (c .operand .result) refl (c .operand .ensures) (omega (arith, s .pre .1)) in fine-at (s .pre .0) (c .operand .result) (s .args .depth) (omega arith) ((s .pre .0) .room))
     (λ c κs. search needs)
-    (λ c κs. let s = c .before .before .before .before in let l = low-b (s .pre .0) _ (c .operand2 .result) refl (c .operand2 .ensures) (omega (arith, s .pre .1)) in fine-at (s .pre .0) (c .operand2 .result) (s .args .depth) (omega arith) ((s .pre .0) .room))
+    (λ c κs.
+    let start = c .before .before .before .before in
+    let l = low-b (start .pre .0) _ (c .operand2 .result) refl (c .operand2 .ensures) (omega (arith, start .pre .1)) in
+    fine-at (start .pre .0) (c .operand2 .result) (start .args .depth) (omega arith) ((start .pre .0) .room))
     (λ c κs. search needs)
     (λ c. search needs)
     (λ c. search needs)
@@ -22,4 +25,12 @@ choice-spec = tie.close (tie.spec
     (λ c κs. search needs)
     (λ c. search needs)
     (λ c. search needs)
-    (λ c. let s = c .before .before .before .before .before .before .before .before .before .before .before .before .before in (room-after (s .args .list .now) (c .before .before .before .before .before .before .button .last .0) (c .before .before .button2 .last .0) (c .before .before .before .before .before .before .button .result) (c .before .before .button2 .result) (c .before .before .before .before .before .before .button .kept .0) (c .before .before .before .before .before .before .button .ensures .room) (c .before .before .button2 .ensures .room), entries-choice (s .args .rows .now) (s .args .state .now) (s .args .row) (s .args .env .now) (s .args .depth) (pathOf (s .args .marks)) (s .args .list .now) (s .pre .2) (c .before .before .before .before .before .before .button .last .0) (c .before .before .button2 .last .0) (c .before .before .before .before .before .before .before .before .before .before .before .operand .result) (c .before .before .before .before .before .before .before .before .before .operand2 .result) (c .before .before .before .before .before .before .button .result) (c .before .before .button2 .result) (c .before .before .before .before .before .before .before .before .before .before .tried .result) (c .before .before .before .before .before .before .before .before .tried2 .result) (s .pre .1) (c .before .before .before .before .before .before .before .before .before .before .before .operand .ensures) (c .before .before .before .before .before .before .before .before .before .operand2 .ensures) (c .before .before .before .before .before .before .button .kept .0) (c .before .before .before .before .before .before .before .before .before .before .tried .ensures) (c .before .before .before .before .before .before .before .before .tried2 .ensures) (c .before .before .before .before .before .before .button .ensures) (c .before .before .button2 .ensures))))
+    (λ c.
+    let button2 = c .before .before in
+    let button = button2 .before .before .before .before in
+    let tried2 = button .before .before in
+    let operand2 = tried2 .before in
+    let tried = operand2 .before in
+    let operand = tried .before in
+    let start = operand .before .before in
+    (room-after (start .args .list .now) (button .button .last .0) (button2 .button2 .last .0) (button .button .result) (button2 .button2 .result) (button .button .kept .0) (button .button .ensures .room) (button2 .button2 .ensures .room), entries-choice (start .args .rows .now) (start .args .state .now) (start .args .row) (start .args .env .now) (start .args .depth) (pathOf (start .args .marks)) (start .args .list .now) (start .pre .2) (button .button .last .0) (button2 .button2 .last .0) (operand .operand .result) (operand2 .operand2 .result) (button .button .result) (button2 .button2 .result) (tried .tried .result) (tried2 .tried2 .result) (start .pre .1) (operand .operand .ensures) (operand2 .operand2 .ensures) (button .button .kept .0) (tried .tried .ensures) (tried2 .tried2 .ensures) (button .button .ensures) (button2 .button2 .ensures))))

@@ -12,8 +12,38 @@ content-spec = tie.close (tie.spec
     (λ c κs. search needs)
     (λ c κs. search needs)
     (λ c κs. search needs)
-    (λ c κs. let s = c .before .before .before in let l = low-a (s .pre .0) (c .before .before .get .result) (c .before .operand .result) (c .before .before .get .ensures) (c .before .operand .ensures) (omega (arith, s .pre .1, c .before .before .get .ensures)) in let f = s .pre .0 .low in omega arith)
-    (λ c κs. let s = c .before .before .before in let l = low-a (s .pre .0) (c .before .before .get .result) (c .before .operand .result) (c .before .before .get .ensures) (c .before .operand .ensures) (omega (arith, s .pre .1, c .before .before .get .ensures)) in let f = s .pre .0 .low in (omega arith, omega arith))
-    (λ c. let s = c .before .before .before .before in content-filled (s .args .rows .now) (s .args .state .now) (s .args .row) (c .read .result) (sym (c .before .before .before .get .ensures) ∙ c .before .match .keys1) (c .read .ensures))
-    (λ c. let s = c .before .before .before .before in content-entered (s .args .rows .now) (s .args .state .now) (s .args .row) (c .before .before .operand .result) (c .row-type .result) _ _ (sym (c .before .before .before .get .ensures) ∙ c .before .match .keys2) (c .before .before .operand .ensures) (c .row-type .ensures))
-    (λ c. let s = c .before .before .before .before in content-shared (s .args .rows .now) (s .args .state .now) (s .args .row) (c .before .before .operand .result) (c .read2 .result) (shared-kind (s .pre .1) (s .pre .2) (λ e. c .before .match .rest .0 .1 (c .before .before .before .get .ensures ∙ e)) (λ e. c .before .match .rest .1 (c .before .before .before .get .ensures ∙ e))) (c .before .before .operand .ensures) (c .read2 .ensures)))
+    (λ c κs.
+    let operand = c .before in
+    let get = operand .before in
+    let start = get .before in
+    let l = low-a (start .pre .0) (get .get .result) (operand .operand .result) (get .get .ensures) (operand .operand .ensures) (omega (arith, start .pre .1, get .get .ensures)) in
+    let f = start .pre .0 .low in
+    omega arith)
+    (λ c κs.
+    let operand = c .before in
+    let get = operand .before in
+    let start = get .before in
+    let l = low-a (start .pre .0) (get .get .result) (operand .operand .result) (get .get .ensures) (operand .operand .ensures) (omega (arith, start .pre .1, get .get .ensures)) in
+    let f = start .pre .0 .low in
+    (omega arith, omega arith))
+    (λ c.
+    let match-at = c .before in
+    let get = match-at .before .before in
+    let start = get .before in
+    content-filled (start .args .rows .now) (start .args .state .now) (start .args .row) (c .read .result)
+    (sym (get .get .ensures) ∙ match-at .match .keys1) (c .read .ensures))
+    (λ c.
+    let match-at = c .before in
+    let operand = match-at .before in
+    let get = operand .before in
+    let start = get .before in
+    content-entered (start .args .rows .now) (start .args .state .now) (start .args .row) (operand .operand .result) (c .row-type .result) _ _
+    (sym (get .get .ensures) ∙ match-at .match .keys2) (operand .operand .ensures) (c .row-type .ensures))
+    (λ c.
+    let match-at = c .before in
+    let operand = match-at .before in
+    let get = operand .before in
+    let start = get .before in
+    content-shared (start .args .rows .now) (start .args .state .now) (start .args .row) (operand .operand .result) (c .read2 .result)
+    (shared-kind (start .pre .1) (start .pre .2) (λ e. match-at .match .rest .0 .1 (get .get .ensures ∙ e)) (λ e. match-at .match .rest .1 (get .get .ensures ∙ e)))
+    (operand .operand .ensures) (c .read2 .ensures)))

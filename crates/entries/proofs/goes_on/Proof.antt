@@ -12,6 +12,18 @@ pub goes-on-spec : {M : Type 1} → statement M
 goes-on-spec = tie.close (tie.spec
     (λ c κs. search needs)
     (λ c κs. let s = c .before in let l = low-a (s .pre .0) _ (c .operand .result) refl (c .operand .ensures) (s .pre .1) in fine-at (s .pre .0) (c .operand .result) 0 (omega arith) (omega arith))
-    (λ c. let s = c .before .before .before .before in goes-none (s .args .rows .now) (s .args .state .now) (s .args .row) (s .args .env .now) (s .args .depth) (c .before .before .before .operand .result) (c .before .before .before .operand .ensures) (c .before .before .value .result) (c .before .before .value .ensures) (not-true _ (c .if1 .taken)))
+    (λ c.
+    let value = c .before .before in
+    let operand = value .before in
+    let start = operand .before in
+    goes-none (start .args .rows .now) (start .args .state .now) (start .args .row) (start .args .env .now) (start .args .depth)
+    (operand .operand .result) (operand .operand .ensures) (value .value .result) (value .value .ensures) (not-true _ (c .if1 .taken)))
     (λ c κs. search needs)
-    (λ c. let s = c .before .before .before .before .before .before .before in goes-tried (s .args .rows .now) (s .args .state .now) (s .args .row) (s .args .env .now) (s .args .depth) (c .before .before .before .before .before .before .operand .result) (c .before .before .before .before .before .before .operand .ensures) (c .before .before .before .before .before .value .result) (c .before .before .before .before .before .value .ensures) (c .attempt .last .1 .0) (c .attempt .result) (not-false _ (c .before .before .before .if1 .left)) (c .attempt .ensures)))
+    (λ c.
+    let if1 = c .before .before .before in
+    let value = if1 .before .before in
+    let operand = value .before in
+    let start = operand .before in
+    goes-tried (start .args .rows .now) (start .args .state .now) (start .args .row) (start .args .env .now) (start .args .depth)
+    (operand .operand .result) (operand .operand .ensures) (value .value .result) (value .value .ensures) (c .attempt .last .1 .0)
+    (c .attempt .result) (not-false _ (if1 .if1 .left)) (c .attempt .ensures)))

@@ -15,6 +15,14 @@ pub offer-spec : {M : Type 1} → statement M
 offer-spec = tie.close (tie.spec
     (λ c κs. search needs)
     (λ c κs. search needs)
-    (λ c κs. (c .before .before .before .before .pre .3, omega arith, kinds-digit (c .leaf-kinds .result) (c .before .before .content .result) (c .leaf-kinds .ensures)))
+    (λ c κs.
+    let content = c .before .before in
+    let start = content .before .before in
+    (start .pre .3, omega arith, kinds-digit (c .leaf-kinds .result) (content .content .result) (c .leaf-kinds .ensures)))
     (λ c. search needs)
-    (λ c. let s = c .before .before .before .before .before .before .before in (c .before .before .write-entry .ensures .room, λ env d. entries-offer (s .args .rows .now) (s .args .state .now) (s .args .row) env d (pathOf (s .args .marks)) (s .args .list .now) (c .before .before .write-entry .last .0) (c .before .before .write-entry .result) (c .before .before .before .before .before .content .result) (c .before .before .before .before .before .content .ensures) (subst (λ ks. Wrote (s .args .list .now) (c .before .before .write-entry .last .0) (c .before .before .write-entry .result) (numbersEntry (pathOf (s .args .marks)) (actNumber giving) ks)) (c .before .before .before .leaf-kinds .ensures) (c .before .before .write-entry .ensures)))))
+    (λ c.
+    let write-entry = c .before .before in
+    let leaf-kinds = write-entry .before in
+    let content = leaf-kinds .before .before in
+    let start = content .before .before in
+    (write-entry .write-entry .ensures .room, λ env d. entries-offer (start .args .rows .now) (start .args .state .now) (start .args .row) env d (pathOf (start .args .marks)) (start .args .list .now) (write-entry .write-entry .last .0) (write-entry .write-entry .result) (content .content .result) (content .content .ensures) (subst (λ ks. Wrote (start .args .list .now) (write-entry .write-entry .last .0) (write-entry .write-entry .result) (numbersEntry (pathOf (start .args .marks)) (actNumber giving) ks)) (leaf-kinds .leaf-kinds .ensures) (write-entry .write-entry .ensures)))))

@@ -19,10 +19,12 @@ returns c =
 
 same-length : tie.Need-same-length
 same-length c =
-    let numbers = c .before .before in
-    let action = numbers .before .before .before .before in
+    let write-numbers = c .before .before in
+    let start = write-numbers .before .before .before .before in
+    let action = start in
     let path = action .before .before .before .before in
-    length-set (numbers .write-numbers .last .0) (entryBytes - 1) newline ∙ numbers .write-numbers .kept .0 ∙ action .write2 .kept .0 ∙ path .write .kept .0
+    length-set (write-numbers .write-numbers .last .0) (entryBytes - 1) newline ∙ write-numbers .write-numbers .kept .0 ∙ action .write2 .kept .0 ∙
+    path .write .kept .0
 
 returns-2 : tie.Need-returns-2
 returns-2 c =

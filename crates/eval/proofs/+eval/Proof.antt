@@ -64,45 +64,216 @@ pub +eval-spec : {M : Type 1} → statement M
     (eval-at t)
     eval.Post
     (λ c κs. (c .pre .1 .low, omega arith)) (λ c κs. (c .before .before .before .pre .1 .low, omega arith))
-    (λ c κs. call-b (c .before .before .before .before .pre) (c .before .before .before .get .result) (c .operand .result) (c .before .before .before .get .ensures) (c .operand .ensures) (omega (arith, c .before .before .match .keys1)))
-    (λ c κs. (c .before .before .before .before .before .before .pre .1 .low, omega arith))
-    (λ c κs. call-c (c .before .before .before .before .before .before .before .pre) (c .before .before .before .before .before .before .get .result) (c .operand2 .result) (c .before .before .before .before .before .before .get .ensures) (c .operand2 .ensures) (omega (arith, c .before .before .before .before .before .match .keys1)))
-    (λ c κs. (c .before .before .before .before .before .before .before .before .pre .1 .low, omega arith)) (λ c κs. search needs)
+    (λ c κs.
+    let match-at = c .before .before in
+    let get = match-at .before in
+    let start = get .before in
+    call-b (start .pre) (get .get .result) (c .operand .result) (get .get .ensures) (c .operand .ensures) (omega (arith, match-at .match .keys1)))
+    (λ c κs.
+    let start = c .before .before .before .before .before .before in
+    (start .pre .1 .low, omega arith))
+    (λ c κs.
+    let match-at = c .before .before .before .before .before in
+    let get = match-at .before in
+    let start = get .before in
+    call-c (start .pre) (get .get .result) (c .operand2 .result) (get .get .ensures) (c .operand2 .ensures) (omega (arith, match-at .match .keys1)))
+    (λ c κs.
+    let start = c .before .before .before .before .before .before .before .before in
+    (start .pre .1 .low, omega arith)) (λ c κs. search needs)
     (λ c κs. (c .before .before .before .pre .1 .low, omega arith))
-    (λ c κs. call-a (c .before .before .before .before .pre) (c .before .before .before .get .result) (c .operand3 .result) (c .before .before .before .get .ensures) (c .operand3 .ensures) (omega (arith, c .before .before .match .keys2)))
+    (λ c κs.
+    let match-at = c .before .before in
+    let get = match-at .before in
+    let start = get .before in
+    call-a (start .pre) (get .get .result) (c .operand3 .result) (get .get .ensures) (c .operand3 .ensures) (omega (arith, match-at .match .keys2)))
     (λ c κs. search needs)
-    (λ c κs. (c .before .before .before .before .before .before .before .before .pre .1 .low, omega arith))
-    (λ c κs. call-b (c .before .before .before .before .before .before .before .before .before .pre) (c .before .before .before .before .before .before .before .before .get .result) (c .operand4 .result) (c .before .before .before .before .before .before .before .before .get .ensures) (c .operand4 .ensures) (omega (arith, c .before .before .before .before .before .before .before .match .keys2)))
-    (λ c. let s = c .before .before .before .before .before .before .before .before .before .before in eval-if-true (s .args .rows .now) (s .args .row) (s .args .env .now) (s .args .depth) (s .args .state .now) (c .before .before .before .before .before .eval3 .last .1 .0) (c .eval4 .last .1 .0) (c .before .before .before .before .before .eval3 .result) (c .eval4 .result) (c .before .before .before .before .is-true .result) (c .before .before .before .before .is-true .ensures) (c .before .before .before .before .before .before .operand3 .result) (c .before .operand4 .result) (sym (c .before .before .before .before .before .before .before .before .before .get .ensures) ∙ c .before .before .before .before .before .before .before .before .match .keys2) (c .before .before .before .before .before .before .operand3 .ensures) (c .before .before .before .before .before .eval3 .ensures) (c .eval4 .ensures) (c .before .before .before .if1 .taken) (c .before .operand4 .ensures))
-    (λ c κs. (c .before .before .before .before .before .before .before .before .pre .1 .low, omega arith))
-    (λ c κs. call-c (c .before .before .before .before .before .before .before .before .before .pre) (c .before .before .before .before .before .before .before .before .get .result) (c .operand5 .result) (c .before .before .before .before .before .before .before .before .get .ensures) (c .operand5 .ensures) (omega (arith, c .before .before .before .before .before .before .before .match .keys2)))
+    (λ c κs.
+    let start = c .before .before .before .before .before .before .before .before in
+    (start .pre .1 .low, omega arith))
+    (λ c κs.
+    let match-at = c .before .before .before .before .before .before .before in
+    let get = match-at .before in
+    let start = get .before in
+    call-b (start .pre) (get .get .result) (c .operand4 .result) (get .get .ensures) (c .operand4 .ensures) (omega (arith, match-at .match .keys2)))
+    (λ c.
+    let operand4 = c .before in
+    let if1 = operand4 .before .before in
+    let is-true = if1 .before in
+    let eval3 = is-true .before in
+    let operand3 = eval3 .before in
+    let match-at = operand3 .before .before in
+    let get = match-at .before in
+    let start = get .before in
+    eval-if-true (start .args .rows .now) (start .args .row) (start .args .env .now) (start .args .depth) (start .args .state .now)
+    (eval3 .eval3 .last .1 .0) (c .eval4 .last .1 .0) (eval3 .eval3 .result) (c .eval4 .result) (is-true .is-true .result)
+    (is-true .is-true .ensures) (operand3 .operand3 .result) (operand4 .operand4 .result) (sym (get .get .ensures) ∙ match-at .match .keys2)
+    (operand3 .operand3 .ensures) (eval3 .eval3 .ensures) (c .eval4 .ensures) (if1 .if1 .taken) (operand4 .operand4 .ensures))
+    (λ c κs.
+    let start = c .before .before .before .before .before .before .before .before in
+    (start .pre .1 .low, omega arith))
+    (λ c κs.
+    let match-at = c .before .before .before .before .before .before .before in
+    let get = match-at .before in
+    let start = get .before in
+    call-c (start .pre) (get .get .result) (c .operand5 .result) (get .get .ensures) (c .operand5 .ensures) (omega (arith, match-at .match .keys2)))
     (λ c κs. (c .before .before .before .pre .1 .low, omega arith))
-    (λ c κs. call-a (c .before .before .before .before .pre) (c .before .before .before .get .result) (c .operand6 .result) (c .before .before .before .get .ensures) (c .operand6 .ensures) (omega (arith, c .before .before .match .keys3)))
-    (λ c κs. (c .before .before .before .before .before .before .pre .1 .low, omega arith))
-    (λ c κs. call-b (c .before .before .before .before .before .before .before .pre) (c .before .before .before .before .before .before .get .result) (c .operand7 .result) (c .before .before .before .before .before .before .get .ensures) (c .operand7 .ensures) (omega (arith, c .before .before .before .before .before .match .keys3)))
+    (λ c κs.
+    let match-at = c .before .before in
+    let get = match-at .before in
+    let start = get .before in
+    call-a (start .pre) (get .get .result) (c .operand6 .result) (get .get .ensures) (c .operand6 .ensures) (omega (arith, match-at .match .keys3)))
+    (λ c κs.
+    let start = c .before .before .before .before .before .before in
+    (start .pre .1 .low, omega arith))
+    (λ c κs.
+    let match-at = c .before .before .before .before .before in
+    let get = match-at .before in
+    let start = get .before in
+    call-b (start .pre) (get .get .result) (c .operand7 .result) (get .get .ensures) (c .operand7 .ensures) (omega (arith, match-at .match .keys3)))
     (λ c κs. search needs) (λ c κs. (c .before .before .before .pre .1 .low, omega arith))
-    (λ c κs. let s = c .before .before .before .before in let h = low-a (s .pre .1) (c .before .before .before .get .result) (c .operand8 .result) (c .before .before .before .get .ensures) (c .operand8 .ensures) (omega (arith, c .before .before .match .keys4)) in omega (arith, s .pre .1 .low))
+    (λ c κs.
+    let match-at = c .before .before in
+    let get = match-at .before in
+    let start = get .before in
+    let h = low-a (start .pre .1) (get .get .result) (c .operand8 .result) (get .get .ensures) (c .operand8 .ensures) (omega (arith, match-at .match .keys4)) in
+    omega (arith, start .pre .1 .low))
     (λ c κs. (c .before .before .before .pre .1 .low, omega arith))
-    (λ c κs. call-b (c .before .before .before .before .pre) (c .before .before .before .get .result) (c .operand9 .result) (c .before .before .before .get .ensures) (c .operand9 .ensures) (omega (arith, c .before .before .match .keys5)))
-    (λ c κs. (c .before .before .before .before .before .before .pre .1 .low, omega arith))
-    (λ c κs. let s = c .before .before .before .before .before .before .before in let h = low-a (s .pre .1) (c .before .before .before .before .before .before .get .result) (c .operand10 .result) (c .before .before .before .before .before .before .get .ensures) (c .operand10 .ensures) (omega (arith, c .before .before .before .before .before .match .keys5)) in omega (arith, s .pre .1 .low))
+    (λ c κs.
+    let match-at = c .before .before in
+    let get = match-at .before in
+    let start = get .before in
+    call-b (start .pre) (get .get .result) (c .operand9 .result) (get .get .ensures) (c .operand9 .ensures) (omega (arith, match-at .match .keys5)))
+    (λ c κs.
+    let start = c .before .before .before .before .before .before in
+    (start .pre .1 .low, omega arith))
+    (λ c κs.
+    let match-at = c .before .before .before .before .before in
+    let get = match-at .before in
+    let start = get .before in
+    let h = low-a (start .pre .1) (get .get .result) (c .operand10 .result) (get .get .ensures) (c .operand10 .ensures) (omega (arith, match-at .match .keys5)) in
+    omega (arith, start .pre .1 .low))
     (λ c κs. search needs) (λ c κs. (c .before .before .before .pre .1 .low, omega arith))
-    (λ c κs. call-a (c .before .before .before .before .pre) (c .before .before .before .get .result) (c .operand11 .result) (c .before .before .before .get .ensures) (c .operand11 .ensures) (omega (arith, c .before .before .match .keys6)))
+    (λ c κs.
+    let match-at = c .before .before in
+    let get = match-at .before in
+    let start = get .before in
+    call-a (start .pre) (get .get .result) (c .operand11 .result) (get .get .ensures) (c .operand11 .ensures) (omega (arith, match-at .match .keys6)))
     (λ c κs. search needs)
-    (λ c. let s = c .before .before .before .before .before .before .before in eval-deep (s .args .rows .now) (s .args .row) (s .args .env .now) (s .args .depth) (s .args .state .now) (c .before .before .eval9 .last .1 .0) (c .unit2 .result) (sym (c .before .before .before .before .before .before .get .ensures) ∙ c .before .before .before .before .before .match .keys6) (c .before .if2 .taken))
+    (λ c.
+    let if2 = c .before in
+    let eval9 = if2 .before in
+    let match-at = eval9 .before .before .before in
+    let get = match-at .before in
+    let start = get .before in
+    eval-deep (start .args .rows .now) (start .args .row) (start .args .env .now) (start .args .depth) (start .args .state .now)
+    (eval9 .eval9 .last .1 .0) (c .unit2 .result) (sym (get .get .ensures) ∙ match-at .match .keys6) (if2 .if2 .taken))
     (λ c κs. c .if2 .left)
-    (λ c κs. (c .before .before .before .before .before .before .before .before .pre .1 .low, omega arith)) (λ c. search needs)
-    (λ c κs. let s = c .before .before .before .before .before .before .before .before .before .before in let h = low-b (s .pre .1) (c .before .before .before .before .before .before .before .before .before .get .result) (c .before .operand12 .result) (c .before .before .before .before .before .before .before .before .before .get .ensures) (c .before .operand12 .ensures) (omega (arith, c .before .before .before .before .before .before .before .before .match .keys6)) in (omega (arith, s .pre .0), fine-at (s .pre .1) _ _ (omega arith) (omega (arith, c .before .before .before .before .if2 .left))))
-    (λ c κs. let s = c .before .before .before .before in (s .pre .1 .low, s .pre .1 .room, c .before .before .before .get .ensures, c .before .if3 .left, omega (arith, c .if4 .taken)))
-    (λ c κs. (c .before .before .before .before .before .before .pre .1 .low, omega arith))
-    (λ c κs. call-a (c .before .before .before .before .before .before .before .pre) (c .before .before .before .before .before .before .get .result) (c .operand13 .result) (c .before .before .before .before .before .before .get .ensures) (c .operand13 .ensures) (omega (arith, c .before .before .before .if4 .left, c .before .before .before .before .before .match .rest .0 .0 .0 .0 .0 .1)))
+    (λ c κs.
+    let start = c .before .before .before .before .before .before .before .before in
+    (start .pre .1 .low, omega arith)) (λ c. search needs)
+    (λ c κs.
+    let operand12 = c .before in
+    let if2 = operand12 .before .before .before in
+    let match-at = if2 .before .before .before .before in
+    let get = match-at .before in
+    let start = get .before in
+    let h = low-b (start .pre .1) (get .get .result) (operand12 .operand12 .result) (get .get .ensures) (operand12 .operand12 .ensures) (omega (arith, match-at .match .keys6)) in
+    (omega (arith, start .pre .0), fine-at (start .pre .1) _ _ (omega arith) (omega (arith, if2 .if2 .left))))
+    (λ c κs.
+    let if3 = c .before in
+    let get = if3 .before .before in
+    let start = get .before in
+    (start .pre .1 .low, start .pre .1 .room, get .get .ensures, if3 .if3 .left, omega (arith, c .if4 .taken)))
+    (λ c κs.
+    let start = c .before .before .before .before .before .before in
+    (start .pre .1 .low, omega arith))
+    (λ c κs.
+    let if4 = c .before .before .before in
+    let match-at = if4 .before .before in
+    let get = match-at .before in
+    let start = get .before in
+    call-a (start .pre) (get .get .result) (c .operand13 .result) (get .get .ensures) (c .operand13 .ensures)
+    (omega (arith, if4 .if4 .left, match-at .match .rest .0 .0 .0 .0 .0 .1)))
     (λ c κs. search needs) (λ c κs. search needs)
-    (λ c. let s = c .before .before .before .before .before .before .before .before .before .before in eval-op (s .args .rows .now) (s .args .row) (s .args .env .now) (s .args .depth) (s .args .state .now) (c .before .before .before .before .before .eval .last .1 .0) (c .before .before .eval2 .last .1 .0) (c .before .before .before .before .before .eval .result) (c .before .before .eval2 .result) (c .apply .result) (c .before .before .before .before .before .before .operand .result) (c .before .before .before .operand2 .result) (c .before .get2 .result) (sym (c .before .before .before .before .before .before .before .before .before .get .ensures) ∙ c .before .before .before .before .before .before .before .before .match .keys1) (c .before .before .before .before .before .before .operand .ensures) (c .before .before .before .operand2 .ensures) (c .before .get2 .ensures) (c .before .before .before .before .before .eval .ensures) (c .before .before .eval2 .ensures) (c .apply .ensures))
-    (λ c. let s = c .before .before .before .before .before .before .before .before .before .before in eval-if-false (s .args .rows .now) (s .args .row) (s .args .env .now) (s .args .depth) (s .args .state .now) (c .before .before .before .before .before .eval3 .last .1 .0) (c .eval5 .last .1 .0) (c .before .before .before .before .before .eval3 .result) (c .eval5 .result) (c .before .before .before .before .is-true .result) (c .before .before .before .before .is-true .ensures) (c .before .before .before .before .before .before .operand3 .result) (c .before .operand5 .result) (sym (c .before .before .before .before .before .before .before .before .before .get .ensures) ∙ c .before .before .before .before .before .before .before .before .match .keys2) (c .before .before .before .before .before .before .operand3 .ensures) (c .before .before .before .before .before .eval3 .ensures) (c .eval5 .ensures) (c .before .before .before .if1 .left) (c .before .operand5 .ensures))
-    (λ c. let s = c .before .before .before .before .before .before .before .before .before in eval-pair (s .args .rows .now) (s .args .row) (s .args .env .now) (s .args .depth) (s .args .state .now) (c .before .before .before .before .eval6 .last .1 .0) (c .before .eval7 .last .1 .0) (c .before .before .before .before .eval6 .result) (c .before .eval7 .result) (c .pair .result) (c .before .before .before .before .before .operand6 .result) (c .before .before .operand7 .result) (sym (c .before .before .before .before .before .before .before .before .get .ensures) ∙ c .before .before .before .before .before .before .before .match .keys3) (c .before .before .before .before .before .operand6 .ensures) (c .before .before .operand7 .ensures) (c .before .before .before .before .eval6 .ensures) (c .before .eval7 .ensures) (c .pair .ensures))
-    (λ c. let s = c .before .before .before .before .before in eval-content (s .args .rows .now) (s .args .row) (s .args .env .now) (s .args .depth) (s .args .state .now) (c .read-value .result) (c .before .operand8 .result) (sym (c .before .before .before .before .get .ensures) ∙ c .before .before .before .match .keys4) (c .before .operand8 .ensures) (c .read-value .ensures))
-    (λ c. let s = c .before .before .before .before .before .before .before .before .before in eval-assign (s .args .rows .now) (s .args .row) (s .args .env .now) (s .args .depth) (s .args .state .now) (c .before .before .before .before .eval8 .last .1 .0) (c .before .put-value .last .0) (c .before .before .before .before .eval8 .result) (c .unit .result) (c .before .before .operand10 .result) (c .before .before .before .before .before .operand9 .result) (sym (c .before .before .before .before .before .before .before .before .get .ensures) ∙ c .before .before .before .before .before .before .before .match .keys5) (c .before .before .operand10 .ensures) (c .before .before .before .before .before .operand9 .ensures) (c .before .before .before .before .eval8 .ensures) (c .before .put-value .ensures) (c .unit .ensures))
+    (λ c.
+    let get2 = c .before in
+    let eval2 = get2 .before in
+    let operand2 = eval2 .before in
+    let eval = operand2 .before .before in
+    let operand = eval .before in
+    let match-at = operand .before .before in
+    let get = match-at .before in
+    let start = get .before in
+    eval-op (start .args .rows .now) (start .args .row) (start .args .env .now) (start .args .depth) (start .args .state .now)
+    (eval .eval .last .1 .0) (eval2 .eval2 .last .1 .0) (eval .eval .result) (eval2 .eval2 .result) (c .apply .result) (operand .operand .result)
+    (operand2 .operand2 .result) (get2 .get2 .result) (sym (get .get .ensures) ∙ match-at .match .keys1) (operand .operand .ensures)
+    (operand2 .operand2 .ensures) (get2 .get2 .ensures) (eval .eval .ensures) (eval2 .eval2 .ensures) (c .apply .ensures))
+    (λ c.
+    let operand5 = c .before in
+    let if1 = operand5 .before .before in
+    let is-true = if1 .before in
+    let eval3 = is-true .before in
+    let operand3 = eval3 .before in
+    let match-at = operand3 .before .before in
+    let get = match-at .before in
+    let start = get .before in
+    eval-if-false (start .args .rows .now) (start .args .row) (start .args .env .now) (start .args .depth) (start .args .state .now)
+    (eval3 .eval3 .last .1 .0) (c .eval5 .last .1 .0) (eval3 .eval3 .result) (c .eval5 .result) (is-true .is-true .result)
+    (is-true .is-true .ensures) (operand3 .operand3 .result) (operand5 .operand5 .result) (sym (get .get .ensures) ∙ match-at .match .keys2)
+    (operand3 .operand3 .ensures) (eval3 .eval3 .ensures) (c .eval5 .ensures) (if1 .if1 .left) (operand5 .operand5 .ensures))
+    (λ c.
+    let eval7 = c .before in
+    let operand7 = eval7 .before in
+    let eval6 = operand7 .before .before in
+    let operand6 = eval6 .before in
+    let match-at = operand6 .before .before in
+    let get = match-at .before in
+    let start = get .before in
+    eval-pair (start .args .rows .now) (start .args .row) (start .args .env .now) (start .args .depth) (start .args .state .now)
+    (eval6 .eval6 .last .1 .0) (eval7 .eval7 .last .1 .0) (eval6 .eval6 .result) (eval7 .eval7 .result) (c .pair .result)
+    (operand6 .operand6 .result) (operand7 .operand7 .result) (sym (get .get .ensures) ∙ match-at .match .keys3) (operand6 .operand6 .ensures)
+    (operand7 .operand7 .ensures) (eval6 .eval6 .ensures) (eval7 .eval7 .ensures) (c .pair .ensures))
+    (λ c.
+    let operand8 = c .before in
+    let match-at = operand8 .before .before in
+    let get = match-at .before in
+    let start = get .before in
+    eval-content (start .args .rows .now) (start .args .row) (start .args .env .now) (start .args .depth) (start .args .state .now)
+    (c .read-value .result) (operand8 .operand8 .result) (sym (get .get .ensures) ∙ match-at .match .keys4) (operand8 .operand8 .ensures)
+    (c .read-value .ensures))
+    (λ c.
+    let put-value = c .before in
+    let operand10 = put-value .before in
+    let eval8 = operand10 .before .before in
+    let operand9 = eval8 .before in
+    let match-at = operand9 .before .before in
+    let get = match-at .before in
+    let start = get .before in
+    eval-assign (start .args .rows .now) (start .args .row) (start .args .env .now) (start .args .depth) (start .args .state .now)
+    (eval8 .eval8 .last .1 .0) (put-value .put-value .last .0) (eval8 .eval8 .result) (c .unit .result) (operand10 .operand10 .result)
+    (operand9 .operand9 .result) (sym (get .get .ensures) ∙ match-at .match .keys5) (operand10 .operand10 .ensures) (operand9 .operand9 .ensures)
+    (eval8 .eval8 .ensures) (put-value .put-value .ensures) (c .unit .ensures))
     (λ c. let s = c .before .before .before .before .before .before .before .before .before .before .before in eval-let (s .args .rows .now) (s .args .row) (s .args .env .now) (s .args .depth) (s .args .state .now) (c .before .before .before .before .before .before .eval9 .last .1 .0) (c .eval10 .last .1 .0) (c .before .before .before .before .pushed .result) (c .before .before .before .before .before .before .eval9 .result) (c .eval10 .result) (c .before .before .before .before .before .before .before .operand11 .result) (c .before .before .operand12 .result) (sym (c .before .before .before .before .before .before .before .before .before .before .get .ensures) ∙ c .before .before .before .before .before .before .before .before .before .match .keys6) (c .before .before .before .before .before .before .before .operand11 .ensures) (c .before .before .operand12 .ensures) (c .before .before .before .before .before .before .eval9 .ensures) (c .before .before .before .before .pushed .ensures) (c .eval10 .ensures))
-    (λ c. c .constant .ensures (c .before .before .before .before .before .args .state .now))
-    (λ c. let s = c .before .before .before .before .before .before .before .before .before in eval-part (s .args .rows .now) (s .args .row) (s .args .env .now) (s .args .depth) (s .args .state .now) (c .before .eval11 .last .1 .0) (c .before .eval11 .result) (c .part .result) (c .before .before .operand13 .result) (c .before .before .before .before .before .before .before .before .get .result) (c .before .before .before .before .before .before .before .before .get .ensures) (omega (arith, c .before .before .before .before .before .if4 .left, c .before .before .before .before .before .before .before .match .rest .0 .0 .0 .0 .0 .1, c .before .before .before .before .before .before .before .match .rest .0 .0 .0 .0 .1, c .before .before .before .before .before .before .before .match .rest .0 .0 .0 .1)) (c .before .before .before .before .if5 .taken) (c .before .before .operand13 .ensures) (c .before .eval11 .ensures) (c .part .ensures))
-    (λ c. let s = c .before .before .before .before in let g = (c .before .before .before .get .ensures) in eval-none (s .args .rows .now) (s .args .row) (s .args .env .now) (s .args .depth) (s .args .state .now) (c .unit3 .result) (λ p q. ⊎-elim (λ z. let y = z .taken in omega arith) (λ z. let y = z .2 .left in omega (arith, c .before .before .match .rest .1, c .before .before .match .rest .0 .1, c .before .before .match .rest .0 .0 .1)) (c .before .if3 .came)))
+    (λ c.
+    let start = c .before .before .before .before .before in
+    c .constant .ensures (start .args .state .now))
+    (λ c.
+    let eval11 = c .before in
+    let operand13 = eval11 .before in
+    let if5 = operand13 .before .before in
+    let if4 = if5 .before in
+    let match-at = if4 .before .before in
+    let get = match-at .before in
+    let start = get .before in
+    eval-part (start .args .rows .now) (start .args .row) (start .args .env .now) (start .args .depth) (start .args .state .now)
+    (eval11 .eval11 .last .1 .0) (eval11 .eval11 .result) (c .part .result) (operand13 .operand13 .result) (get .get .result) (get .get .ensures)
+    (omega (arith, if4 .if4 .left, match-at .match .rest .0 .0 .0 .0 .0 .1, match-at .match .rest .0 .0 .0 .0 .1, match-at .match .rest .0 .0 .0 .1))
+    (if5 .if5 .taken) (operand13 .operand13 .ensures) (eval11 .eval11 .ensures) (c .part .ensures))
+    (λ c.
+    let if3 = c .before in
+    let match-at = if3 .before in
+    let get = match-at .before in
+    let start = get .before in
+    let g = (get .get .ensures) in
+    eval-none (start .args .rows .now) (start .args .row) (start .args .env .now) (start .args .depth) (start .args .state .now) (c .unit3 .result)
+    (λ p q. ⊎-elim (λ z. let y = z .taken in omega arith) (λ z. let y = z .2 .left in omega (arith, match-at .match .rest .1, match-at .match .rest .0 .1, match-at .match .rest .0 .0 .1)) (if3 .if3 .came)))

@@ -11,6 +11,23 @@ constant-spec = tie.close (tie.spec
     (λ c κs. search needs) (λ c κs. search needs) (λ c κs. search needs) (λ c κs. search needs)
     (λ c κs. search needs) (λ c κs. search needs) (λ c κs. search needs)
     (λ c. let s = c .before .before in eval-unit (s .args .rows .now) (s .args .row) (s .args .env .now) (s .args .depth) (c .unit .result) (sym (s .pre .2) ∙ c .before .match .keys1) (c .unit .ensures))
-    (λ c. let s = c .before .before .before in eval-truth (s .args .rows .now) (s .args .row) (s .args .env .now) (s .args .depth) (c .truth .result) (c .before .get .result) (sym (s .pre .2) ∙ c .before .before .match .keys2) (c .before .get .ensures) (c .truth .ensures))
-    (λ c. let s = c .before .before .before in eval-number (s .args .rows .now) (s .args .row) (s .args .env .now) (s .args .depth) (c .number .result) (c .before .get2 .result) (sym (s .pre .2) ∙ c .before .before .match .keys3) (c .before .get2 .ensures) (c .number .ensures))
-    (λ c. let s = c .before .before .before in eval-binder (s .args .rows .now) (s .args .row) (s .args .env .now) (s .args .depth) (c .env-get .result) (c .before .operand .result) (let p = s .pre in let x = p .2 in let y = p .3 in let z = p .4 in omega (arith, c .before .before .match .rest .0 .0 .1, c .before .before .match .rest .0 .1, c .before .before .match .rest .1)) (c .before .operand .ensures) (c .env-get .ensures)))
+    (λ c.
+    let get = c .before in
+    let match-at = get .before in
+    let start = match-at .before in
+    eval-truth (start .args .rows .now) (start .args .row) (start .args .env .now) (start .args .depth) (c .truth .result) (get .get .result)
+    (sym (start .pre .2) ∙ match-at .match .keys2) (get .get .ensures) (c .truth .ensures))
+    (λ c.
+    let get2 = c .before in
+    let match-at = get2 .before in
+    let start = match-at .before in
+    eval-number (start .args .rows .now) (start .args .row) (start .args .env .now) (start .args .depth) (c .number .result) (get2 .get2 .result)
+    (sym (start .pre .2) ∙ match-at .match .keys3) (get2 .get2 .ensures) (c .number .ensures))
+    (λ c.
+    let operand = c .before in
+    let match-at = operand .before in
+    let start = match-at .before in
+    eval-binder (start .args .rows .now) (start .args .row) (start .args .env .now) (start .args .depth) (c .env-get .result)
+    (operand .operand .result)
+    (let p = start .pre in let x = p .2 in let y = p .3 in let z = p .4 in omega (arith, match-at .match .rest .0 .0 .1, match-at .match .rest .0 .1, match-at .match .rest .1))
+    (operand .operand .ensures) (c .env-get .ensures)))

@@ -24,32 +24,34 @@ loop-holds c = let start = c .before in (search needs, refl, read-first (start .
 
 mul-read : tie.Need-mul-read Inv-loop μ-loop
 mul-read c =
-    let start = c .before .before .before in
-    omega (arith, mul-le-mul-right (start .args .width) (c .before .loop .inv .0))
+    let loop = c .before in
+    let start = loop .before .before in
+    omega (arith, mul-le-mul-right (start .args .width) (loop .loop .inv .0))
 
 add-read : tie.Need-add-read Inv-loop μ-loop
 add-read c =
-    let start = c .before .before .before in
-    omega (arith, mul-le-mul-right (start .args .width) (c .before .loop .inv .0))
+    let loop = c .before in
+    let start = loop .before .before in
+    omega (arith, mul-le-mul-right (start .args .width) (loop .loop .inv .0))
 
 returns : tie.Need-returns Inv-loop μ-loop
 returns c =
     let read = c .before .before in
-    let loop = read .before .before in
+    let start-at = read .before .before in
+    let loop = start-at in
     let start = loop .before .before in
-    read-none (start .args .s .now) (start .args .at) (start .args .width) (loop .loop .k) (omega arith) (sym (c .enum-told .given .1) ∙ read .read .ensures)
+    read-none (start .args .s .now) (start .args .at) (start .args .width) (loop .loop .k) (omega arith)
+    (sym (c .enum-told .given .1) ∙ read .read .ensures)
 
 loop-again : tie.Need-loop-again Inv-loop μ-loop
 loop-again c =
-    let read = c .before .before .before in
-    let loop = read .before .before in
+    let reading = c .before in
+    let read = reading .before .before in
+    let start-at = read .before .before in
+    let loop = start-at in
     let start = loop .before .before in
-    let bits = c .before .reading .given .0 .0 in (
-      omega arith,
-      length-set (loop .loop .words) (loop .loop .k) bits ∙ loop .loop .inv .1,
-      read-more (start .args .s .now) (start .args .at) (start .args .width) (loop .loop .words) (loop .loop .k) bits
-          (omega arith) (omega (arith, loop .loop .inv .1)) (loop .loop .inv .2) (sym (c .before .reading .given .1) ∙ read .read .ensures),
-    )
+    let bits = reading .reading .given .0 .0 in
+    (omega arith, length-set (loop .loop .words) (loop .loop .k) bits ∙ loop .loop .inv .1, read-more (start .args .s .now) (start .args .at) (start .args .width) (loop .loop .words) (loop .loop .k) bits (omega arith) (omega (arith, loop .loop .inv .1)) (loop .loop .inv .2) (sym (reading .reading .given .1) ∙ read .read .ensures))
 
 returns-2 : tie.Need-returns-2 Inv-loop μ-loop
 returns-2 c =

@@ -26,25 +26,24 @@ loop-holds c = (search needs, refl, refl)
 
 mul-write : tie.Need-mul-write Inv-loop μ-loop
 mul-write c =
-    let start = c .before .before .before .before in
-    omega (arith, mul-le-mul-right (start .args .width) (c .before .before .loop .inv .0))
+    let loop = c .before .before in
+    let start = loop .before .before in
+    omega (arith, mul-le-mul-right (start .args .width) (loop .loop .inv .0))
 
 add-write : tie.Need-add-write Inv-loop μ-loop
 add-write c =
-    let start = c .before .before .before .before in
-    omega (arith, mul-le-mul-right (start .args .width) (c .before .before .loop .inv .0))
+    let loop = c .before .before in
+    let start = loop .before .before in
+    omega (arith, mul-le-mul-right (start .args .width) (loop .loop .inv .0))
 
 loop-again : tie.Need-loop-again Inv-loop μ-loop
 loop-again c =
-    let written = c .before .before in
-    let loop = written .before .before .before in
+    let write = c .before .before in
+    let start-at = write .before .before .before in
+    let loop = start-at in
     let start = loop .before .before in
-    let long : length (start .args .t4) ≡ maxLeaves = let g = start .good in search needs in (
-      omega arith,
-      written .write .kept .0 ∙ loop .loop .inv .1,
-      write-more (start .args .s .now) (start .args .at) (start .args .width) (start .args .t4) (loop .loop .k) (loop .loop .s) (written .write .last .0)
-          (omega (arith, long)) (loop .loop .inv .2) (written .write .ensures .1),
-    )
+    let long : length (start .args .t4) ≡ maxLeaves = let g = start .good in search needs in
+    (omega arith, write .write .kept .0 ∙ loop .loop .inv .1, write-more (start .args .s .now) (start .args .at) (start .args .width) (start .args .t4) (loop .loop .k) (loop .loop .s) (write .write .last .0) (omega (arith, long)) (loop .loop .inv .2) (write .write .ensures .1))
 
 returns : tie.Need-returns Inv-loop μ-loop
 returns c =

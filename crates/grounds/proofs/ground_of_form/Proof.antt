@@ -11,9 +11,42 @@ ground-of-form-spec = tie.close (tie.spec
     (λ c κs. search needs)
     (λ c. let s = c .before .before in form-3 (s .args .rows .now) (s .args .n) (c .before .listed .ensures) (c .if1 .taken))
     (λ c κs. search needs)
-    (λ c. let s = c .before .before .before .before in form-4 (s .args .rows .now) (s .args .n) (c .before .before .before .listed .ensures) (c .before .before .if1 .left) (c .before .sorted .ensures) (c .if2 .taken))
+    (λ c.
+    let sorted = c .before in
+    let if1 = sorted .before in
+    let listed = if1 .before in
+    let start = listed .before in
+    form-4 (start .args .rows .now) (start .args .n) (listed .listed .ensures) (if1 .if1 .left) (sorted .sorted .ensures) (c .if2 .taken))
     (λ c κs. search needs)
-    (λ c. let s = c .before .before .before .before .before .before in form-5 (s .args .rows .now) (s .args .n) (c .before .before .before .before .before .listed .ensures) (c .before .before .before .before .if1 .left) (c .before .before .before .sorted .ensures) (c .before .before .if2 .left) (c .before .named .ensures) (c .if3 .taken))
+    (λ c.
+    let named = c .before in
+    let if2 = named .before in
+    let sorted = if2 .before in
+    let if1 = sorted .before in
+    let listed = if1 .before in
+    let start = listed .before in
+    form-5 (start .args .rows .now) (start .args .n) (listed .listed .ensures) (if1 .if1 .left) (sorted .sorted .ensures) (if2 .if2 .left)
+    (named .named .ensures) (c .if3 .taken))
     (λ c κs. search needs)
-    (λ c. let s = c .before .before .before .before .before .before .before .before in form-6 (s .args .rows .now) (s .args .n) (c .before .before .before .before .before .before .before .listed .ensures) (c .before .before .before .before .before .before .if1 .left) (c .before .before .before .before .before .sorted .ensures) (c .before .before .before .before .if2 .left) (c .before .before .before .named .ensures) (c .before .before .if3 .left) (c .before .small .ensures) (c .if4 .taken))
-    (λ c. let s = c .before .before .before .before .before .before .before .before in form-0 (s .args .rows .now) (s .args .n) (c .before .before .before .before .before .before .before .listed .ensures) (c .before .before .before .before .before .before .if1 .left) (c .before .before .before .before .before .sorted .ensures) (c .before .before .before .before .if2 .left) (c .before .before .before .named .ensures) (c .before .before .if3 .left) (c .before .small .ensures) (c .if4 .left)))
+    (λ c.
+    let small = c .before in
+    let if3 = small .before in
+    let named = if3 .before in
+    let if2 = named .before in
+    let sorted = if2 .before in
+    let if1 = sorted .before in
+    let listed = if1 .before in
+    let start = listed .before in
+    form-6 (start .args .rows .now) (start .args .n) (listed .listed .ensures) (if1 .if1 .left) (sorted .sorted .ensures) (if2 .if2 .left)
+    (named .named .ensures) (if3 .if3 .left) (small .small .ensures) (c .if4 .taken))
+    (λ c.
+    let small = c .before in
+    let if3 = small .before in
+    let named = if3 .before in
+    let if2 = named .before in
+    let sorted = if2 .before in
+    let if1 = sorted .before in
+    let listed = if1 .before in
+    let start = listed .before in
+    form-0 (start .args .rows .now) (start .args .n) (listed .listed .ensures) (if1 .if1 .left) (sorted .sorted .ensures) (if2 .if2 .left)
+    (named .named .ensures) (if3 .if3 .left) (small .small .ensures) (c .if4 .left)))

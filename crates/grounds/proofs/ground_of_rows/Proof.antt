@@ -9,5 +9,17 @@ ground-of-rows-spec = tie.close (tie.spec
     (λ c κs. search needs)
     (λ c. let s = c .before .before in ground-form (s .args .rows .now) (s .args .n) (c .before .ground-of-form .ensures) (c .if1 .taken))
     (λ c κs. search needs)
-    (λ c. let s = c .before .before .before .before in ground-7 (s .args .rows .now) (s .args .n) (c .before .before .before .ground-of-form .ensures) (c .before .before .if1 .left) (c .before .flow-type .ensures .1) (c .if2 .taken))
-    (λ c. let s = c .before .before .before .before in ground-0 (s .args .rows .now) (s .args .n) (c .before .before .before .ground-of-form .ensures) (c .before .before .if1 .left) (c .before .flow-type .ensures .1) (c .if2 .left)))
+    (λ c.
+    let flow-type = c .before in
+    let if1 = flow-type .before in
+    let ground-of-form = if1 .before in
+    let start = ground-of-form .before in
+    ground-7 (start .args .rows .now) (start .args .n) (ground-of-form .ground-of-form .ensures) (if1 .if1 .left) (flow-type .flow-type .ensures .1)
+    (c .if2 .taken))
+    (λ c.
+    let flow-type = c .before in
+    let if1 = flow-type .before in
+    let ground-of-form = if1 .before in
+    let start = ground-of-form .before in
+    ground-0 (start .args .rows .now) (start .args .n) (ground-of-form .ground-of-form .ensures) (if1 .if1 .left) (flow-type .flow-type .ensures .1)
+    (c .if2 .left)))

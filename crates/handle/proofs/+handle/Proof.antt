@@ -9,7 +9,7 @@ use Rattle.state.proofs.Calls.{low-a, fine-at}
 use Rattle.eval.proofs.Arms.{call-a, call-b}
 use Rattle.running.proofs.Handing.{low-part, fine-part, handle-hands}
 use Rattle.handle.specs.Events.{KnownAction, eventPath, eventAction}
-use Rattle.handle.proofs.Numbers.{front-empty, front-first, front-second}
+use Rattle.decimal.proofs.Answers.{front-empty, front-one, front-two}
 use Rattle.handle.proofs.Passing.{handle-then, handle-next, handle-continue, handle-first, handle-second, handle-unmarked}
 use Rattle.handle.proofs.Choosing.{handle-none}
 use Prim.Native.Nat.{ℕ, _<_}
@@ -47,35 +47,212 @@ pub +handle-spec : {M : Type 1} → statement M
 +handle-spec = close μ-handle λ t. handle-lts.spec (handle-calls t) (handle-at t)
     handle.Post
     (λ c κs. (c .before .pre .1 .0) .low)
-    (λ c κs. let s = c .before .before .before .before .before .before in ((s .pre .1 .0) .low, (s .pre .1 .0) .room))
-    (λ c κs. ((c .before .before .before .before .before .before .before .before .pre .1 .0) .low, c .before .before .before .before .before .before .handed-on .ensures .low))
-    (λ c κs. let s = c .before .before .before .before .before .before .before .before .before .before in let l = low-part (s .args .rows .now) (s .args .row) (s .pre .1 .0) (c .before .before .before .before .before .before .before .before .handed-on .ensures .on (c .before .before .before .before .before .before .before .if1 .taken)) (c .before .operand .ensures) in (omega (arith, s .pre .0), (fine-part (s .args .rows .now) (s .args .row) (s .pre .1 .0) (c .before .before .before .before .before .before .before .before .handed-on .ensures .on (c .before .before .before .before .before .before .before .if1 .taken)) (c .before .operand .ensures) (c .before .before .before .enclose .ensures .room), (s .pre .1 .1))))
-    (λ c. let s = c .before .before .before .before .before .before .before .before .before .before .before in handle-hands (s .args .rows .now) (s .args .state .now) (s .args .row) (c .before .before .before .before .before .before .before .before .before .handed-on .ensures .on (c .before .before .before .before .before .before .before .before .if1 .taken)) (c .before .before .operand .ensures) (s .args .env .now) (c .before .before .before .before .enclose .last .1 .1 .1 .0) (s .args .depth) (c .before .before .before .before .enclose .result) (c .before .before .before .before .enclose .ensures) (c .handle .last .1 .0) (eventPath (s .args .e)) (eventAction (s .args .e)) (c .handle .result) (c .handle .ensures))
+    (λ c κs.
+    let start = c .before .before .before .before .before .before in
+    ((start .pre .1 .0) .low, (start .pre .1 .0) .room))
+    (λ c κs.
+    let handed-on = c .before .before .before .before .before .before in
+    let start = handed-on .before .before in
+    ((start .pre .1 .0) .low, handed-on .handed-on .ensures .low))
+    (λ c κs.
+    let operand = c .before in
+    let enclose = operand .before .before in
+    let if1 = enclose .before .before .before .before in
+    let handed-on = if1 .before in
+    let start = handed-on .before .before in
+    let l = low-part (start .args .rows .now) (start .args .row) (start .pre .1 .0) (handed-on .handed-on .ensures .on (if1 .if1 .taken)) (operand .operand .ensures) in
+    (omega (arith, start .pre .0), (fine-part (start .args .rows .now) (start .args .row) (start .pre .1 .0) (handed-on .handed-on .ensures .on (if1 .if1 .taken)) (operand .operand .ensures) (enclose .enclose .ensures .room), (start .pre .1 .1))))
+    (λ c.
+    let operand = c .before .before in
+    let enclose = operand .before .before in
+    let if1 = enclose .before .before .before .before in
+    let handed-on = if1 .before in
+    let start = handed-on .before .before in
+    handle-hands (start .args .rows .now) (start .args .state .now) (start .args .row) (handed-on .handed-on .ensures .on (if1 .if1 .taken))
+    (operand .operand .ensures) (start .args .env .now) (enclose .enclose .last .1 .1 .1 .0) (start .args .depth) (enclose .enclose .result)
+    (enclose .enclose .ensures) (c .handle .last .1 .0) (eventPath (start .args .e)) (eventAction (start .args .e)) (c .handle .result)
+    (c .handle .ensures))
     (λ c κs. ((c .before .before .before .pre .1 .0) .low, omega arith))
-    (λ c κs. ((c .before .before .before .before .pre .1 .0) .low, omega arith))
-    (λ c κs. let s = c .before .before .before .before .before .before .before in let q = call-a (s .pre .0, s .pre .1 .0) (c .before .before .before .get .result) (c .before .before .operand2 .result) (c .before .before .before .get .ensures) (c .before .before .operand2 .ensures) (omega (arith, c .before .match .keys1)) in (q .0, (q .1, (s .pre .1 .1))))
-    (λ c κs. let s = c .before .before .before .before .before .before .before in let h = low-a (s .pre .1 .0) (c .before .before .before .get .result) (c .before .before .operand2 .result) (c .before .before .before .get .ensures) (c .before .before .operand2 .ensures) (omega (arith, c .before .match .keys2)) in fine-at (s .pre .1 .0) (c .before .before .operand2 .result) 0 (omega arith) (omega arith))
-    (λ c κs. ((c .before .before .before .before .before .before .before .before .before .before .pre .1 .0), omega (arith, c .before .before .before .before .before .before .get .ensures, c .before .before .before .before .match .keys2)))
-    (λ c. let s = c .before .before .before .before .before .before .before .before .before .before .before in handle-continue (s .args .rows .now) (s .args .state .now) (c .attempt .last .1 .0) (s .args .row) (s .args .env .now) (s .args .depth) (c .attempt .result) (s .args .e) (c .before .before .before .before .before .before .operand2 .result) (c .before .before .before .going-on .result) (c .before .before .before .before .before .before .before .before .before .handed-on .ensures .none (c .before .before .before .before .before .before .before .before .if1 .left)) (sym (c .before .before .before .before .before .before .before .get .ensures) ∙ c .before .before .before .before .before .match .keys2) (c .before .before .before .before .before .before .operand2 .ensures) (c .before .before .before .going-on .ensures) (c .before .before .if2 .taken) (c .attempt .ensures))
-    (λ c κs. let s = c .before .before .before .before .before .before .before .before .before .before in let q = call-a (s .pre .0, s .pre .1 .0) (c .before .before .before .before .before .before .get .result) (c .before .before .before .before .before .operand2 .result) (c .before .before .before .before .before .before .get .ensures) (c .before .before .before .before .before .operand2 .ensures) (omega (arith, c .before .before .before .before .match .keys2)) in (q .0, (q .1, (s .pre .1 .1))))
-    (λ c κs. let s = c .before .before .before .before .before .before .before in ((s .pre .1 .0), sym (c .before .before .before .get .ensures) ∙ c .before .match .keys3, (c .before .before .before .before .before .handed-on .ensures .none (c .before .before .before .before .if1 .left)), (s .pre .1 .1)))
-    (λ c κs. let s = c .before .before .before .before .before .before .before .before .before in (fine-at (s .pre .1 .0) (s .args .row) 0 (omega arith) (omega arith), omega (arith, c .before .before .before .before .before .get .ensures, c .before .before .if3 .left), omega (arith, c .before .before .before .before .before .get .ensures, c .before .if4 .taken)))
-    (λ c κs. ((c .before .before .before .before .before .before .before .before .before .before .pre .1 .0) .low, omega arith))
+    (λ c κs.
+    let start = c .before .before .before .before in
+    ((start .pre .1 .0) .low, omega arith))
+    (λ c κs.
+    let match-at = c .before in
+    let operand2 = match-at .before in
+    let get = operand2 .before in
+    let start = get .before .before .before .before in
+    let q = call-a (start .pre .0, start .pre .1 .0) (get .get .result) (operand2 .operand2 .result) (get .get .ensures) (operand2 .operand2 .ensures) (omega (arith, match-at .match .keys1)) in
+    (q .0, (q .1, (start .pre .1 .1))))
+    (λ c κs.
+    let match-at = c .before in
+    let operand2 = match-at .before in
+    let get = operand2 .before in
+    let start = get .before .before .before .before in
+    let h = low-a (start .pre .1 .0) (get .get .result) (operand2 .operand2 .result) (get .get .ensures) (operand2 .operand2 .ensures) (omega (arith, match-at .match .keys2)) in
+    fine-at (start .pre .1 .0) (operand2 .operand2 .result) 0 (omega arith) (omega arith))
+    (λ c κs.
+    let match-at = c .before .before .before .before in
+    let get = match-at .before .before in
+    let start = get .before .before .before .before in
+    ((start .pre .1 .0), omega (arith, get .get .ensures, match-at .match .keys2)))
+    (λ c.
+    let if2 = c .before .before in
+    let going-on = if2 .before in
+    let match-at = going-on .before .before in
+    let operand2 = match-at .before in
+    let get = operand2 .before in
+    let if1 = get .before in
+    let handed-on = if1 .before in
+    let start = handed-on .before .before in
+    handle-continue (start .args .rows .now) (start .args .state .now) (c .attempt .last .1 .0) (start .args .row) (start .args .env .now)
+    (start .args .depth) (c .attempt .result) (start .args .e) (operand2 .operand2 .result) (going-on .going-on .result)
+    (handed-on .handed-on .ensures .none (if1 .if1 .left)) (sym (get .get .ensures) ∙ match-at .match .keys2) (operand2 .operand2 .ensures)
+    (going-on .going-on .ensures) (if2 .if2 .taken) (c .attempt .ensures))
+    (λ c κs.
+    let match-at = c .before .before .before .before in
+    let operand2 = match-at .before in
+    let get = operand2 .before in
+    let start = get .before .before .before .before in
+    let q = call-a (start .pre .0, start .pre .1 .0) (get .get .result) (operand2 .operand2 .result) (get .get .ensures) (operand2 .operand2 .ensures) (omega (arith, match-at .match .keys2)) in
+    (q .0, (q .1, (start .pre .1 .1))))
+    (λ c κs.
+    let match-at = c .before in
+    let get = match-at .before .before in
+    let if1 = get .before in
+    let handed-on = if1 .before in
+    let start = handed-on .before .before in
+    ((start .pre .1 .0), sym (get .get .ensures) ∙ match-at .match .keys3, (handed-on .handed-on .ensures .none (if1 .if1 .left)), (start .pre .1 .1)))
+    (λ c κs.
+    let if4 = c .before in
+    let if3 = if4 .before in
+    let get = if3 .before .before .before in
+    let start = get .before .before .before .before in
+    (fine-at (start .pre .1 .0) (start .args .row) 0 (omega arith) (omega arith), omega (arith, get .get .ensures, if3 .if3 .left), omega (arith, get .get .ensures, if4 .if4 .taken)))
+    (λ c κs.
+    let start = c .before .before .before .before .before .before .before .before .before .before in
+    ((start .pre .1 .0) .low, omega arith))
     (λ c κs. search needs)
     (λ c. search needs)
     (λ c. search needs)
     (λ c κs. search needs)
-    (λ c κs. let s = c .before .before .before .before .before .before .before .before .before .before .before .before .before .before .before .before .before in let q = call-a (s .pre .0, s .pre .1 .0) (c .before .before .before .before .before .before .before .before .before .before .before .before .before .get .result) (c .before .before .before .before .before .before .before .before .before .before .before .before .operand2 .result) (c .before .before .before .before .before .before .before .before .before .before .before .before .before .get .ensures) (c .before .before .before .before .before .before .before .before .before .before .before .before .operand2 .ensures) (omega (arith, c .before .before .before .before .before .before .before .before .if5 .left)) in (q .0, (q .1, subst KnownAction (sym (c .inside .ensures)) (s .pre .1 .1))))
+    (λ c κs.
+    let if5 = c .before .before .before .before .before .before .before .before in
+    let operand2 = if5 .before .before .before .before in
+    let get = operand2 .before in
+    let start = get .before .before .before .before in
+    let q = call-a (start .pre .0, start .pre .1 .0) (get .get .result) (operand2 .operand2 .result) (get .get .ensures) (operand2 .operand2 .ensures) (omega (arith, if5 .if5 .left)) in
+    (q .0, (q .1, subst KnownAction (sym (c .inside .ensures)) (start .pre .1 .1))))
     (λ c. search needs)
     (λ c κs. search needs)
-    (λ c κs. let s = c .before .before .before .before .before .before .before .before .before .before .before .before .before .before .before .before .before in let q = call-b (s .pre .0, s .pre .1 .0) (c .before .before .before .before .before .before .before .before .before .before .before .before .before .get .result) (c .before .before .before .before .before .before .operand3 .result) (c .before .before .before .before .before .before .before .before .before .before .before .before .before .get .ensures) (c .before .before .before .before .before .before .operand3 .ensures) (omega (arith, c .before .before .before .before .before .before .before .before .if5 .left)) in (q .0, (q .1, subst KnownAction (sym (c .inside2 .ensures)) (s .pre .1 .1))))
-    (λ c. let s = c .before .before .before .before .before .before .before .before in handle-then (s .args .rows .now) (s .args .state .now) (c .handle2 .last .1 .0) (s .args .row) (s .args .env .now) (s .args .depth) (c .handle2 .result) (c .before .before .before .operand2 .result) (eventPath (s .args .e)) (eventAction (s .args .e)) (c .before .before .before .before .before .before .handed-on .ensures .none (c .before .before .before .before .before .if1 .left)) (sym (c .before .before .before .before .get .ensures) ∙ c .before .before .match .keys1) (c .before .before .before .operand2 .ensures) (c .handle2 .ensures))
-    (λ c. let s = c .before .before .before .before .before .before .before .before .before .before .before in handle-next (s .args .rows .now) (s .args .state .now) (c .handle3 .last .1 .0) (s .args .row) (s .args .env .now) (s .args .depth) (c .handle3 .result) (s .args .e) (c .before .before .before .before .before .before .operand2 .result) (c .before .before .before .going-on .result) (c .before .before .before .before .before .before .before .before .before .handed-on .ensures .none (c .before .before .before .before .before .before .before .before .if1 .left)) (sym (c .before .before .before .before .before .before .before .get .ensures) ∙ c .before .before .before .before .before .match .keys2) (c .before .before .before .before .before .before .operand2 .ensures) (c .before .before .before .going-on .ensures) (c .before .before .if2 .left) (c .handle3 .ensures))
+    (λ c κs.
+    let operand3 = c .before .before .before .before .before .before in
+    let if5 = operand3 .before .before in
+    let get = if5 .before .before .before .before .before in
+    let start = get .before .before .before .before in
+    let q = call-b (start .pre .0, start .pre .1 .0) (get .get .result) (operand3 .operand3 .result) (get .get .ensures) (operand3 .operand3 .ensures) (omega (arith, if5 .if5 .left)) in
+    (q .0, (q .1, subst KnownAction (sym (c .inside2 .ensures)) (start .pre .1 .1))))
+    (λ c.
+    let match-at = c .before .before in
+    let operand2 = match-at .before in
+    let get = operand2 .before in
+    let if1 = get .before in
+    let handed-on = if1 .before in
+    let start = handed-on .before .before in
+    handle-then (start .args .rows .now) (start .args .state .now) (c .handle2 .last .1 .0) (start .args .row) (start .args .env .now)
+    (start .args .depth) (c .handle2 .result) (operand2 .operand2 .result) (eventPath (start .args .e)) (eventAction (start .args .e))
+    (handed-on .handed-on .ensures .none (if1 .if1 .left)) (sym (get .get .ensures) ∙ match-at .match .keys1) (operand2 .operand2 .ensures)
+    (c .handle2 .ensures))
+    (λ c.
+    let if2 = c .before .before in
+    let going-on = if2 .before in
+    let match-at = going-on .before .before in
+    let operand2 = match-at .before in
+    let get = operand2 .before in
+    let if1 = get .before in
+    let handed-on = if1 .before in
+    let start = handed-on .before .before in
+    handle-next (start .args .rows .now) (start .args .state .now) (c .handle3 .last .1 .0) (start .args .row) (start .args .env .now)
+    (start .args .depth) (c .handle3 .result) (start .args .e) (operand2 .operand2 .result) (going-on .going-on .result)
+    (handed-on .handed-on .ensures .none (if1 .if1 .left)) (sym (get .get .ensures) ∙ match-at .match .keys2) (operand2 .operand2 .ensures)
+    (going-on .going-on .ensures) (if2 .if2 .left) (c .handle3 .ensures))
     (λ c. c .pick .ensures)
-    (λ c. let s = c .before .before .before .before .before .before .before .before .before .before in c .edit .ensures (s .args .env .now) (s .args .depth))
-    (λ c. let s = c .before .before .before .before .before .before .before .before .before .before .before .before .before .before in handle-unmarked (s .args .rows .now) (s .args .state .now) (s .args .row) (s .args .env .now) (s .args .depth) (eventPath (s .args .e)) (eventAction (s .args .e)) (c .before .before .before .before .before .before .before .before .before .before .before .before .handed-on .ensures .none (c .before .before .before .before .before .before .before .before .before .before .before .if1 .left)) (omega (arith, c .before .before .before .before .before .before .before .before .before .before .get .ensures, c .before .before .before .before .before .if5 .left)) (omega (arith, c .before .before .before .before .before .before .before .before .before .before .get .ensures, c .before .before .before .before .if6 .taken)) (front-empty (eventPath (s .args .e)) (sym (c .enum-told .given .1) ∙ c .before .before .front-mark .ensures)))
-    (λ c. let s = c .before .before .before .before .before .before .before .before .before .before .before .before .before .before .before .before .before .before in handle-first (s .args .rows .now) (s .args .state .now) (c .handle4 .last .1 .0) (s .args .row) (s .args .env .now) (s .args .depth) (c .handle4 .result) (eventPath (s .args .e)) (eventAction (s .args .e)) (c .before .before .before .before .before .before .before .before .before .before .before .before .before .before .before .before .handed-on .ensures .none (c .before .before .before .before .before .before .before .before .before .before .before .before .before .before .before .if1 .left)) (omega (arith, c .before .before .before .before .before .before .before .before .before .before .before .before .before .before .get .ensures, c .before .before .before .before .before .before .before .before .before .if5 .left)) (omega (arith, c .before .before .before .before .before .before .before .before .before .before .before .before .before .before .get .ensures, c .before .before .before .before .before .before .before .before .if6 .taken)) (c .before .before .before .before .before .before .before .before .before .before .before .before .before .operand2 .result) (pathOf (c .before .before .before .before .front .given .0 .0)) (c .before .before .before .before .before .before .before .before .before .before .before .before .before .operand2 .ensures) (front-first (eventPath (s .args .e)) (c .before .before .before .before .front .given .0 .0) (sym (c .before .before .before .before .front .given .1) ∙ c .before .before .before .before .before .before .front-mark .ensures)) (subst (λ f. HandleOk (s .args .rows .now) (s .args .state .now) (c .handle4 .last .1 .0) (c .before .before .before .before .before .before .before .before .before .before .before .before .before .operand2 .result) (s .args .env .now) (s .args .depth) (eventPath f) (eventAction f) (c .handle4 .result)) (c .before .inside .ensures) (c .handle4 .ensures)))
-    (λ c. let s = c .before .before .before .before .before .before .before .before .before .before .before .before .before .before .before .before .before .before in handle-second (s .args .rows .now) (s .args .state .now) (c .handle5 .last .1 .0) (s .args .row) (s .args .env .now) (s .args .depth) (c .handle5 .result) (eventPath (s .args .e)) (eventAction (s .args .e)) (c .before .before .before .before .before .before .before .before .before .before .before .before .before .before .before .before .handed-on .ensures .none (c .before .before .before .before .before .before .before .before .before .before .before .before .before .before .before .if1 .left)) (omega (arith, c .before .before .before .before .before .before .before .before .before .before .before .before .before .before .get .ensures, c .before .before .before .before .before .before .before .before .before .if5 .left)) (omega (arith, c .before .before .before .before .before .before .before .before .before .before .before .before .before .before .get .ensures, c .before .before .before .before .before .before .before .before .if6 .taken)) (c .before .before .before .before .before .before .before .operand3 .result) (pathOf (c .before .before .before .before .front2 .given .0 .0)) (c .before .before .before .before .before .before .before .operand3 .ensures) (front-second (eventPath (s .args .e)) (c .before .before .before .before .front2 .given .0 .0) (sym (c .before .before .before .before .front2 .given .1) ∙ c .before .before .before .before .before .before .front-mark .ensures)) (subst (λ f. HandleOk (s .args .rows .now) (s .args .state .now) (c .handle5 .last .1 .0) (c .before .before .before .before .before .before .before .operand3 .result) (s .args .env .now) (s .args .depth) (eventPath f) (eventAction f) (c .handle5 .result)) (c .before .inside2 .ensures) (c .handle5 .ensures)))
-    (λ c. let s = c .before .before .before .before .before .before .before in handle-none (s .args .rows .now) (s .args .state .now) (s .args .row) (s .args .env .now) (s .args .depth) (eventPath (s .args .e)) (eventAction (s .args .e)) (c .before .before .before .before .before .handed-on .ensures .none (c .before .before .before .before .if1 .left)) (λ l h. omega (arith, c .before .before .before .get .ensures, c .if3 .taken)) (λ l h. omega (arith, c .before .before .before .get .ensures, c .if3 .taken)))
-    (λ c. let s = c .before .before .before .before .before .before .before .before .before in handle-none (s .args .rows .now) (s .args .state .now) (s .args .row) (s .args .env .now) (s .args .depth) (eventPath (s .args .e)) (eventAction (s .args .e)) (c .before .before .before .before .before .before .before .handed-on .ensures .none (c .before .before .before .before .before .before .if1 .left)) (λ l h. let k = c .before .before .before .before .before .get .ensures in let x = c .before .if4 .left in let m = c .before .before .before .match .rest .0 .0 .1 in let n = c .before .before .before .match .rest .0 .1 in omega arith) (λ l h. omega (arith, c .before .before .before .before .before .get .ensures, c .if5 .taken)))
-    (λ c. let s = c .before .before .before .before .before .before .before .before .before .before in handle-none (s .args .rows .now) (s .args .state .now) (s .args .row) (s .args .env .now) (s .args .depth) (eventPath (s .args .e)) (eventAction (s .args .e)) (c .before .before .before .before .before .before .before .before .handed-on .ensures .none (c .before .before .before .before .before .before .before .if1 .left)) (λ l h. omega (arith, c .before .before .before .before .before .before .get .ensures, c .if6 .left)) (λ l h. let k = c .before .before .before .before .before .before .get .ensures in let x = c .if6 .left in let m = c .before .before .before .before .match .rest .1 in omega arith))
+    (λ c.
+    let start = c .before .before .before .before .before .before .before .before .before .before in
+    c .edit .ensures (start .args .env .now) (start .args .depth))
+    (λ c.
+    let front-mark = c .before .before in
+    let if6 = front-mark .before .before in
+    let if5 = if6 .before in
+    let get = if5 .before .before .before .before .before in
+    let if1 = get .before in
+    let handed-on = if1 .before in
+    let start = handed-on .before .before in
+    handle-unmarked (start .args .rows .now) (start .args .state .now) (start .args .row) (start .args .env .now) (start .args .depth)
+    (eventPath (start .args .e)) (eventAction (start .args .e)) (handed-on .handed-on .ensures .none (if1 .if1 .left))
+    (omega (arith, get .get .ensures, if5 .if5 .left)) (omega (arith, get .get .ensures, if6 .if6 .taken))
+    (front-empty (eventPath (start .args .e)) (sym (c .enum-told .given .1) ∙ front-mark .front-mark .ensures)))
+    (λ c.
+    let inside = c .before in
+    let front = inside .before .before .before in
+    let front-mark = front .before .before in
+    let if6 = front-mark .before .before in
+    let if5 = if6 .before in
+    let operand2 = if5 .before .before .before .before in
+    let get = operand2 .before in
+    let if1 = get .before in
+    let handed-on = if1 .before in
+    let start = handed-on .before .before in
+    handle-first (start .args .rows .now) (start .args .state .now) (c .handle4 .last .1 .0) (start .args .row) (start .args .env .now)
+    (start .args .depth) (c .handle4 .result) (eventPath (start .args .e)) (eventAction (start .args .e))
+    (handed-on .handed-on .ensures .none (if1 .if1 .left)) (omega (arith, get .get .ensures, if5 .if5 .left))
+    (omega (arith, get .get .ensures, if6 .if6 .taken)) (operand2 .operand2 .result) (pathOf (front .front .given .0 .0))
+    (operand2 .operand2 .ensures)
+    (front-one (eventPath (start .args .e)) (front .front .given .0 .0) (sym (front .front .given .1) ∙ front-mark .front-mark .ensures))
+    (subst (λ f. HandleOk (start .args .rows .now) (start .args .state .now) (c .handle4 .last .1 .0) (operand2 .operand2 .result) (start .args .env .now) (start .args .depth) (eventPath f) (eventAction f) (c .handle4 .result)) (inside .inside .ensures) (c .handle4 .ensures)))
+    (λ c.
+    let inside2 = c .before in
+    let front2 = inside2 .before .before .before in
+    let front-mark = front2 .before .before in
+    let operand3 = front-mark .before in
+    let if6 = operand3 .before in
+    let if5 = if6 .before in
+    let get = if5 .before .before .before .before .before in
+    let if1 = get .before in
+    let handed-on = if1 .before in
+    let start = handed-on .before .before in
+    handle-second (start .args .rows .now) (start .args .state .now) (c .handle5 .last .1 .0) (start .args .row) (start .args .env .now)
+    (start .args .depth) (c .handle5 .result) (eventPath (start .args .e)) (eventAction (start .args .e))
+    (handed-on .handed-on .ensures .none (if1 .if1 .left)) (omega (arith, get .get .ensures, if5 .if5 .left))
+    (omega (arith, get .get .ensures, if6 .if6 .taken)) (operand3 .operand3 .result) (pathOf (front2 .front2 .given .0 .0))
+    (operand3 .operand3 .ensures)
+    (front-two (eventPath (start .args .e)) (front2 .front2 .given .0 .0) (sym (front2 .front2 .given .1) ∙ front-mark .front-mark .ensures))
+    (subst (λ f. HandleOk (start .args .rows .now) (start .args .state .now) (c .handle5 .last .1 .0) (operand3 .operand3 .result) (start .args .env .now) (start .args .depth) (eventPath f) (eventAction f) (c .handle5 .result)) (inside2 .inside2 .ensures) (c .handle5 .ensures)))
+    (λ c.
+    let get = c .before .before .before in
+    let if1 = get .before in
+    let handed-on = if1 .before in
+    let start = handed-on .before .before in
+    handle-none (start .args .rows .now) (start .args .state .now) (start .args .row) (start .args .env .now) (start .args .depth)
+    (eventPath (start .args .e)) (eventAction (start .args .e)) (handed-on .handed-on .ensures .none (if1 .if1 .left))
+    (λ l h. omega (arith, get .get .ensures, c .if3 .taken)) (λ l h. omega (arith, get .get .ensures, c .if3 .taken)))
+    (λ c.
+    let if4 = c .before in
+    let match-at = if4 .before .before in
+    let get = match-at .before .before in
+    let if1 = get .before in
+    let handed-on = if1 .before in
+    let start = handed-on .before .before in
+    handle-none (start .args .rows .now) (start .args .state .now) (start .args .row) (start .args .env .now) (start .args .depth)
+    (eventPath (start .args .e)) (eventAction (start .args .e)) (handed-on .handed-on .ensures .none (if1 .if1 .left))
+    (λ l h. let k = get .get .ensures in let x = if4 .if4 .left in let m = match-at .match .rest .0 .0 .1 in let n = match-at .match .rest .0 .1 in omega arith)
+    (λ l h. omega (arith, get .get .ensures, c .if5 .taken)))
+    (λ c.
+    let match-at = c .before .before .before .before in
+    let get = match-at .before .before in
+    let if1 = get .before in
+    let handed-on = if1 .before in
+    let start = handed-on .before .before in
+    handle-none (start .args .rows .now) (start .args .state .now) (start .args .row) (start .args .env .now) (start .args .depth)
+    (eventPath (start .args .e)) (eventAction (start .args .e)) (handed-on .handed-on .ensures .none (if1 .if1 .left))
+    (λ l h. omega (arith, get .get .ensures, c .if6 .left))
+    (λ l h. let k = get .get .ensures in let x = c .if6 .left in let m = match-at .match .rest .1 in omega arith))

@@ -11,5 +11,19 @@ fill-spec = tie.close (tie.spec
     (λ c. let s = c .before .before in fill-not-given (s .args .state .now) (s .args .row) (s .args .tag) (s .args .shape) (s .args .e) (c .before .ends .ensures .no (not-true _ (c .if1 .taken))))
     (λ c κs. search needs)
     (λ c κs. search needs)
-    (λ c. let s = c .before .before .before .before .before .before .before in fill-fits (s .args .state .now) (s .args .row) (s .args .tag) (s .args .shape) (s .args .e) (c .before .before .before .fits2 .result) (c .before .before .before .before .before .before .ends .ensures .yes (not-false _ (c .before .before .before .before .before .if1 .left))) (c .before .before .before .fits2 .ensures .1) (c .before .before .before .fits2 .ensures .0) (c .put-value .last .0) (c .before .before .if2 .taken) (c .put-value .ensures))
-    (λ c. let s = c .before .before .before .before .before in fill-unfit (s .args .state .now) (s .args .row) (s .args .tag) (s .args .shape) (s .args .e) (c .before .fits2 .result) (c .before .before .before .before .ends .ensures .yes (not-false _ (c .before .before .before .if1 .left))) (c .before .fits2 .ensures .1) (c .before .fits2 .ensures .0) (c .if2 .left)))
+    (λ c.
+    let if2 = c .before .before in
+    let fits2 = if2 .before in
+    let if1 = fits2 .before .before in
+    let ends = if1 .before in
+    let start = ends .before in
+    fill-fits (start .args .state .now) (start .args .row) (start .args .tag) (start .args .shape) (start .args .e) (fits2 .fits2 .result)
+    (ends .ends .ensures .yes (not-false _ (if1 .if1 .left))) (fits2 .fits2 .ensures .1) (fits2 .fits2 .ensures .0) (c .put-value .last .0)
+    (if2 .if2 .taken) (c .put-value .ensures))
+    (λ c.
+    let fits2 = c .before in
+    let if1 = fits2 .before .before in
+    let ends = if1 .before in
+    let start = ends .before in
+    fill-unfit (start .args .state .now) (start .args .row) (start .args .tag) (start .args .shape) (start .args .e) (fits2 .fits2 .result)
+    (ends .ends .ensures .yes (not-false _ (if1 .if1 .left))) (fits2 .fits2 .ensures .1) (fits2 .fits2 .ensures .0) (c .if2 .left)))

@@ -11,6 +11,16 @@ pub going-on-spec : {M : Type 1} → statement M
 going-on-spec = tie.close (tie.spec
     (λ c κs. search needs)
     (λ c κs. search needs)
-    (λ c. let s = c .before .before .before in subst (GoingOk (s .args .rows .now) (s .args .state .now) (s .args .row) (s .args .e)) (sym (c .none .ensures)) (going-none (s .args .rows .now) (s .args .state .now) (s .args .row) (s .args .e) (c .before .before .ends .ensures .no (not-true _ (c .before .if1 .taken)))))
+    (λ c.
+    let if1 = c .before in
+    let ends = if1 .before in
+    let start = ends .before in
+    subst (GoingOk (start .args .rows .now) (start .args .state .now) (start .args .row) (start .args .e)) (sym (c .none .ensures))
+    (going-none (start .args .rows .now) (start .args .state .now) (start .args .row) (start .args .e) (ends .ends .ensures .no (not-true _ (if1 .if1 .taken)))))
     (λ c κs. c .before .before .pre)
-    (λ c. let s = c .before .before .before in going-value (s .args .rows .now) (s .args .state .now) (s .args .row) (s .args .e) (c .value .result) (c .before .before .ends .ensures .yes (not-false _ (c .before .if1 .left))) (c .value .ensures)))
+    (λ c.
+    let if1 = c .before in
+    let ends = if1 .before in
+    let start = ends .before in
+    going-value (start .args .rows .now) (start .args .state .now) (start .args .row) (start .args .e) (c .value .result)
+    (ends .ends .ensures .yes (not-false _ (if1 .if1 .left))) (c .value .ensures)))

@@ -12,10 +12,41 @@ pub pick-spec : {M : Type 1} → statement M
 pick-spec = tie.close (tie.spec
     (λ c κs. search needs)
     (λ c κs. (c .before .before .before .pre .0 .low, omega arith))
-    (λ c κs. let s = c .before .before .before .before in let f = s .pre .0 in let h = low-a f (numberOf (taskK xorK)) (c .operand .result) (sym (s .pre .1)) (c .operand .ensures) (omega arith) in (f .low, fine-at f (c .operand .result) (s .args .depth) (omega arith) (f .room)))
-    (λ c. let s = c .before .before .before .before .before in handle-left (s .args .rows .now) (s .args .state .now) (c .side .last .1 .0) (s .args .row) (s .args .env .now) (s .args .depth) (c .side .result) (s .args .e) (s .pre .2) (s .pre .1) (c .before .operand .result) (c .before .before .before .before .ends .ensures .yes (c .before .before .before .if1 .taken)) (c .before .operand .ensures) (c .side .ensures))
+    (λ c κs.
+    let start = c .before .before .before .before in
+    let f = start .pre .0 in
+    let h = low-a f (numberOf (taskK xorK)) (c .operand .result) (sym (start .pre .1)) (c .operand .ensures) (omega arith) in
+    (f .low, fine-at f (c .operand .result) (start .args .depth) (omega arith) (f .room)))
+    (λ c.
+    let operand = c .before in
+    let if1 = operand .before .before in
+    let ends = if1 .before in
+    let start = ends .before in
+    handle-left (start .args .rows .now) (start .args .state .now) (c .side .last .1 .0) (start .args .row) (start .args .env .now)
+    (start .args .depth) (c .side .result) (start .args .e) (start .pre .2) (start .pre .1) (operand .operand .result)
+    (ends .ends .ensures .yes (if1 .if1 .taken)) (operand .operand .ensures) (c .side .ensures))
     (λ c κs. search needs)
-    (λ c κs. (c .before .before .before .before .before .pre .0 .low, omega arith))
-    (λ c κs. let s = c .before .before .before .before .before .before in let f = s .pre .0 in let h = low-b f (numberOf (taskK xorK)) (c .operand2 .result) (sym (s .pre .1)) (c .operand2 .ensures) (omega arith) in (f .low, fine-at f (c .operand2 .result) (s .args .depth) (omega arith) (f .room)))
-    (λ c. let s = c .before .before .before .before .before .before .before in handle-right (s .args .rows .now) (s .args .state .now) (c .side2 .last .1 .0) (s .args .row) (s .args .env .now) (s .args .depth) (c .side2 .result) (s .args .e) (s .pre .2) (s .pre .1) (c .before .operand2 .result) (c .before .before .before .before .ends2 .ensures .yes (c .before .before .before .if2 .taken)) (c .before .operand2 .ensures) (c .side2 .ensures))
-    (λ c. let s = c .before .before .before .before in handle-unpicked (s .args .rows .now) (s .args .state .now) (s .args .row) (s .args .env .now) (s .args .depth) (s .args .e) (s .pre .2) (s .pre .1) (s .pre .3) (c .before .before .before .ends .ensures .no (c .before .before .if1 .left)) (c .before .ends2 .ensures .no (c .if2 .left))))
+    (λ c κs.
+    let start = c .before .before .before .before .before in
+    (start .pre .0 .low, omega arith))
+    (λ c κs.
+    let start = c .before .before .before .before .before .before in
+    let f = start .pre .0 in
+    let h = low-b f (numberOf (taskK xorK)) (c .operand2 .result) (sym (start .pre .1)) (c .operand2 .ensures) (omega arith) in
+    (f .low, fine-at f (c .operand2 .result) (start .args .depth) (omega arith) (f .room)))
+    (λ c.
+    let operand2 = c .before in
+    let if2 = operand2 .before .before in
+    let ends2 = if2 .before in
+    let start = ends2 .before .before .before in
+    handle-right (start .args .rows .now) (start .args .state .now) (c .side2 .last .1 .0) (start .args .row) (start .args .env .now)
+    (start .args .depth) (c .side2 .result) (start .args .e) (start .pre .2) (start .pre .1) (operand2 .operand2 .result)
+    (ends2 .ends2 .ensures .yes (if2 .if2 .taken)) (operand2 .operand2 .ensures) (c .side2 .ensures))
+    (λ c.
+    let ends2 = c .before in
+    let if1 = ends2 .before in
+    let ends = if1 .before in
+    let start = ends .before in
+    handle-unpicked (start .args .rows .now) (start .args .state .now) (start .args .row) (start .args .env .now) (start .args .depth)
+    (start .args .e) (start .pre .2) (start .pre .1) (start .pre .3) (ends .ends .ensures .no (if1 .if1 .left))
+    (ends2 .ends2 .ensures .no (c .if2 .left))))

@@ -147,28 +147,65 @@ attempt-add-evaluate : (t : ℕ) → attempt-lts.Need-add-evaluate (attempt-call
 attempt-add-evaluate t c = search needs
 
 attempt-evaluate-requires : (t : ℕ) → attempt-lts.Need-evaluate-requires (attempt-calls t) (attempt-at t) attempt.Post
-attempt-evaluate-requires t c κs = let s = c .before .before .before .before .before .before in fine-b (s .args .rows .now) (s .args .row) (s .args .depth) (s .pre .1 .0) _ (c .before .before .before .operand .result) refl ((s .args .depth) + 1) (c .before .before .before .operand .ensures) (s .pre .1 .1) (let l = c .before .before .before .before .before .if1 .left in omega arith)
+attempt-evaluate-requires t c κs =
+    let operand = c .before .before .before in
+    let if1 = operand .before .before in
+    let start = if1 .before in
+    fine-b (start .args .rows .now) (start .args .row) (start .args .depth) (start .pre .1 .0) _ (operand .operand .result) refl
+    ((start .args .depth) + 1) (operand .operand .ensures) (start .pre .1 .1) (let l = if1 .if1 .left in omega arith)
 
 attempt-add-failing : (t : ℕ) → attempt-lts.Need-add-failing (attempt-calls t) (attempt-at t) attempt.Post
 attempt-add-failing t c = search needs
 
 attempt-failing-requires : (t : ℕ) → attempt-lts.Need-failing-requires (attempt-calls t) (attempt-at t) attempt.Post
-attempt-failing-requires t c κs = let s = c .before .before .before .before .before .before .before .before .before in call-b (s .args .rows .now) (s .args .row) (s .args .depth) t 1 (s .pre .0, s .pre .1 .0) 0 (omega arith) _ (c .before .before .before .before .before .before .operand .result) ((s .args .depth) + 1) refl (c .before .before .before .before .before .before .operand .ensures) (s .pre .1 .1) (let l = c .before .before .before .before .before .before .before .before .if1 .left in omega arith)
+attempt-failing-requires t c κs =
+    let operand = c .before .before .before .before .before .before in
+    let if1 = operand .before .before in
+    let start = if1 .before in
+    call-b (start .args .rows .now) (start .args .row) (start .args .depth) t 1 (start .pre .0, start .pre .1 .0) 0 (omega arith) _
+    (operand .operand .result) ((start .args .depth) + 1) refl (operand .operand .ensures) (start .pre .1 .1) (let l = if1 .if1 .left in omega arith)
 
 attempt-returns-2 : (t : ℕ) → attempt-lts.Need-returns-2 (attempt-calls t) (attempt-at t) attempt.Post
-attempt-returns-2 t c = let s = c .before .before .before .before .before .before .before .before .before .before .before in attempt-fails (s .args .rows .now) (s .args .state .now) (s .args .row) (s .args .env .now) (s .args .depth) (s .args .v) (c .before .before .before .before .before .before .before .before .before .pushed .result) (c .before .before .before .before .evaluate .last .1 .0) (c .before .before .before .before .before .before .before .before .operand .result) (c .before .failing .result) (c .before .before .before .before .before .before .before .before .before .pushed .ensures) (c .before .before .before .before .before .before .before .before .operand .ensures) (c .before .before .before .before .evaluate .ensures) (c .before .failing .ensures) (c .if2 .taken)
+attempt-returns-2 t c =
+    let failing = c .before in
+    let evaluate = failing .before .before .before in
+    let operand = evaluate .before .before .before .before in
+    let pushed = operand .before in
+    let start = pushed .before .before in
+    attempt-fails (start .args .rows .now) (start .args .state .now) (start .args .row) (start .args .env .now) (start .args .depth) (start .args .v)
+    (pushed .pushed .result) (evaluate .evaluate .last .1 .0) (operand .operand .result) (failing .failing .result) (pushed .pushed .ensures)
+    (operand .operand .ensures) (evaluate .evaluate .ensures) (failing .failing .ensures) (c .if2 .taken)
 
 attempt-operand-requires-2 : (t : ℕ) → attempt-lts.Need-operand-requires-2 (attempt-calls t) (attempt-at t) attempt.Post
-attempt-operand-requires-2 t c κs = let s = c .before .before .before .before .before .before .before .before .before .before .before .before in ((s .pre .1 .0) .low, omega arith)
+attempt-operand-requires-2 t c κs =
+    let start = c .before .before .before .before .before .before .before .before .before .before .before .before in
+    ((start .pre .1 .0) .low, omega arith)
 
 attempt-clear-requires : (t : ℕ) → attempt-lts.Need-clear-requires (attempt-calls t) (attempt-at t) attempt.Post
-attempt-clear-requires t c κs = let s = c .before .before .before .before .before .before .before .before .before .before .before .before .before in fine-a (s .args .rows .now) (s .args .row) (s .args .depth) (s .pre .1 .0) _ (c .operand2 .result) refl (c .operand2 .ensures) (s .pre .1 .1)
+attempt-clear-requires t c κs =
+    let start = c .before .before .before .before .before .before .before .before .before .before .before .before .before in
+    fine-a (start .args .rows .now) (start .args .row) (start .args .depth) (start .pre .1 .0) _ (c .operand2 .result) refl (c .operand2 .ensures)
+    (start .pre .1 .1)
 
 attempt-put-value-requires : (t : ℕ) → attempt-lts.Need-put-value-requires (attempt-calls t) (attempt-at t) attempt.Post
-attempt-put-value-requires t c κs = let s = c .before .before .before .before .before .before .before .before .before .before .before .before .before .before .before in (s .pre .1 .0) .low
+attempt-put-value-requires t c κs =
+    let start = c .before .before .before .before .before .before .before .before .before .before .before .before .before .before .before in
+    (start .pre .1 .0) .low
 
 attempt-returns-3 : (t : ℕ) → attempt-lts.Need-returns-3 (attempt-calls t) (attempt-at t) attempt.Post
-attempt-returns-3 t c = let s = c .before .before .before .before .before .before .before .before .before .before .before .before .before .before .before .before in attempt-goes (s .args .rows .now) (s .args .state .now) (s .args .row) (s .args .env .now) (s .args .depth) (s .args .v) (c .before .before .before .before .before .before .before .before .before .before .before .before .before .before .pushed .result) (c .before .before .before .before .before .before .before .before .before .evaluate .last .1 .0) (c .before .before .before .before .before .before .before .before .before .before .before .before .before .operand .result) (c .before .before .before .before .before .before .failing .result) (c .before .before .before .before .before .before .before .before .before .before .before .before .before .before .pushed .ensures) (c .before .before .before .before .before .before .before .before .before .before .before .before .before .operand .ensures) (c .before .before .before .before .before .before .before .before .before .evaluate .ensures) (c .before .before .before .before .before .before .failing .ensures) (c .before .before .clear .last .1 .0) (c .put-value .last .0) (c .before .before .before .operand2 .result) (c .before .before .before .before .before .if2 .left) (c .before .before .before .operand2 .ensures) (c .before .before .clear .ensures) (c .put-value .ensures)
+attempt-returns-3 t c =
+    let clear = c .before .before in
+    let operand2 = clear .before in
+    let if2 = operand2 .before .before in
+    let failing = if2 .before in
+    let evaluate = failing .before .before .before in
+    let operand = evaluate .before .before .before .before in
+    let pushed = operand .before in
+    let start = pushed .before .before in
+    attempt-goes (start .args .rows .now) (start .args .state .now) (start .args .row) (start .args .env .now) (start .args .depth) (start .args .v)
+    (pushed .pushed .result) (evaluate .evaluate .last .1 .0) (operand .operand .result) (failing .failing .result) (pushed .pushed .ensures)
+    (operand .operand .ensures) (evaluate .evaluate .ensures) (failing .failing .ensures) (clear .clear .last .1 .0) (c .put-value .last .0)
+    (operand2 .operand2 .result) (if2 .if2 .left) (operand2 .operand2 .ensures) (clear .clear .ensures) (c .put-value .ensures)
 
 choose-operand-requires : (t : ℕ) → choose-lts.Need-operand-requires (choose-calls t) (choose-at t) choose.Post
 choose-operand-requires t c κs = let s = c in ((s .pre .1 .0) .low, omega arith)
@@ -177,112 +214,331 @@ choose-operand-requires-2 : (t : ℕ) → choose-lts.Need-operand-requires-2 (ch
 choose-operand-requires-2 t c κs = let s = c .before in ((s .pre .1 .0) .low, omega arith)
 
 choose-stride-requires : (t : ℕ) → choose-lts.Need-stride-requires (choose-calls t) (choose-at t) choose.Post
-choose-stride-requires t c κs = let s = c .before .before .before in call-a (s .args .rows .now) (s .args .row) (s .args .depth) t 1 (s .pre .0, s .pre .1 .0) 2 (omega arith) 47 (c .before .before .operand .result) (sym (s .pre .1 .1)) (c .before .before .operand .ensures) (omega arith)
+choose-stride-requires t c κs =
+    let operand = c .before .before in
+    let start = operand .before in
+    call-a (start .args .rows .now) (start .args .row) (start .args .depth) t 1 (start .pre .0, start .pre .1 .0) 2 (omega arith) 47
+    (operand .operand .result) (sym (start .pre .1 .1)) (operand .operand .ensures) (omega arith)
 
 choose-value-requires : (t : ℕ) → choose-lts.Need-value-requires (choose-calls t) (choose-at t) choose.Post
-choose-value-requires t c κs = let s = c .before .before .before .before .before in fine-a (s .args .rows .now) (s .args .row) (s .args .depth) (s .pre .1 .0) 47 (c .before .before .before .before .operand .result) (sym (s .pre .1 .1)) (c .before .before .before .before .operand .ensures) (omega arith)
+choose-value-requires t c κs =
+    let operand = c .before .before .before .before in
+    let start = operand .before in
+    fine-a (start .args .rows .now) (start .args .row) (start .args .depth) (start .pre .1 .0) 47 (operand .operand .result) (sym (start .pre .1 .1))
+    (operand .operand .ensures) (omega arith)
 
 choose-clear-requires : (t : ℕ) → choose-lts.Need-clear-requires (choose-calls t) (choose-at t) choose.Post
-choose-clear-requires t c κs = let s = c .before .before .before .before .before .before .before .before in fine-b (s .args .rows .now) (s .args .row) (s .args .depth) (s .pre .1 .0) 47 (c .before .before .before .before .before .before .operand2 .result) (sym (s .pre .1 .1)) 0 (c .before .before .before .before .before .before .operand2 .ensures) (omega arith) (omega arith)
+choose-clear-requires t c κs =
+    let operand2 = c .before .before .before .before .before .before in
+    let start = operand2 .before .before in
+    fine-b (start .args .rows .now) (start .args .row) (start .args .depth) (start .pre .1 .0) 47 (operand2 .operand2 .result)
+    (sym (start .pre .1 .1)) 0 (operand2 .operand2 .ensures) (omega arith) (omega arith)
 
 choose-put-tag-requires : (t : ℕ) → choose-lts.Need-put-tag-requires (choose-calls t) (choose-at t) choose.Post
-choose-put-tag-requires t c κs = let s = c .before .before .before .before .before .before .before .before .before .before in (s .pre .1 .0) .low
+choose-put-tag-requires t c κs =
+    let start = c .before .before .before .before .before .before .before .before .before .before in
+    (start .pre .1 .0) .low
 
 choose-returns : (t : ℕ) → choose-lts.Need-returns (choose-calls t) (choose-at t) choose.Post
-choose-returns t c = let s = c .before .before .before .before .before .before .before .before .before .before .before in choose-left (s .args .rows .now) (s .args .state .now) (c .before .before .before .before .before .before .before .stride .last .1 .0) (s .args .row) (s .args .env .now) (s .args .depth) (s .pre .1 .2) (c .before .before .before .before .before .before .before .before .before .before .operand .result) (c .before .before .before .before .before .before .before .stride .result) (c .before .before .before .before .before .before .before .before .before .before .operand .ensures) (c .before .before .before .before .before .before .before .stride .ensures) (c .before .before .before .before .before .value .result) (c .before .before .before .before .before .value .ensures) (c .before .before .clear .last .1 .0) (c .put-tag .last .0) (c .before .before .before .before .before .before .before .before .before .operand2 .result) (s .pre .1 .1) (c .before .before .before .before .if1 .taken) (c .before .before .before .before .before .before .before .before .before .operand2 .ensures) (c .before .before .clear .ensures) (c .put-tag .ensures)
+choose-returns t c =
+    let clear = c .before .before in
+    let if1 = clear .before .before in
+    let value = if1 .before in
+    let stride = value .before .before in
+    let operand2 = stride .before .before in
+    let operand = operand2 .before in
+    let start = operand .before in
+    choose-left (start .args .rows .now) (start .args .state .now) (stride .stride .last .1 .0) (start .args .row) (start .args .env .now)
+    (start .args .depth) (start .pre .1 .2) (operand .operand .result) (stride .stride .result) (operand .operand .ensures) (stride .stride .ensures)
+    (value .value .result) (value .value .ensures) (clear .clear .last .1 .0) (c .put-tag .last .0) (operand2 .operand2 .result) (start .pre .1 .1)
+    (if1 .if1 .taken) (operand2 .operand2 .ensures) (clear .clear .ensures) (c .put-tag .ensures)
 
 choose-stride-requires-2 : (t : ℕ) → choose-lts.Need-stride-requires-2 (choose-calls t) (choose-at t) choose.Post
-choose-stride-requires-2 t c κs = let s = c .before .before .before .before .before .before .before .before in call-b (s .args .rows .now) (s .args .row) (s .args .depth) t 1 (s .pre .0, s .pre .1 .0) 2 (omega arith) 47 (c .before .before .before .before .before .before .operand2 .result) (s .args .depth) (sym (s .pre .1 .1)) (c .before .before .before .before .before .before .operand2 .ensures) (omega arith) ((s .pre .1 .0) .room)
+choose-stride-requires-2 t c κs =
+    let operand2 = c .before .before .before .before .before .before in
+    let start = operand2 .before .before in
+    call-b (start .args .rows .now) (start .args .row) (start .args .depth) t 1 (start .pre .0, start .pre .1 .0) 2 (omega arith) 47
+    (operand2 .operand2 .result) (start .args .depth) (sym (start .pre .1 .1)) (operand2 .operand2 .ensures) (omega arith) ((start .pre .1 .0) .room)
 
 choose-value-requires-2 : (t : ℕ) → choose-lts.Need-value-requires-2 (choose-calls t) (choose-at t) choose.Post
-choose-value-requires-2 t c κs = let s = c .before .before .before .before .before .before .before .before .before .before in fine-b (s .args .rows .now) (s .args .row) (s .args .depth) (s .pre .1 .0) 47 (c .before .before .before .before .before .before .before .before .operand2 .result) (sym (s .pre .1 .1)) 0 (c .before .before .before .before .before .before .before .before .operand2 .ensures) (omega arith) (omega arith)
+choose-value-requires-2 t c κs =
+    let operand2 = c .before .before .before .before .before .before .before .before in
+    let start = operand2 .before .before in
+    fine-b (start .args .rows .now) (start .args .row) (start .args .depth) (start .pre .1 .0) 47 (operand2 .operand2 .result)
+    (sym (start .pre .1 .1)) 0 (operand2 .operand2 .ensures) (omega arith) (omega arith)
 
 choose-clear-requires-2 : (t : ℕ) → choose-lts.Need-clear-requires-2 (choose-calls t) (choose-at t) choose.Post
-choose-clear-requires-2 t c κs = let s = c .before .before .before .before .before .before .before .before .before .before .before .before .before in fine-a (s .args .rows .now) (s .args .row) (s .args .depth) (s .pre .1 .0) 47 (c .before .before .before .before .before .before .before .before .before .before .before .before .operand .result) (sym (s .pre .1 .1)) (c .before .before .before .before .before .before .before .before .before .before .before .before .operand .ensures) (omega arith)
+choose-clear-requires-2 t c κs =
+    let operand = c .before .before .before .before .before .before .before .before .before .before .before .before in
+    let start = operand .before in
+    fine-a (start .args .rows .now) (start .args .row) (start .args .depth) (start .pre .1 .0) 47 (operand .operand .result) (sym (start .pre .1 .1))
+    (operand .operand .ensures) (omega arith)
 
 choose-put-tag-requires-2 : (t : ℕ) → choose-lts.Need-put-tag-requires-2 (choose-calls t) (choose-at t) choose.Post
-choose-put-tag-requires-2 t c κs = let s = c .before .before .before .before .before .before .before .before .before .before .before .before .before .before .before in (s .pre .1 .0) .low
+choose-put-tag-requires-2 t c κs =
+    let start = c .before .before .before .before .before .before .before .before .before .before .before .before .before .before .before in
+    (start .pre .1 .0) .low
 
 choose-returns-2 : (t : ℕ) → choose-lts.Need-returns-2 (choose-calls t) (choose-at t) choose.Post
-choose-returns-2 t c = let s = c .before .before .before .before .before .before .before .before .before .before .before .before .before .before .before .before in choose-right (s .args .rows .now) (s .args .state .now) (c .before .before .before .before .before .before .before .before .before .before .before .before .stride .last .1 .0) (c .before .before .before .before .before .before .before .stride2 .last .1 .0) (s .args .row) (s .args .env .now) (s .args .depth) (c .before .before .before .before .before .before .before .before .before .before .before .before .before .before .before .operand .result) (c .before .before .before .before .before .before .before .before .before .before .before .before .before .before .operand2 .result) (c .before .before .before .before .before .before .before .before .before .before .before .before .stride .result) (c .before .before .before .before .before .before .before .stride2 .result) (c .before .before .before .before .before .before .before .before .before .before .before .before .before .before .before .operand .ensures) (c .before .before .before .before .before .before .before .before .before .before .before .before .before .before .operand2 .ensures) (c .before .before .before .before .before .before .before .before .before .before .before .before .stride .ensures) (c .before .before .before .before .before .before .before .stride2 .ensures) (s .pre .1 .2) (c .before .before .before .before .before .before .before .before .before .before .value .result) (c .before .before .before .before .before .value2 .result) (c .before .before .before .before .before .before .before .before .before .before .value .ensures) (c .before .before .before .before .before .value2 .ensures) (s .pre .1 .1) (c .before .before .before .before .before .before .before .before .before .if1 .left) (c .before .before .clear2 .last .1 .0) (c .put-tag2 .last .0) (c .before .before .before .before .if2 .taken) (c .before .before .clear2 .ensures) (c .put-tag2 .ensures)
+choose-returns-2 t c =
+    let clear2 = c .before .before in
+    let if2 = clear2 .before .before in
+    let value2 = if2 .before in
+    let stride2 = value2 .before .before in
+    let if1 = stride2 .before .before in
+    let value = if1 .before in
+    let stride = value .before .before in
+    let operand2 = stride .before .before in
+    let operand = operand2 .before in
+    let start = operand .before in
+    choose-right (start .args .rows .now) (start .args .state .now) (stride .stride .last .1 .0) (stride2 .stride2 .last .1 .0) (start .args .row)
+    (start .args .env .now) (start .args .depth) (operand .operand .result) (operand2 .operand2 .result) (stride .stride .result)
+    (stride2 .stride2 .result) (operand .operand .ensures) (operand2 .operand2 .ensures) (stride .stride .ensures) (stride2 .stride2 .ensures)
+    (start .pre .1 .2) (value .value .result) (value2 .value2 .result) (value .value .ensures) (value2 .value2 .ensures) (start .pre .1 .1)
+    (if1 .if1 .left) (clear2 .clear2 .last .1 .0) (c .put-tag2 .last .0) (if2 .if2 .taken) (clear2 .clear2 .ensures) (c .put-tag2 .ensures)
 
 choose-returns-3 : (t : ℕ) → choose-lts.Need-returns-3 (choose-calls t) (choose-at t) choose.Post
-choose-returns-3 t c = let s = c .before .before .before .before .before .before .before .before .before .before .before .before .before in choose-none (s .args .rows .now) (s .args .state .now) (c .before .before .before .before .before .before .before .before .before .stride .last .1 .0) (c .before .before .before .before .stride2 .last .1 .0) (s .args .row) (s .args .env .now) (s .args .depth) (c .before .before .before .before .before .before .before .before .before .before .before .before .operand .result) (c .before .before .before .before .before .before .before .before .before .before .before .operand2 .result) (c .before .before .before .before .before .before .before .before .before .stride .result) (c .before .before .before .before .stride2 .result) (c .before .before .before .before .before .before .before .before .before .before .before .before .operand .ensures) (c .before .before .before .before .before .before .before .before .before .before .before .operand2 .ensures) (c .before .before .before .before .before .before .before .before .before .stride .ensures) (c .before .before .before .before .stride2 .ensures) (s .pre .1 .2) (c .before .before .before .before .before .before .before .value .result) (c .before .before .value2 .result) (c .before .before .before .before .before .before .before .value .ensures) (c .before .before .value2 .ensures) (s .pre .1 .1) (c .before .before .before .before .before .before .if1 .left) (c .before .before .before .before .before .before .before .before .before .stride .result) (c .before .if2 .left) (or-left _ (c .if3 .taken))
+choose-returns-3 t c =
+    let if2 = c .before in
+    let value2 = if2 .before in
+    let stride2 = value2 .before .before in
+    let if1 = stride2 .before .before in
+    let value = if1 .before in
+    let stride = value .before .before in
+    let operand2 = stride .before .before in
+    let operand = operand2 .before in
+    let start = operand .before in
+    choose-none (start .args .rows .now) (start .args .state .now) (stride .stride .last .1 .0) (stride2 .stride2 .last .1 .0) (start .args .row)
+    (start .args .env .now) (start .args .depth) (operand .operand .result) (operand2 .operand2 .result) (stride .stride .result)
+    (stride2 .stride2 .result) (operand .operand .ensures) (operand2 .operand2 .ensures) (stride .stride .ensures) (stride2 .stride2 .ensures)
+    (start .pre .1 .2) (value .value .result) (value2 .value2 .result) (value .value .ensures) (value2 .value2 .ensures) (start .pre .1 .1)
+    (if1 .if1 .left) (stride .stride .result) (if2 .if2 .left) (or-left _ (c .if3 .taken))
 
 choose-returns-4 : (t : ℕ) → choose-lts.Need-returns-4 (choose-calls t) (choose-at t) choose.Post
-choose-returns-4 t c = let s = c .before .before .before .before .before .before .before .before .before .before .before .before .before in choose-none (s .args .rows .now) (s .args .state .now) (c .before .before .before .before .before .before .before .before .before .stride .last .1 .0) (c .before .before .before .before .stride2 .last .1 .0) (s .args .row) (s .args .env .now) (s .args .depth) (c .before .before .before .before .before .before .before .before .before .before .before .before .operand .result) (c .before .before .before .before .before .before .before .before .before .before .before .operand2 .result) (c .before .before .before .before .before .before .before .before .before .stride .result) (c .before .before .before .before .stride2 .result) (c .before .before .before .before .before .before .before .before .before .before .before .before .operand .ensures) (c .before .before .before .before .before .before .before .before .before .before .before .operand2 .ensures) (c .before .before .before .before .before .before .before .before .before .stride .ensures) (c .before .before .before .before .stride2 .ensures) (s .pre .1 .2) (c .before .before .before .before .before .before .before .value .result) (c .before .before .value2 .result) (c .before .before .before .before .before .before .before .value .ensures) (c .before .before .value2 .ensures) (s .pre .1 .1) (c .before .before .before .before .before .before .if1 .left) (c .before .before .before .before .stride2 .result) (c .before .if2 .left) (or-right (c .if3 .left))
+choose-returns-4 t c =
+    let if2 = c .before in
+    let value2 = if2 .before in
+    let stride2 = value2 .before .before in
+    let if1 = stride2 .before .before in
+    let value = if1 .before in
+    let stride = value .before .before in
+    let operand2 = stride .before .before in
+    let operand = operand2 .before in
+    let start = operand .before in
+    choose-none (start .args .rows .now) (start .args .state .now) (stride .stride .last .1 .0) (stride2 .stride2 .last .1 .0) (start .args .row)
+    (start .args .env .now) (start .args .depth) (operand .operand .result) (operand2 .operand2 .result) (stride .stride .result)
+    (stride2 .stride2 .result) (operand .operand .ensures) (operand2 .operand2 .ensures) (stride .stride .ensures) (stride2 .stride2 .ensures)
+    (start .pre .1 .2) (value .value .result) (value2 .value2 .result) (value .value .ensures) (value2 .value2 .ensures) (start .pre .1 .1)
+    (if1 .if1 .left) (stride2 .stride2 .result) (if2 .if2 .left) (or-right (c .if3 .left))
 
 failing-handed-on-requires : (t : ℕ) → failing-lts.Need-handed-on-requires (failing-calls t) (failing-at t) failing.Post
 failing-handed-on-requires t c κs = let s = c in (s .pre .1) .low
 
 failing-enclose-requires : (t : ℕ) → failing-lts.Need-enclose-requires (failing-calls t) (failing-at t) failing.Post
-failing-enclose-requires t c κs = let s = c .before .before .before .before in ((s .pre .1) .low, (s .pre .1) .room)
+failing-enclose-requires t c κs =
+    let start = c .before .before .before .before in
+    ((start .pre .1) .low, (start .pre .1) .room)
 
 failing-operand-requires : (t : ℕ) → failing-lts.Need-operand-requires (failing-calls t) (failing-at t) failing.Post
-failing-operand-requires t c κs = let s = c .before .before .before .before .before in ((s .pre .1) .low, c .before .before .before .before .handed-on .ensures .low)
+failing-operand-requires t c κs =
+    let handed-on = c .before .before .before .before in
+    let start = handed-on .before in
+    ((start .pre .1) .low, handed-on .handed-on .ensures .low)
 
 failing-failing-requires : (t : ℕ) → failing-lts.Need-failing-requires (failing-calls t) (failing-at t) failing.Post
-failing-failing-requires t c κs = let s = c .before .before .before .before .before .before .before in call-part (s .args .rows .now) (s .args .row) (s .args .depth) t 0 (s .pre) 0 (omega arith) (c .before .operand .result) (c .before .before .enclose .result) (c .before .before .before .before .before .before .handed-on .ensures .on (c .before .before .before .before .before .if1 .taken)) (c .before .operand .ensures) (c .before .before .enclose .ensures .room)
+failing-failing-requires t c κs =
+    let operand = c .before in
+    let enclose = operand .before in
+    let if1 = enclose .before .before .before in
+    let handed-on = if1 .before in
+    let start = handed-on .before in
+    call-part (start .args .rows .now) (start .args .row) (start .args .depth) t 0 (start .pre) 0 (omega arith) (operand .operand .result)
+    (enclose .enclose .result) (handed-on .handed-on .ensures .on (if1 .if1 .taken)) (operand .operand .ensures) (enclose .enclose .ensures .room)
 
 failing-returns : (t : ℕ) → failing-lts.Need-returns (failing-calls t) (failing-at t) failing.Post
-failing-returns t c = let s = c .before .before .before .before .before .before .before .before in failing-hands (s .args .rows .now) (s .args .state .now) (s .args .row) (c .before .before .before .before .before .before .before .handed-on .ensures .on (c .before .before .before .before .before .before .if1 .taken)) (c .before .before .operand .ensures) (s .args .env .now) (c .before .before .before .enclose .last .1 .1 .1 .0) (s .args .depth) (c .before .before .before .enclose .result) (c .before .before .before .enclose .ensures) (c .failing .result) (c .failing .ensures)
+failing-returns t c =
+    let operand = c .before .before in
+    let enclose = operand .before in
+    let if1 = enclose .before .before .before in
+    let handed-on = if1 .before in
+    let start = handed-on .before in
+    failing-hands (start .args .rows .now) (start .args .state .now) (start .args .row) (handed-on .handed-on .ensures .on (if1 .if1 .taken))
+    (operand .operand .ensures) (start .args .env .now) (enclose .enclose .last .1 .1 .1 .0) (start .args .depth) (enclose .enclose .result)
+    (enclose .enclose .ensures) (c .failing .result) (c .failing .ensures)
 
 failing-get-requires : (t : ℕ) → failing-lts.Need-get-requires (failing-calls t) (failing-at t) failing.Post
 failing-get-requires t c κs = let s = c .before .before in ((s .pre .1) .low, omega arith)
 
 failing-operand-requires-2 : (t : ℕ) → failing-lts.Need-operand-requires-2 (failing-calls t) (failing-at t) failing.Post
-failing-operand-requires-2 t c κs = let s = c .before .before .before .before in ((s .pre .1) .low, omega arith)
+failing-operand-requires-2 t c κs =
+    let start = c .before .before .before .before in
+    ((start .pre .1) .low, omega arith)
 
 failing-tried-requires : (t : ℕ) → failing-lts.Need-tried-requires (failing-calls t) (failing-at t) failing.Post
-failing-tried-requires t c κs = let s = c .before .before .before .before .before in call-a (s .args .rows .now) (s .args .row) (s .args .depth) t 0 (s .pre) 5 (omega arith) (c .before .before .get .result) (c .operand2 .result) (c .before .before .get .ensures) (c .operand2 .ensures) (omega (arith, c .before .match .keys2))
+failing-tried-requires t c κs =
+    let match-at = c .before in
+    let get = match-at .before in
+    let start = get .before .before .before in
+    call-a (start .args .rows .now) (start .args .row) (start .args .depth) t 0 (start .pre) 5 (omega arith) (get .get .result) (c .operand2 .result)
+    (get .get .ensures) (c .operand2 .ensures) (omega (arith, match-at .match .keys2))
 
 failing-operand-requires-3 : (t : ℕ) → failing-lts.Need-operand-requires-3 (failing-calls t) (failing-at t) failing.Post
-failing-operand-requires-3 t c κs = let s = c .before .before .before .before .before .before .before in ((s .pre .1) .low, omega arith)
+failing-operand-requires-3 t c κs =
+    let start = c .before .before .before .before .before .before .before in
+    ((start .pre .1) .low, omega arith)
 
 failing-tried-requires-2 : (t : ℕ) → failing-lts.Need-tried-requires-2 (failing-calls t) (failing-at t) failing.Post
-failing-tried-requires-2 t c κs = let s = c .before .before .before .before .before .before .before .before in call-b (s .args .rows .now) (s .args .row) (s .args .depth) t 0 (s .pre) 5 (omega arith) (c .before .before .before .before .before .get .result) (c .operand3 .result) (s .args .depth) (c .before .before .before .before .before .get .ensures) (c .operand3 .ensures) (omega (arith, c .before .before .before .before .match .keys2)) ((s .pre .1) .room)
+failing-tried-requires-2 t c κs =
+    let match-at = c .before .before .before .before in
+    let get = match-at .before in
+    let start = get .before .before .before in
+    call-b (start .args .rows .now) (start .args .row) (start .args .depth) t 0 (start .pre) 5 (omega arith) (get .get .result) (c .operand3 .result)
+    (start .args .depth) (get .get .ensures) (c .operand3 .ensures) (omega (arith, match-at .match .keys2)) ((start .pre .1) .room)
 
 failing-operand-requires-4 : (t : ℕ) → failing-lts.Need-operand-requires-4 (failing-calls t) (failing-at t) failing.Post
-failing-operand-requires-4 t c κs = let s = c .before .before .before .before .before .before in ((s .pre .1) .low, omega arith)
+failing-operand-requires-4 t c κs =
+    let start = c .before .before .before .before .before .before in
+    ((start .pre .1) .low, omega arith)
 
 failing-failing-requires-2 : (t : ℕ) → failing-lts.Need-failing-requires-2 (failing-calls t) (failing-at t) failing.Post
-failing-failing-requires-2 t c κs = let s = c .before .before .before .before .before .before .before in call-a (s .args .rows .now) (s .args .row) (s .args .depth) t 0 (s .pre) 0 (omega arith) (c .before .before .before .before .get .result) (c .operand4 .result) (c .before .before .before .before .get .ensures) (c .operand4 .ensures) (omega (arith, c .before .before .if3 .left))
+failing-failing-requires-2 t c κs =
+    let if3 = c .before .before in
+    let get = if3 .before .before in
+    let start = get .before .before .before in
+    call-a (start .args .rows .now) (start .args .row) (start .args .depth) t 0 (start .pre) 0 (omega arith) (get .get .result) (c .operand4 .result)
+    (get .get .ensures) (c .operand4 .ensures) (omega (arith, if3 .if3 .left))
 
 failing-operand-requires-5 : (t : ℕ) → failing-lts.Need-operand-requires-5 (failing-calls t) (failing-at t) failing.Post
-failing-operand-requires-5 t c κs = let s = c .before .before .before .before .before .before .before in ((s .pre .1) .low, omega arith)
+failing-operand-requires-5 t c κs =
+    let start = c .before .before .before .before .before .before .before in
+    ((start .pre .1) .low, omega arith)
 
 failing-failing-requires-3 : (t : ℕ) → failing-lts.Need-failing-requires-3 (failing-calls t) (failing-at t) failing.Post
-failing-failing-requires-3 t c κs = let s = c .before .before .before .before .before .before .before .before in call-a (s .args .rows .now) (s .args .row) (s .args .depth) t 0 (s .pre) 0 (omega arith) (c .before .before .before .before .before .get .result) (c .operand5 .result) (c .before .before .before .before .before .get .ensures) (c .operand5 .ensures) (omega (arith, c .before .before .before .if3 .left))
+failing-failing-requires-3 t c κs =
+    let if3 = c .before .before .before in
+    let get = if3 .before .before in
+    let start = get .before .before .before in
+    call-a (start .args .rows .now) (start .args .row) (start .args .depth) t 0 (start .pre) 0 (omega arith) (get .get .result) (c .operand5 .result)
+    (get .get .ensures) (c .operand5 .ensures) (omega (arith, if3 .if3 .left))
 
 failing-operand-requires-6 : (t : ℕ) → failing-lts.Need-operand-requires-6 (failing-calls t) (failing-at t) failing.Post
-failing-operand-requires-6 t c κs = let s = c .before .before .before .before .before .before .before .before .before .before in ((s .pre .1) .low, omega arith)
+failing-operand-requires-6 t c κs =
+    let start = c .before .before .before .before .before .before .before .before .before .before in
+    ((start .pre .1) .low, omega arith)
 
 failing-failing-requires-4 : (t : ℕ) → failing-lts.Need-failing-requires-4 (failing-calls t) (failing-at t) failing.Post
-failing-failing-requires-4 t c κs = let s = c .before .before .before .before .before .before .before .before .before .before .before in call-b (s .args .rows .now) (s .args .row) (s .args .depth) t 0 (s .pre) 0 (omega arith) (c .before .before .before .before .before .before .before .before .get .result) (c .operand6 .result) (s .args .depth) (c .before .before .before .before .before .before .before .before .get .ensures) (c .operand6 .ensures) (omega (arith, c .before .before .before .before .before .before .if3 .left)) ((s .pre .1) .room)
+failing-failing-requires-4 t c κs =
+    let if3 = c .before .before .before .before .before .before in
+    let get = if3 .before .before in
+    let start = get .before .before .before in
+    call-b (start .args .rows .now) (start .args .row) (start .args .depth) t 0 (start .pre) 0 (omega arith) (get .get .result) (c .operand6 .result)
+    (start .args .depth) (get .get .ensures) (c .operand6 .ensures) (omega (arith, if3 .if3 .left)) ((start .pre .1) .room)
 
 failing-returns-2 : (t : ℕ) → failing-lts.Need-returns-2 (failing-calls t) (failing-at t) failing.Post
-failing-returns-2 t c = let s = c .before .before .before .before in failing-fail (s .args .rows .now) (s .args .state .now) (s .args .row) (s .args .env .now) (s .args .depth) (sym (c .before .get .ensures) ∙ c .match .keys1)
+failing-returns-2 t c =
+    let get = c .before in
+    let start = get .before .before .before in
+    failing-fail (start .args .rows .now) (start .args .state .now) (start .args .row) (start .args .env .now) (start .args .depth)
+    (sym (get .get .ensures) ∙ c .match .keys1)
 
 failing-returns-3 : (t : ℕ) → failing-lts.Need-returns-3 (failing-calls t) (failing-at t) failing.Post
-failing-returns-3 t c = let s = c .before .before .before .before .before .before .before .before .before in failing-branches (s .args .rows .now) (s .args .state .now) (s .args .row) (s .args .env .now) (s .args .depth) (c .before .before .before .before .before .before .before .before .handed-on .ensures .none (c .before .before .before .before .before .before .before .if1 .left)) (c .before .before .before .before .operand2 .result) (c .before .operand3 .result) (c .before .before .before .tried .result) (c .tried2 .result) (sym (c .before .before .before .before .before .before .get .ensures) ∙ c .before .before .before .before .before .match .keys2) (c .before .before .before .before .operand2 .ensures) (c .before .before .before .tried .ensures) (inl (c .before .before .if2 .taken, (c .before .operand3 .ensures, c .tried2 .ensures)))
+failing-returns-3 t c =
+    let operand3 = c .before in
+    let if2 = operand3 .before in
+    let tried = if2 .before in
+    let operand2 = tried .before in
+    let match-at = operand2 .before in
+    let get = match-at .before in
+    let if1 = get .before in
+    let handed-on = if1 .before in
+    let start = handed-on .before in
+    failing-branches (start .args .rows .now) (start .args .state .now) (start .args .row) (start .args .env .now) (start .args .depth)
+    (handed-on .handed-on .ensures .none (if1 .if1 .left)) (operand2 .operand2 .result) (operand3 .operand3 .result) (tried .tried .result)
+    (c .tried2 .result) (sym (get .get .ensures) ∙ match-at .match .keys2) (operand2 .operand2 .ensures) (tried .tried .ensures)
+    (inl (if2 .if2 .taken, (operand3 .operand3 .ensures, c .tried2 .ensures)))
 
 failing-returns-4 : (t : ℕ) → failing-lts.Need-returns-4 (failing-calls t) (failing-at t) failing.Post
-failing-returns-4 t c = let s = c .before .before .before .before .before .before .before in failing-branches (s .args .rows .now) (s .args .state .now) (s .args .row) (s .args .env .now) (s .args .depth) (c .before .before .before .before .before .before .handed-on .ensures .none (c .before .before .before .before .before .if1 .left)) (c .before .before .operand2 .result) 0 (c .before .tried .result) (c .before .tried .result) (sym (c .before .before .before .before .get .ensures) ∙ c .before .before .before .match .keys2) (c .before .before .operand2 .ensures) (c .before .tried .ensures) (inr (c .if2 .left, c .if2 .left))
+failing-returns-4 t c =
+    let tried = c .before in
+    let operand2 = tried .before in
+    let match-at = operand2 .before in
+    let get = match-at .before in
+    let if1 = get .before in
+    let handed-on = if1 .before in
+    let start = handed-on .before in
+    failing-branches (start .args .rows .now) (start .args .state .now) (start .args .row) (start .args .env .now) (start .args .depth)
+    (handed-on .handed-on .ensures .none (if1 .if1 .left)) (operand2 .operand2 .result) 0 (tried .tried .result) (tried .tried .result)
+    (sym (get .get .ensures) ∙ match-at .match .keys2) (operand2 .operand2 .ensures) (tried .tried .ensures) (inr (c .if2 .left, c .if2 .left))
 
 failing-returns-5 : (t : ℕ) → failing-lts.Need-returns-5 (failing-calls t) (failing-at t) failing.Post
-failing-returns-5 t c = let s = c .before .before .before .before .before .before .before .before in failing-step (s .args .rows .now) (s .args .state .now) (s .args .row) (s .args .env .now) (s .args .depth) (c .before .before .before .before .before .before .before .handed-on .ensures .none (c .before .before .before .before .before .before .if1 .left)) (c .before .operand4 .result) (c .failing2 .result) (omega (arith, (c .before .before .before .before .before .get .ensures), c .before .before .before .if3 .left)) (omega (arith, (c .before .before .before .before .before .get .ensures), c .before .before .if4 .taken)) (c .before .operand4 .ensures) (c .failing2 .ensures)
+failing-returns-5 t c =
+    let operand4 = c .before in
+    let if4 = operand4 .before in
+    let if3 = if4 .before in
+    let get = if3 .before .before in
+    let if1 = get .before in
+    let handed-on = if1 .before in
+    let start = handed-on .before in
+    failing-step (start .args .rows .now) (start .args .state .now) (start .args .row) (start .args .env .now) (start .args .depth)
+    (handed-on .handed-on .ensures .none (if1 .if1 .left)) (operand4 .operand4 .result) (c .failing2 .result)
+    (omega (arith, (get .get .ensures), if3 .if3 .left)) (omega (arith, (get .get .ensures), if4 .if4 .taken)) (operand4 .operand4 .ensures)
+    (c .failing2 .ensures)
 
 failing-returns-6 : (t : ℕ) → failing-lts.Need-returns-6 (failing-calls t) (failing-at t) failing.Post
-failing-returns-6 t c = let s = c .before .before .before .before .before .before .before .before .before .before .before .before in failing-both (s .args .rows .now) (s .args .state .now) (s .args .row) (s .args .env .now) (s .args .depth) (c .before .before .before .before .before .before .before .before .before .before .before .handed-on .ensures .none (c .before .before .before .before .before .before .before .before .before .before .if1 .left)) (c .before .before .before .before .operand5 .result) (c .before .operand6 .result) (c .before .before .before .failing3 .result) (c .failing4 .result) (let p = past (c .before .before .before .before .before .before .if4 .left) (c .before .before .before .before .before .before .before .before .match .rest .0 .1) in omega (arith, (c .before .before .before .before .before .before .before .before .before .get .ensures))) (omega (arith, (c .before .before .before .before .before .before .before .before .before .get .ensures), c .before .before .before .before .before .if5 .taken)) (c .before .before .before .before .operand5 .ensures) (c .before .before .before .failing3 .ensures) (inl (c .before .before .if6 .taken, (c .before .operand6 .ensures, c .failing4 .ensures)))
+failing-returns-6 t c =
+    let operand6 = c .before in
+    let if6 = operand6 .before in
+    let failing3 = if6 .before in
+    let operand5 = failing3 .before in
+    let if5 = operand5 .before in
+    let if4 = if5 .before in
+    let match-at = if4 .before .before in
+    let get = match-at .before in
+    let if1 = get .before in
+    let handed-on = if1 .before in
+    let start = handed-on .before in
+    failing-both (start .args .rows .now) (start .args .state .now) (start .args .row) (start .args .env .now) (start .args .depth)
+    (handed-on .handed-on .ensures .none (if1 .if1 .left)) (operand5 .operand5 .result) (operand6 .operand6 .result) (failing3 .failing3 .result)
+    (c .failing4 .result) (let p = past (if4 .if4 .left) (match-at .match .rest .0 .1) in omega (arith, (get .get .ensures)))
+    (omega (arith, (get .get .ensures), if5 .if5 .taken)) (operand5 .operand5 .ensures) (failing3 .failing3 .ensures)
+    (inl (if6 .if6 .taken, (operand6 .operand6 .ensures, c .failing4 .ensures)))
 
 failing-returns-7 : (t : ℕ) → failing-lts.Need-returns-7 (failing-calls t) (failing-at t) failing.Post
-failing-returns-7 t c = let s = c .before .before .before .before .before .before .before .before .before .before in failing-both (s .args .rows .now) (s .args .state .now) (s .args .row) (s .args .env .now) (s .args .depth) (c .before .before .before .before .before .before .before .before .before .handed-on .ensures .none (c .before .before .before .before .before .before .before .before .if1 .left)) (c .before .before .operand5 .result) 0 (c .before .failing3 .result) (c .before .failing3 .result) (let p = past (c .before .before .before .before .if4 .left) (c .before .before .before .before .before .before .match .rest .0 .1) in omega (arith, (c .before .before .before .before .before .before .before .get .ensures))) (omega (arith, (c .before .before .before .before .before .before .before .get .ensures), c .before .before .before .if5 .taken)) (c .before .before .operand5 .ensures) (c .before .failing3 .ensures) (inr (c .if6 .left, c .if6 .left))
+failing-returns-7 t c =
+    let failing3 = c .before in
+    let operand5 = failing3 .before in
+    let if5 = operand5 .before in
+    let if4 = if5 .before in
+    let match-at = if4 .before .before in
+    let get = match-at .before in
+    let if1 = get .before in
+    let handed-on = if1 .before in
+    let start = handed-on .before in
+    failing-both (start .args .rows .now) (start .args .state .now) (start .args .row) (start .args .env .now) (start .args .depth)
+    (handed-on .handed-on .ensures .none (if1 .if1 .left)) (operand5 .operand5 .result) 0 (failing3 .failing3 .result) (failing3 .failing3 .result)
+    (let p = past (if4 .if4 .left) (match-at .match .rest .0 .1) in omega (arith, (get .get .ensures)))
+    (omega (arith, (get .get .ensures), if5 .if5 .taken)) (operand5 .operand5 .ensures) (failing3 .failing3 .ensures)
+    (inr (c .if6 .left, c .if6 .left))
 
 failing-returns-8 : (t : ℕ) → failing-lts.Need-returns-8 (failing-calls t) (failing-at t) failing.Post
-failing-returns-8 t c = let s = c .before .before .before .before .before in failing-editor (s .args .rows .now) (s .args .state .now) (s .args .row) (s .args .env .now) (s .args .depth) (c .before .before .before .before .handed-on .ensures .none (c .before .before .before .if1 .left)) (λ p q. omega (arith, (c .before .before .get .ensures), c .if3 .taken))
+failing-returns-8 t c =
+    let get = c .before .before in
+    let if1 = get .before in
+    let handed-on = if1 .before in
+    let start = handed-on .before in
+    failing-editor (start .args .rows .now) (start .args .state .now) (start .args .row) (start .args .env .now) (start .args .depth)
+    (handed-on .handed-on .ensures .none (if1 .if1 .left)) (λ p q. omega (arith, (get .get .ensures), c .if3 .taken))
 
 failing-returns-9 : (t : ℕ) → failing-lts.Need-returns-9 (failing-calls t) (failing-at t) failing.Post
-failing-returns-9 t c = let s = c .before .before .before .before .before .before .before in failing-editor (s .args .rows .now) (s .args .state .now) (s .args .row) (s .args .env .now) (s .args .depth) (c .before .before .before .before .before .before .handed-on .ensures .none (c .before .before .before .before .before .if1 .left)) (λ p q. let h = past (c .if5 .left) (c .before .before .before .match .rest .1) in omega (arith, (c .before .before .before .before .get .ensures)))
+failing-returns-9 t c =
+    let match-at = c .before .before .before in
+    let get = match-at .before in
+    let if1 = get .before in
+    let handed-on = if1 .before in
+    let start = handed-on .before in
+    failing-editor (start .args .rows .now) (start .args .state .now) (start .args .row) (start .args .env .now) (start .args .depth)
+    (handed-on .handed-on .ensures .none (if1 .if1 .left))
+    (λ p q. let h = past (c .if5 .left) (match-at .match .rest .1) in omega (arith, (get .get .ensures)))
 
 abbrev normalise-Inv-loop : normalise-lts.InvT-loop
 normalise-Inv-loop rows state₀ row env depth strides₀ state strides = (strides ≤ maxStrides) × Mid rows state₀ state row env depth strides
@@ -300,16 +556,32 @@ normalise-add-strides : (t : ℕ) → normalise-lts.Need-add-strides (normalise-
 normalise-add-strides t c = search needs
 
 normalise-returns : (t : ℕ) → normalise-lts.Need-returns (normalise-calls t) (normalise-at t) normalise.Post normalise-Inv-loop normalise-μ-loop
-normalise-returns t c = let s = c .before .before .before .before .before in mid-stop (s .args .rows .now) (s .args .state .now) (c .before .before .before .before .loop .state) (c .before .stride .last .1 .0) (s .args .row) (s .args .env .now) (s .args .depth) (c .before .before .before .before .loop .strides) (c .before .stride .result) (c .before .before .before .before .loop .inv .1) (c .before .stride .ensures) (c .before .before .before .loop-test .taken) (s .pre .1) (not-t _ (c .if1 .taken))
+normalise-returns t c =
+    let stride = c .before in
+    let test = stride .before .before in
+    let loop = test .before in
+    let start = loop .before in
+    mid-stop (start .args .rows .now) (start .args .state .now) (loop .loop .state) (stride .stride .last .1 .0) (start .args .row)
+    (start .args .env .now) (start .args .depth) (loop .loop .strides) (stride .stride .result) (loop .loop .inv .1) (stride .stride .ensures)
+    (test .loop-test .taken) (start .pre .1) (not-t _ (c .if1 .taken))
 
 normalise-loop-less : (t : ℕ) → normalise-lts.Need-loop-less (normalise-calls t) (normalise-at t) normalise.Post normalise-Inv-loop normalise-μ-loop
 normalise-loop-less t c = let l = c .before .before .before .loop-test .taken in omega arith
 
 normalise-loop-again : (t : ℕ) → normalise-lts.Need-loop-again (normalise-calls t) (normalise-at t) normalise.Post normalise-Inv-loop normalise-μ-loop
-normalise-loop-again t c = let s = c .before .before .before .before .before in (let l = c .before .before .before .loop-test .taken in omega arith, mid-more (s .args .rows .now) (s .args .state .now) (c .before .before .before .before .loop .state) (c .before .stride .last .1 .0) (s .args .row) (s .args .env .now) (s .args .depth) (c .before .before .before .before .loop .strides) (c .before .stride .result) (c .before .before .before .before .loop .inv .1) (c .before .stride .ensures) (c .before .before .before .loop-test .taken) (not-f _ (c .if1 .left)))
+normalise-loop-again t c =
+    let stride = c .before in
+    let test = stride .before .before in
+    let loop = test .before in
+    let start = loop .before in
+    (let l = test .loop-test .taken in omega arith, mid-more (start .args .rows .now) (start .args .state .now) (loop .loop .state) (stride .stride .last .1 .0) (start .args .row) (start .args .env .now) (start .args .depth) (loop .loop .strides) (stride .stride .result) (loop .loop .inv .1) (stride .stride .ensures) (test .loop-test .taken) (not-f _ (c .if1 .left)))
 
 normalise-returns-2 : (t : ℕ) → normalise-lts.Need-returns-2 (normalise-calls t) (normalise-at t) normalise.Post normalise-Inv-loop normalise-μ-loop
-normalise-returns-2 t c = let s = c .before .before in mid-end (s .args .rows .now) (s .args .state .now) (c .before .loop .state) (s .args .row) (s .args .env .now) (s .args .depth) (c .before .loop .strides) (s .pre .1) (c .before .loop .inv .1) (omega (arith, c .before .loop .inv .0, c .loop-test .left))
+normalise-returns-2 t c =
+    let loop = c .before in
+    let start = loop .before in
+    mid-end (start .args .rows .now) (start .args .state .now) (loop .loop .state) (start .args .row) (start .args .env .now) (start .args .depth)
+    (loop .loop .strides) (start .pre .1) (loop .loop .inv .1) (omega (arith, loop .loop .inv .0, c .loop-test .left))
 
 settle-evaluate-requires : (t : ℕ) → settle-lts.Need-evaluate-requires (settle-calls t) (settle-at t) settle.Post
 settle-evaluate-requires t c κs = let s = c .before in s .pre .1
@@ -318,88 +590,250 @@ settle-normalise-requires : (t : ℕ) → settle-lts.Need-normalise-requires (se
 settle-normalise-requires t c κs = let s = c .before .before .before in call-same (s .args .rows .now) (s .args .row) (s .args .depth) t 4 (s .pre) 3 (omega arith)
 
 settle-returns : (t : ℕ) → settle-lts.Need-returns (settle-calls t) (settle-at t) settle.Post
-settle-returns t c = let s = c .before .before .before .before .before in settle-moved (s .args .rows .now) (s .args .state .now) (c .before .before .before .evaluate .last .1 .0) (c .before .normalise .last .1 .0) (s .args .row) (s .args .env .now) (s .args .depth) (c .before .normalise .result) (c .before .before .before .evaluate .ensures) (c .before .normalise .ensures) (c .if1 .taken)
+settle-returns t c =
+    let normalise = c .before in
+    let evaluate = normalise .before .before in
+    let start = evaluate .before .before in
+    settle-moved (start .args .rows .now) (start .args .state .now) (evaluate .evaluate .last .1 .0) (normalise .normalise .last .1 .0)
+    (start .args .row) (start .args .env .now) (start .args .depth) (normalise .normalise .result) (evaluate .evaluate .ensures)
+    (normalise .normalise .ensures) (c .if1 .taken)
 
 settle-failing-requires : (t : ℕ) → settle-lts.Need-failing-requires (settle-calls t) (settle-at t) settle.Post
-settle-failing-requires t c κs = let s = c .before .before .before .before .before .before in call-same (s .args .rows .now) (s .args .row) (s .args .depth) t 4 (s .pre) 0 (omega arith)
+settle-failing-requires t c κs =
+    let start = c .before .before .before .before .before .before in
+    call-same (start .args .rows .now) (start .args .row) (start .args .depth) t 4 (start .pre) 0 (omega arith)
 
 settle-returns-2 : (t : ℕ) → settle-lts.Need-returns-2 (settle-calls t) (settle-at t) settle.Post
-settle-returns-2 t c = let s = c .before .before .before .before .before .before .before in settle-asked (s .args .rows .now) (s .args .state .now) (c .before .before .before .before .before .evaluate .last .1 .0) (c .before .before .before .normalise .last .1 .0) (s .args .row) (s .args .env .now) (s .args .depth) (c .before .before .before .normalise .result) (c .before .before .before .before .before .evaluate .ensures) (c .before .before .before .normalise .ensures) (c .failing .result) (c .failing .ensures)
+settle-returns-2 t c =
+    let normalise = c .before .before .before in
+    let evaluate = normalise .before .before in
+    let start = evaluate .before .before in
+    settle-asked (start .args .rows .now) (start .args .state .now) (evaluate .evaluate .last .1 .0) (normalise .normalise .last .1 .0)
+    (start .args .row) (start .args .env .now) (start .args .depth) (normalise .normalise .result) (evaluate .evaluate .ensures)
+    (normalise .normalise .ensures) (c .failing .result) (c .failing .ensures)
 
 stride-handed-on-requires : (t : ℕ) → stride-lts.Need-handed-on-requires (stride-calls t) (stride-at t) stride.Post
 stride-handed-on-requires t c κs = let s = c .before in (s .pre .1) .low
 
 stride-enclose-requires : (t : ℕ) → stride-lts.Need-enclose-requires (stride-calls t) (stride-at t) stride.Post
-stride-enclose-requires t c κs = let s = c .before .before .before .before .before .before in ((s .pre .1) .low, (s .pre .1) .room)
+stride-enclose-requires t c κs =
+    let start = c .before .before .before .before .before .before in
+    ((start .pre .1) .low, (start .pre .1) .room)
 
 stride-operand-requires : (t : ℕ) → stride-lts.Need-operand-requires (stride-calls t) (stride-at t) stride.Post
-stride-operand-requires t c κs = let s = c .before .before .before .before .before .before .before .before in ((s .pre .1) .low, c .before .before .before .before .before .before .handed-on .ensures .low)
+stride-operand-requires t c κs =
+    let handed-on = c .before .before .before .before .before .before in
+    let start = handed-on .before .before in
+    ((start .pre .1) .low, handed-on .handed-on .ensures .low)
 
 stride-stride-requires : (t : ℕ) → stride-lts.Need-stride-requires (stride-calls t) (stride-at t) stride.Post
-stride-stride-requires t c κs = let s = c .before .before .before .before .before .before .before .before .before .before in call-part (s .args .rows .now) (s .args .row) (s .args .depth) t 2 (s .pre) 2 (omega arith) (c .before .operand .result) (c .before .before .before .enclose .result) (c .before .before .before .before .before .before .before .before .handed-on .ensures .on (c .before .before .before .before .before .before .before .if1 .taken)) (c .before .operand .ensures) (c .before .before .before .enclose .ensures .room)
+stride-stride-requires t c κs =
+    let operand = c .before in
+    let enclose = operand .before .before in
+    let if1 = enclose .before .before .before .before in
+    let handed-on = if1 .before in
+    let start = handed-on .before .before in
+    call-part (start .args .rows .now) (start .args .row) (start .args .depth) t 2 (start .pre) 2 (omega arith) (operand .operand .result)
+    (enclose .enclose .result) (handed-on .handed-on .ensures .on (if1 .if1 .taken)) (operand .operand .ensures) (enclose .enclose .ensures .room)
 
 stride-returns : (t : ℕ) → stride-lts.Need-returns (stride-calls t) (stride-at t) stride.Post
-stride-returns t c = let s = c .before .before .before .before .before .before .before .before .before .before .before in stride-hands (s .args .rows .now) (s .args .state .now) (s .args .row) (c .before .before .before .before .before .before .before .before .before .handed-on .ensures .on (c .before .before .before .before .before .before .before .before .if1 .taken)) (c .before .before .operand .ensures) (s .args .env .now) (c .before .before .before .before .enclose .last .1 .1 .1 .0) (s .args .depth) (c .before .before .before .before .enclose .result) (c .before .before .before .before .enclose .ensures) (c .stride .last .1 .0) (c .stride .result) (c .stride .ensures)
+stride-returns t c =
+    let operand = c .before .before in
+    let enclose = operand .before .before in
+    let if1 = enclose .before .before .before .before in
+    let handed-on = if1 .before in
+    let start = handed-on .before .before in
+    stride-hands (start .args .rows .now) (start .args .state .now) (start .args .row) (handed-on .handed-on .ensures .on (if1 .if1 .taken))
+    (operand .operand .ensures) (start .args .env .now) (enclose .enclose .last .1 .1 .1 .0) (start .args .depth) (enclose .enclose .result)
+    (enclose .enclose .ensures) (c .stride .last .1 .0) (c .stride .result) (c .stride .ensures)
 
 stride-get-requires : (t : ℕ) → stride-lts.Need-get-requires (stride-calls t) (stride-at t) stride.Post
 stride-get-requires t c κs = let s = c .before .before .before in ((s .pre .1) .low, omega arith)
 
 stride-operand-requires-2 : (t : ℕ) → stride-lts.Need-operand-requires-2 (stride-calls t) (stride-at t) stride.Post
-stride-operand-requires-2 t c κs = let s = c .before .before .before .before .before in ((s .pre .1) .low, omega arith)
+stride-operand-requires-2 t c κs =
+    let start = c .before .before .before .before .before in
+    ((start .pre .1) .low, omega arith)
 
 stride-stride-requires-2 : (t : ℕ) → stride-lts.Need-stride-requires-2 (stride-calls t) (stride-at t) stride.Post
-stride-stride-requires-2 t c κs = let s = c .before .before .before .before .before .before .before in call-a (s .args .rows .now) (s .args .row) (s .args .depth) t 2 (s .pre) 2 (omega arith) (c .before .before .before .get .result) (c .before .operand2 .result) (c .before .before .before .get .ensures) (c .before .operand2 .ensures) (omega (arith, c .before .before .match .keys1))
+stride-stride-requires-2 t c κs =
+    let operand2 = c .before in
+    let match-at = operand2 .before in
+    let get = match-at .before in
+    let start = get .before .before .before .before in
+    call-a (start .args .rows .now) (start .args .row) (start .args .depth) t 2 (start .pre) 2 (omega arith) (get .get .result)
+    (operand2 .operand2 .result) (get .get .ensures) (operand2 .operand2 .ensures) (omega (arith, match-at .match .keys1))
 
 stride-value-requires : (t : ℕ) → stride-lts.Need-value-requires (stride-calls t) (stride-at t) stride.Post
-stride-value-requires t c κs = let s = c .before .before .before .before .before .before .before .before .before in fine-a (s .args .rows .now) (s .args .row) (s .args .depth) (s .pre .1) (c .before .before .before .before .before .get .result) (c .before .before .before .operand2 .result) (c .before .before .before .before .before .get .ensures) (c .before .before .before .operand2 .ensures) (omega (arith, c .before .before .before .before .match .keys1))
+stride-value-requires t c κs =
+    let operand2 = c .before .before .before in
+    let match-at = operand2 .before in
+    let get = match-at .before in
+    let start = get .before .before .before .before in
+    fine-a (start .args .rows .now) (start .args .row) (start .args .depth) (start .pre .1) (get .get .result) (operand2 .operand2 .result)
+    (get .get .ensures) (operand2 .operand2 .ensures) (omega (arith, match-at .match .keys1))
 
 stride-returns-2 : (t : ℕ) → stride-lts.Need-returns-2 (stride-calls t) (stride-at t) stride.Post
-stride-returns-2 t c = let s = c .before .before .before .before .before .before .before .before .before .before .before .before in step-waits (s .args .rows .now) (s .args .state .now) (c .before .before .before .before .stride2 .last .1 .0) (s .args .row) (s .args .env .now) (s .args .depth) (c .before .before .before .before .before .before .before .before .before .before .handed-on .ensures .none (c .before .before .before .before .before .before .before .before .before .if1 .left)) (c .before .before .before .before .before .before .operand2 .result) (c .before .before .before .before .stride2 .result) (c .before .before .before .before .before .before .operand2 .ensures) (c .before .before .before .before .stride2 .ensures) (c .before .before .value .result) (c .before .before .value .ensures) (sym (c .before .before .before .before .before .before .before .before .get .ensures) ∙ c .before .before .before .before .before .before .before .match .keys1) (not-t _ (c .if2 .taken))
+stride-returns-2 t c =
+    let value = c .before .before in
+    let stride2 = value .before .before in
+    let operand2 = stride2 .before .before in
+    let match-at = operand2 .before in
+    let get = match-at .before in
+    let if1 = get .before in
+    let handed-on = if1 .before in
+    let start = handed-on .before .before in
+    step-waits (start .args .rows .now) (start .args .state .now) (stride2 .stride2 .last .1 .0) (start .args .row) (start .args .env .now)
+    (start .args .depth) (handed-on .handed-on .ensures .none (if1 .if1 .left)) (operand2 .operand2 .result) (stride2 .stride2 .result)
+    (operand2 .operand2 .ensures) (stride2 .stride2 .ensures) (value .value .result) (value .value .ensures)
+    (sym (get .get .ensures) ∙ match-at .match .keys1) (not-t _ (c .if2 .taken))
 
 stride-attempt-requires : (t : ℕ) → stride-lts.Need-attempt-requires (stride-calls t) (stride-at t) stride.Post
-stride-attempt-requires t c κs = let s = c .before .before .before .before .before .before .before .before .before .before .before .before .before in let p = call-same (s .args .rows .now) (s .args .row) (s .args .depth) t 2 (s .pre) 1 (omega arith) in (p .0, (p .1, omega (arith, (c .before .before .before .before .before .before .before .before .before .get .ensures), c .before .before .before .before .before .before .before .before .match .keys1)))
+stride-attempt-requires t c κs =
+    let match-at = c .before .before .before .before .before .before .before .before in
+    let get = match-at .before in
+    let start = get .before .before .before .before in
+    let p = call-same (start .args .rows .now) (start .args .row) (start .args .depth) t 2 (start .pre) 1 (omega arith) in
+    (p .0, (p .1, omega (arith, (get .get .ensures), match-at .match .keys1)))
 
 stride-operand-requires-3 : (t : ℕ) → stride-lts.Need-operand-requires-3 (stride-calls t) (stride-at t) stride.Post
-stride-operand-requires-3 t c κs = let s = c .before .before .before .before .before .before in ((s .pre .1) .low, omega arith)
+stride-operand-requires-3 t c κs =
+    let start = c .before .before .before .before .before .before in
+    ((start .pre .1) .low, omega arith)
 
 stride-stride-requires-3 : (t : ℕ) → stride-lts.Need-stride-requires-3 (stride-calls t) (stride-at t) stride.Post
-stride-stride-requires-3 t c κs = let s = c .before .before .before .before .before .before .before in call-a (s .args .rows .now) (s .args .row) (s .args .depth) t 2 (s .pre) 2 (omega arith) (c .before .before .before .get .result) (c .operand3 .result) (c .before .before .before .get .ensures) (c .operand3 .ensures) (omega (arith, c .before .before .match .keys2))
+stride-stride-requires-3 t c κs =
+    let match-at = c .before .before in
+    let get = match-at .before in
+    let start = get .before .before .before .before in
+    call-a (start .args .rows .now) (start .args .row) (start .args .depth) t 2 (start .pre) 2 (omega arith) (get .get .result) (c .operand3 .result)
+    (get .get .ensures) (c .operand3 .ensures) (omega (arith, match-at .match .keys2))
 
 stride-operand-requires-4 : (t : ℕ) → stride-lts.Need-operand-requires-4 (stride-calls t) (stride-at t) stride.Post
-stride-operand-requires-4 t c κs = let s = c .before .before .before .before .before .before in ((s .pre .1) .low, omega arith)
+stride-operand-requires-4 t c κs =
+    let start = c .before .before .before .before .before .before in
+    ((start .pre .1) .low, omega arith)
 
 stride-stride-requires-4 : (t : ℕ) → stride-lts.Need-stride-requires-4 (stride-calls t) (stride-at t) stride.Post
-stride-stride-requires-4 t c κs = let s = c .before .before .before .before .before .before .before in call-a (s .args .rows .now) (s .args .row) (s .args .depth) t 2 (s .pre) 2 (omega arith) (c .before .before .before .get .result) (c .operand4 .result) (c .before .before .before .get .ensures) (c .operand4 .ensures) (omega (arith, c .before .before .match .keys3))
+stride-stride-requires-4 t c κs =
+    let match-at = c .before .before in
+    let get = match-at .before in
+    let start = get .before .before .before .before in
+    call-a (start .args .rows .now) (start .args .row) (start .args .depth) t 2 (start .pre) 2 (omega arith) (get .get .result) (c .operand4 .result)
+    (get .get .ensures) (c .operand4 .ensures) (omega (arith, match-at .match .keys3))
 
 stride-operand-requires-5 : (t : ℕ) → stride-lts.Need-operand-requires-5 (stride-calls t) (stride-at t) stride.Post
-stride-operand-requires-5 t c κs = let s = c .before .before .before .before .before .before .before .before .before in ((s .pre .1) .low, omega arith)
+stride-operand-requires-5 t c κs =
+    let start = c .before .before .before .before .before .before .before .before .before in
+    ((start .pre .1) .low, omega arith)
 
 stride-stride-requires-5 : (t : ℕ) → stride-lts.Need-stride-requires-5 (stride-calls t) (stride-at t) stride.Post
-stride-stride-requires-5 t c κs = let s = c .before .before .before .before .before .before .before .before .before .before in call-b (s .args .rows .now) (s .args .row) (s .args .depth) t 2 (s .pre) 2 (omega arith) (c .before .before .before .before .before .before .get .result) (c .operand5 .result) (s .args .depth) (c .before .before .before .before .before .before .get .ensures) (c .operand5 .ensures) (omega (arith, c .before .before .before .before .before .match .keys3)) ((s .pre .1) .room)
+stride-stride-requires-5 t c κs =
+    let match-at = c .before .before .before .before .before in
+    let get = match-at .before in
+    let start = get .before .before .before .before in
+    call-b (start .args .rows .now) (start .args .row) (start .args .depth) t 2 (start .pre) 2 (omega arith) (get .get .result) (c .operand5 .result)
+    (start .args .depth) (get .get .ensures) (c .operand5 .ensures) (omega (arith, match-at .match .keys3)) ((start .pre .1) .room)
 
 stride-choose-requires : (t : ℕ) → stride-lts.Need-choose-requires (stride-calls t) (stride-at t) stride.Post
-stride-choose-requires t c κs = let s = c .before .before .before .before .before .before in let p = call-same (s .args .rows .now) (s .args .row) (s .args .depth) t 2 (s .pre) 1 (omega arith) in (p .0, (p .1, sym (c .before .before .get .ensures) ∙ c .before .match .keys4, (c .before .before .before .before .handed-on .ensures .none (c .before .before .before .if1 .left))))
+stride-choose-requires t c κs =
+    let match-at = c .before in
+    let get = match-at .before in
+    let if1 = get .before in
+    let handed-on = if1 .before in
+    let start = handed-on .before .before in
+    let p = call-same (start .args .rows .now) (start .args .row) (start .args .depth) t 2 (start .pre) 1 (omega arith) in
+    (p .0, (p .1, sym (get .get .ensures) ∙ match-at .match .keys4, (handed-on .handed-on .ensures .none (if1 .if1 .left))))
 
 stride-returns-3 : (t : ℕ) → stride-lts.Need-returns-3 (stride-calls t) (stride-at t) stride.Post
-stride-returns-3 t c = let s = c .before .before .before .before .before .before .before .before .before .before .before .before .before .before .before in step-tries (s .args .rows .now) (s .args .state .now) (c .before .before .before .before .before .before .before .stride2 .last .1 .0) (s .args .row) (s .args .env .now) (s .args .depth) (c .before .before .before .before .before .before .before .before .before .before .before .before .before .handed-on .ensures .none (c .before .before .before .before .before .before .before .before .before .before .before .before .if1 .left)) (c .before .before .before .before .before .before .before .before .before .operand2 .result) (c .before .before .before .before .before .before .before .stride2 .result) (c .before .before .before .before .before .before .before .before .before .operand2 .ensures) (c .before .before .before .before .before .before .before .stride2 .ensures) (c .before .before .before .before .before .value .result) (c .before .before .before .before .before .value .ensures) (c .before .attempt .last .1 .0) (c .before .attempt .result) (c .before .attempt .result) (or-left _ (c .if3 .taken)) (sym (c .before .before .before .before .before .before .before .before .before .before .before .get .ensures) ∙ c .before .before .before .before .before .before .before .before .before .before .match .keys1) (not-f _ (c .before .before .before .if2 .left)) (c .before .attempt .ensures)
+stride-returns-3 t c =
+    let attempt = c .before in
+    let if2 = attempt .before .before in
+    let value = if2 .before .before in
+    let stride2 = value .before .before in
+    let operand2 = stride2 .before .before in
+    let match-at = operand2 .before in
+    let get = match-at .before in
+    let if1 = get .before in
+    let handed-on = if1 .before in
+    let start = handed-on .before .before in
+    step-tries (start .args .rows .now) (start .args .state .now) (stride2 .stride2 .last .1 .0) (start .args .row) (start .args .env .now)
+    (start .args .depth) (handed-on .handed-on .ensures .none (if1 .if1 .left)) (operand2 .operand2 .result) (stride2 .stride2 .result)
+    (operand2 .operand2 .ensures) (stride2 .stride2 .ensures) (value .value .result) (value .value .ensures) (attempt .attempt .last .1 .0)
+    (attempt .attempt .result) (attempt .attempt .result) (or-left _ (c .if3 .taken)) (sym (get .get .ensures) ∙ match-at .match .keys1)
+    (not-f _ (if2 .if2 .left)) (attempt .attempt .ensures)
 
 stride-returns-4 : (t : ℕ) → stride-lts.Need-returns-4 (stride-calls t) (stride-at t) stride.Post
-stride-returns-4 t c = let s = c .before .before .before .before .before .before .before .before .before .before .before .before .before .before .before in step-tries (s .args .rows .now) (s .args .state .now) (c .before .before .before .before .before .before .before .stride2 .last .1 .0) (s .args .row) (s .args .env .now) (s .args .depth) (c .before .before .before .before .before .before .before .before .before .before .before .before .before .handed-on .ensures .none (c .before .before .before .before .before .before .before .before .before .before .before .before .if1 .left)) (c .before .before .before .before .before .before .before .before .before .operand2 .result) (c .before .before .before .before .before .before .before .stride2 .result) (c .before .before .before .before .before .before .before .before .before .operand2 .ensures) (c .before .before .before .before .before .before .before .stride2 .ensures) (c .before .before .before .before .before .value .result) (c .before .before .before .before .before .value .ensures) (c .before .attempt .last .1 .0) (c .before .attempt .result) (c .before .before .before .before .before .before .before .stride2 .result) (or-right (c .if3 .left)) (sym (c .before .before .before .before .before .before .before .before .before .before .before .get .ensures) ∙ c .before .before .before .before .before .before .before .before .before .before .match .keys1) (not-f _ (c .before .before .before .if2 .left)) (c .before .attempt .ensures)
+stride-returns-4 t c =
+    let attempt = c .before in
+    let if2 = attempt .before .before in
+    let value = if2 .before .before in
+    let stride2 = value .before .before in
+    let operand2 = stride2 .before .before in
+    let match-at = operand2 .before in
+    let get = match-at .before in
+    let if1 = get .before in
+    let handed-on = if1 .before in
+    let start = handed-on .before .before in
+    step-tries (start .args .rows .now) (start .args .state .now) (stride2 .stride2 .last .1 .0) (start .args .row) (start .args .env .now)
+    (start .args .depth) (handed-on .handed-on .ensures .none (if1 .if1 .left)) (operand2 .operand2 .result) (stride2 .stride2 .result)
+    (operand2 .operand2 .ensures) (stride2 .stride2 .ensures) (value .value .result) (value .value .ensures) (attempt .attempt .last .1 .0)
+    (attempt .attempt .result) (stride2 .stride2 .result) (or-right (c .if3 .left)) (sym (get .get .ensures) ∙ match-at .match .keys1)
+    (not-f _ (if2 .if2 .left)) (attempt .attempt .ensures)
 
 stride-returns-5 : (t : ℕ) → stride-lts.Need-returns-5 (stride-calls t) (stride-at t) stride.Post
-stride-returns-5 t c = let s = c .before .before .before .before .before .before .before .before in stride-next (s .args .rows .now) (s .args .state .now) (c .stride3 .last .1 .0) (s .args .row) (s .args .env .now) (s .args .depth) (c .before .before .before .before .before .before .handed-on .ensures .none (c .before .before .before .before .before .if1 .left)) (c .before .operand3 .result) (c .stride3 .result) (c .before .operand3 .ensures) (c .stride3 .ensures) (sym (c .before .before .before .before .get .ensures) ∙ c .before .before .before .match .keys2)
+stride-returns-5 t c =
+    let operand3 = c .before in
+    let match-at = operand3 .before .before in
+    let get = match-at .before in
+    let if1 = get .before in
+    let handed-on = if1 .before in
+    let start = handed-on .before .before in
+    stride-next (start .args .rows .now) (start .args .state .now) (c .stride3 .last .1 .0) (start .args .row) (start .args .env .now)
+    (start .args .depth) (handed-on .handed-on .ensures .none (if1 .if1 .left)) (operand3 .operand3 .result) (c .stride3 .result)
+    (operand3 .operand3 .ensures) (c .stride3 .ensures) (sym (get .get .ensures) ∙ match-at .match .keys2)
 
 stride-returns-6 : (t : ℕ) → stride-lts.Need-returns-6 (stride-calls t) (stride-at t) stride.Post
-stride-returns-6 t c = let s = c .before .before .before .before .before .before .before .before .before .before .before .before in stride-both (s .args .rows .now) (s .args .state .now) (c .before .before .before .before .stride4 .last .1 .0) (c .before .stride5 .last .1 .0) (s .args .row) (s .args .env .now) (s .args .depth) (c .before .before .before .before .before .operand4 .result) (c .before .before .operand5 .result) (c .before .before .before .before .stride4 .result) (c .before .stride5 .result) (c .before .before .before .before .before .operand4 .ensures) (c .before .before .operand5 .ensures) (c .before .before .before .before .stride4 .ensures) (c .before .stride5 .ensures) (c .before .before .before .before .stride4 .result) (sym (c .before .before .before .before .before .before .before .before .get .ensures) ∙ c .before .before .before .before .before .before .before .match .keys3) (or-left _ (c .if4 .taken))
+stride-returns-6 t c =
+    let stride5 = c .before in
+    let operand5 = stride5 .before in
+    let stride4 = operand5 .before .before in
+    let operand4 = stride4 .before in
+    let match-at = operand4 .before .before in
+    let get = match-at .before in
+    let start = get .before .before .before .before in
+    stride-both (start .args .rows .now) (start .args .state .now) (stride4 .stride4 .last .1 .0) (stride5 .stride5 .last .1 .0) (start .args .row)
+    (start .args .env .now) (start .args .depth) (operand4 .operand4 .result) (operand5 .operand5 .result) (stride4 .stride4 .result)
+    (stride5 .stride5 .result) (operand4 .operand4 .ensures) (operand5 .operand5 .ensures) (stride4 .stride4 .ensures) (stride5 .stride5 .ensures)
+    (stride4 .stride4 .result) (sym (get .get .ensures) ∙ match-at .match .keys3) (or-left _ (c .if4 .taken))
 
 stride-returns-7 : (t : ℕ) → stride-lts.Need-returns-7 (stride-calls t) (stride-at t) stride.Post
-stride-returns-7 t c = let s = c .before .before .before .before .before .before .before .before .before .before .before .before in stride-both (s .args .rows .now) (s .args .state .now) (c .before .before .before .before .stride4 .last .1 .0) (c .before .stride5 .last .1 .0) (s .args .row) (s .args .env .now) (s .args .depth) (c .before .before .before .before .before .operand4 .result) (c .before .before .operand5 .result) (c .before .before .before .before .stride4 .result) (c .before .stride5 .result) (c .before .before .before .before .before .operand4 .ensures) (c .before .before .operand5 .ensures) (c .before .before .before .before .stride4 .ensures) (c .before .stride5 .ensures) (c .before .stride5 .result) (sym (c .before .before .before .before .before .before .before .before .get .ensures) ∙ c .before .before .before .before .before .before .before .match .keys3) (or-right (c .if4 .left))
+stride-returns-7 t c =
+    let stride5 = c .before in
+    let operand5 = stride5 .before in
+    let stride4 = operand5 .before .before in
+    let operand4 = stride4 .before in
+    let match-at = operand4 .before .before in
+    let get = match-at .before in
+    let start = get .before .before .before .before in
+    stride-both (start .args .rows .now) (start .args .state .now) (stride4 .stride4 .last .1 .0) (stride5 .stride5 .last .1 .0) (start .args .row)
+    (start .args .env .now) (start .args .depth) (operand4 .operand4 .result) (operand5 .operand5 .result) (stride4 .stride4 .result)
+    (stride5 .stride5 .result) (operand4 .operand4 .ensures) (operand5 .operand5 .ensures) (stride4 .stride4 .ensures) (stride5 .stride5 .ensures)
+    (stride5 .stride5 .result) (sym (get .get .ensures) ∙ match-at .match .keys3) (or-right (c .if4 .left))
 
 stride-returns-8 : (t : ℕ) → stride-lts.Need-returns-8 (stride-calls t) (stride-at t) stride.Post
 stride-returns-8 t c = c .choose .ensures
 
 stride-returns-9 : (t : ℕ) → stride-lts.Need-returns-9 (stride-calls t) (stride-at t) stride.Post
-stride-returns-9 t c = let s = c .before .before .before .before .before in stride-none (s .args .rows .now) (s .args .state .now) (s .args .row) (s .args .env .now) (s .args .depth) (c .before .before .before .handed-on .ensures .none (c .before .before .if1 .left)) (λ e. c .match .rest .0 .0 .0 .1 ((c .before .get .ensures) ∙ e)) (λ e. c .match .rest .0 .0 .1 ((c .before .get .ensures) ∙ e)) (λ e. c .match .rest .0 .1 ((c .before .get .ensures) ∙ e)) (λ e. c .match .rest .1 ((c .before .get .ensures) ∙ e))
+stride-returns-9 t c =
+    let get = c .before in
+    let if1 = get .before in
+    let handed-on = if1 .before in
+    let start = handed-on .before .before in
+    stride-none (start .args .rows .now) (start .args .state .now) (start .args .row) (start .args .env .now) (start .args .depth)
+    (handed-on .handed-on .ensures .none (if1 .if1 .left)) (λ e. c .match .rest .0 .0 .0 .1 ((get .get .ensures) ∙ e))
+    (λ e. c .match .rest .0 .0 .1 ((get .get .ensures) ∙ e)) (λ e. c .match .rest .0 .1 ((get .get .ensures) ∙ e))
+    (λ e. c .match .rest .1 ((get .get .ensures) ∙ e))
 
 tried-settle-requires : (t : ℕ) → tried-lts.Need-settle-requires (tried-calls t) (tried-at t) tried.Post
 tried-settle-requires t c κs = let s = c .before .before in call-same (s .args .rows .now) (s .args .row) (s .args .depth) t 5 (s .pre) 4 (omega arith)

@@ -40,36 +40,178 @@ pub +evaluate-spec : {M : Type 1} → statement M
     evaluate.Post
     (λ c κs. ((c .pre .1) .low, omega arith))
     (λ c κs. ((c .before .before .before .pre .1) .low, omega arith))
-    (λ c κs. call-a (c .before .before .before .before .pre) (c .before .before .before .get .result) (c .operand .result) (c .before .before .before .get .ensures) (c .operand .ensures) (omega (arith, c .before .before .match .keys1)) .1)
+    (λ c κs.
+    let match-at = c .before .before in
+    let get = match-at .before in
+    let start = get .before in
+    call-a (start .pre) (get .get .result) (c .operand .result) (get .get .ensures) (c .operand .ensures) (omega (arith, match-at .match .keys1)) .1)
     (λ c κs. search needs)
-    (λ c κs. ((c .before .before .before .before .before .before .before .before .pre .1) .low, omega arith))
-    (λ c κs. call-b (c .before .before .before .before .before .before .before .before .before .pre) (c .before .before .before .before .before .before .before .before .get .result) (c .operand2 .result) (c .before .before .before .before .before .before .before .before .get .ensures) (c .operand2 .ensures) (omega (arith, c .before .before .before .before .before .before .before .match .keys1)))
-    (λ c κs. (c .before .before .before .before .before .before .before .before .before .before .before .pre .1) .low)
-    (λ c. let s = c .before .before .before .before .before .before .before .before .before .before .before .before in evaluate-true (s .args .rows .now) (s .args .row) (s .args .env .now) (s .args .depth) (s .args .state .now) (c .before .before .before .before .before .before .before .eval .last .1 .0) (c .before .before .evaluate .last .1 .0) (c .put-tag .last .0) (c .before .before .before .before .before .before .before .eval .result) (c .before .before .before .before .before .before .is-true .result) (c .before .before .before .before .before .before .is-true .ensures) (c .before .before .before .before .before .before .before .before .operand .result) (c .before .before .before .operand2 .result) (sym (c .before .before .before .before .before .before .before .before .before .before .before .get .ensures) ∙ c .before .before .before .before .before .before .before .before .before .before .match .keys1) (c .before .before .before .before .before .before .before .before .operand .ensures) (c .before .before .before .before .before .before .before .eval .ensures) (c .before .before .evaluate .ensures) (c .before .before .before .before .before .if1 .taken) (c .before .before .before .operand2 .ensures) (c .put-tag .ensures))
-    (λ c κs. ((c .before .before .before .before .before .before .before .before .pre .1) .low, omega arith))
-    (λ c κs. call-c (c .before .before .before .before .before .before .before .before .before .pre) (c .before .before .before .before .before .before .before .before .get .result) (c .operand3 .result) (c .before .before .before .before .before .before .before .before .get .ensures) (c .operand3 .ensures) (omega (arith, c .before .before .before .before .before .before .before .match .keys1)))
-    (λ c κs. (c .before .before .before .before .before .before .before .before .before .before .before .pre .1) .low)
+    (λ c κs.
+    let start = c .before .before .before .before .before .before .before .before in
+    ((start .pre .1) .low, omega arith))
+    (λ c κs.
+    let match-at = c .before .before .before .before .before .before .before in
+    let get = match-at .before in
+    let start = get .before in
+    call-b (start .pre) (get .get .result) (c .operand2 .result) (get .get .ensures) (c .operand2 .ensures) (omega (arith, match-at .match .keys1)))
+    (λ c κs.
+    let start = c .before .before .before .before .before .before .before .before .before .before .before in
+    (start .pre .1) .low)
+    (λ c.
+    let evaluate = c .before .before in
+    let operand2 = evaluate .before in
+    let if1 = operand2 .before .before in
+    let is-true = if1 .before in
+    let eval = is-true .before in
+    let operand = eval .before in
+    let match-at = operand .before .before in
+    let get = match-at .before in
+    let start = get .before in
+    evaluate-true (start .args .rows .now) (start .args .row) (start .args .env .now) (start .args .depth) (start .args .state .now)
+    (eval .eval .last .1 .0) (evaluate .evaluate .last .1 .0) (c .put-tag .last .0) (eval .eval .result) (is-true .is-true .result)
+    (is-true .is-true .ensures) (operand .operand .result) (operand2 .operand2 .result) (sym (get .get .ensures) ∙ match-at .match .keys1)
+    (operand .operand .ensures) (eval .eval .ensures) (evaluate .evaluate .ensures) (if1 .if1 .taken) (operand2 .operand2 .ensures)
+    (c .put-tag .ensures))
+    (λ c κs.
+    let start = c .before .before .before .before .before .before .before .before in
+    ((start .pre .1) .low, omega arith))
+    (λ c κs.
+    let match-at = c .before .before .before .before .before .before .before in
+    let get = match-at .before in
+    let start = get .before in
+    call-c (start .pre) (get .get .result) (c .operand3 .result) (get .get .ensures) (c .operand3 .ensures) (omega (arith, match-at .match .keys1)))
+    (λ c κs.
+    let start = c .before .before .before .before .before .before .before .before .before .before .before in
+    (start .pre .1) .low)
     (λ c κs. ((c .before .before .before .pre .1) .low, omega arith))
-    (λ c κs. call-a (c .before .before .before .before .pre) (c .before .before .before .get .result) (c .operand4 .result) (c .before .before .before .get .ensures) (c .operand4 .ensures) (omega (arith, c .before .before .match .keys2)) .1)
-    (λ c κs. (c .before .before .before .before .before .before .pre .1) .low)
-    (λ c κs. let s = c .before .before .before .before .before .before .before .before .before .before in ((s .pre .1) .low, (s .pre .1) .room))
-    (λ c κs. ((c .before .before .before .before .before .before .before .before .before .before .before .before .pre .1) .low, omega arith))
-    (λ c κs. let s = c .before .before .before .before .before .before .before .before .before .before .before .before .before .before in let h = low-b (s .pre .1) (c .before .before .before .before .before .before .before .before .before .before .before .before .before .get .result) (c .before .operand5 .result) (c .before .before .before .before .before .before .before .before .before .before .before .before .before .get .ensures) (c .before .operand5 .ensures) (omega (arith, c .before .before .before .before .before .before .before .before .before .before .before .before .match .keys2)) in (omega (arith, s .pre .0), fine-at (s .pre .1) (c .before .operand5 .result) (c .before .before .before .bind .result) (omega arith) (c .before .before .before .bind .ensures .room)))
+    (λ c κs.
+    let match-at = c .before .before in
+    let get = match-at .before in
+    let start = get .before in
+    call-a (start .pre) (get .get .result) (c .operand4 .result) (get .get .ensures) (c .operand4 .ensures) (omega (arith, match-at .match .keys2))
+    .1)
+    (λ c κs.
+    let start = c .before .before .before .before .before .before in
+    (start .pre .1) .low)
+    (λ c κs.
+    let start = c .before .before .before .before .before .before .before .before .before .before in
+    ((start .pre .1) .low, (start .pre .1) .room))
+    (λ c κs.
+    let start = c .before .before .before .before .before .before .before .before .before .before .before .before in
+    ((start .pre .1) .low, omega arith))
+    (λ c κs.
+    let operand5 = c .before in
+    let bind = operand5 .before .before in
+    let match-at = bind .before .before .before .before .before .before .before .before .before in
+    let get = match-at .before in
+    let start = get .before in
+    let h = low-b (start .pre .1) (get .get .result) (operand5 .operand5 .result) (get .get .ensures) (operand5 .operand5 .ensures) (omega (arith, match-at .match .keys2)) in
+    (omega (arith, start .pre .0), fine-at (start .pre .1) (operand5 .operand5 .result) (bind .bind .result) (omega arith) (bind .bind .ensures .room)))
     (λ c κs. ((c .before .before .before .pre .1) .low, omega arith))
-    (λ c κs. call-a (c .before .before .before .before .pre) (c .before .before .before .get .result) (c .operand6 .result) (c .before .before .before .get .ensures) (c .operand6 .ensures) (omega (arith, c .before .before .match .keys3)) .1)
-    (λ c κs. (c .before .before .before .before .before .before .pre .1) .low)
-    (λ c κs. ((c .before .before .before .before .before .pre .1) .low, omega arith))
-    (λ c κs. call-a (c .before .before .before .before .before .before .pre) (c .before .before .before .before .before .get .result) (c .operand7 .result) (c .before .before .before .before .before .get .ensures) (c .operand7 .ensures) (omega (arith, c .before .before .before .if2 .left)))
-    (λ c κs. (c .before .before .before .before .before .before .before .before .pre .1) .low)
-    (λ c κs. ((c .before .before .before .before .before .before .pre .1) .low, omega arith))
-    (λ c κs. ((c .before .before .before .before .before .before .before .pre .1) .low, omega arith))
-    (λ c κs. call-a (c .before .before .before .before .before .before .before .before .before .pre) (c .before .before .before .before .before .before .before .before .get .result) (c .before .before .operand8 .result) (c .before .before .before .before .before .before .before .before .get .ensures) (c .before .before .operand8 .ensures) (omega (arith, c .before .before .before .before .before .before .if2 .left)))
-    (λ c κs. call-b (c .before .before .before .before .before .before .before .before .before .before .before .pre) (c .before .before .before .before .before .before .before .before .before .before .get .result) (c .before .before .before .operand9 .result) (c .before .before .before .before .before .before .before .before .before .before .get .ensures) (c .before .before .before .operand9 .ensures) (omega (arith, c .before .before .before .before .before .before .before .before .if2 .left)))
-    (λ c κs. (c .before .before .before .before .before .before .before .before .before .before .before .before .before .pre .1) .low)
-    (λ c κs. (c .before .before .before .before .pre .1) .low)
-    (λ c. let s = c .before .before .before .before .before .before .before .before .before .before .before .before in evaluate-false (s .args .rows .now) (s .args .row) (s .args .env .now) (s .args .depth) (s .args .state .now) (c .before .before .before .before .before .before .before .eval .last .1 .0) (c .before .before .evaluate2 .last .1 .0) (c .put-tag2 .last .0) (c .before .before .before .before .before .before .before .eval .result) (c .before .before .before .before .before .before .is-true .result) (c .before .before .before .before .before .before .is-true .ensures) (c .before .before .before .before .before .before .before .before .operand .result) (c .before .before .before .operand3 .result) (sym (c .before .before .before .before .before .before .before .before .before .before .before .get .ensures) ∙ c .before .before .before .before .before .before .before .before .before .before .match .keys1) (c .before .before .before .before .before .before .before .before .operand .ensures) (c .before .before .before .before .before .before .before .eval .ensures) (c .before .before .evaluate2 .ensures) (c .before .before .before .before .before .if1 .left) (c .before .before .before .operand3 .ensures) (c .put-tag2 .ensures))
+    (λ c κs.
+    let match-at = c .before .before in
+    let get = match-at .before in
+    let start = get .before in
+    call-a (start .pre) (get .get .result) (c .operand6 .result) (get .get .ensures) (c .operand6 .ensures) (omega (arith, match-at .match .keys3))
+    .1)
+    (λ c κs.
+    let start = c .before .before .before .before .before .before in
+    (start .pre .1) .low)
+    (λ c κs.
+    let start = c .before .before .before .before .before in
+    ((start .pre .1) .low, omega arith))
+    (λ c κs.
+    let if2 = c .before .before .before in
+    let get = if2 .before .before in
+    let start = get .before in
+    call-a (start .pre) (get .get .result) (c .operand7 .result) (get .get .ensures) (c .operand7 .ensures) (omega (arith, if2 .if2 .left)))
+    (λ c κs.
+    let start = c .before .before .before .before .before .before .before .before in
+    (start .pre .1) .low)
+    (λ c κs.
+    let start = c .before .before .before .before .before .before in
+    ((start .pre .1) .low, omega arith))
+    (λ c κs.
+    let start = c .before .before .before .before .before .before .before in
+    ((start .pre .1) .low, omega arith))
+    (λ c κs.
+    let operand8 = c .before .before in
+    let if2 = operand8 .before .before .before .before in
+    let get = if2 .before .before in
+    let start = get .before in
+    call-a (start .pre) (get .get .result) (operand8 .operand8 .result) (get .get .ensures) (operand8 .operand8 .ensures)
+    (omega (arith, if2 .if2 .left)))
+    (λ c κs.
+    let operand9 = c .before .before .before in
+    let if2 = operand9 .before .before .before .before .before in
+    let get = if2 .before .before in
+    let start = get .before in
+    call-b (start .pre) (get .get .result) (operand9 .operand9 .result) (get .get .ensures) (operand9 .operand9 .ensures)
+    (omega (arith, if2 .if2 .left)))
+    (λ c κs.
+    let start = c .before .before .before .before .before .before .before .before .before .before .before .before .before in
+    (start .pre .1) .low)
+    (λ c κs.
+    let start = c .before .before .before .before in
+    (start .pre .1) .low)
+    (λ c.
+    let evaluate2 = c .before .before in
+    let operand3 = evaluate2 .before in
+    let if1 = operand3 .before .before in
+    let is-true = if1 .before in
+    let eval = is-true .before in
+    let operand = eval .before in
+    let match-at = operand .before .before in
+    let get = match-at .before in
+    let start = get .before in
+    evaluate-false (start .args .rows .now) (start .args .row) (start .args .env .now) (start .args .depth) (start .args .state .now)
+    (eval .eval .last .1 .0) (evaluate2 .evaluate2 .last .1 .0) (c .put-tag2 .last .0) (eval .eval .result) (is-true .is-true .result)
+    (is-true .is-true .ensures) (operand .operand .result) (operand3 .operand3 .result) (sym (get .get .ensures) ∙ match-at .match .keys1)
+    (operand .operand .ensures) (eval .eval .ensures) (evaluate2 .evaluate2 .ensures) (if1 .if1 .left) (operand3 .operand3 .ensures)
+    (c .put-tag2 .ensures))
     (λ c. let s = c .before .before .before .before .before .before .before .before .before .before .before .before .before .before .before in evaluate-let (s .args .rows .now) (s .args .row) (s .args .env .now) (s .args .depth) (s .args .state .now) (c .before .before .before .before .before .before .before .before .before .before .eval2 .last .1 .0) (c .before .before .before .before .before .before .before .before .put-value .last .0) (c .evaluate3 .last .1 .0) (c .before .before .before .before .bind .last .1 .1 .0) (c .before .before .before .before .bind .result) (c .before .before .before .before .before .before .before .before .before .before .eval2 .result) (c .before .before .before .before .before .before .before .before .before .before .before .operand4 .result) (c .before .before .operand5 .result) (c .before .before .before .before .before .before .before .before .before .before .before .operand4 .ensures) (c .before .before .operand5 .ensures) (c .before .before .before .before .before .before .before .before .before .before .eval2 .ensures) (c .before .before .before .before .before .before .before .before .put-value .ensures) (c .before .before .before .before .bind .ensures) (c .evaluate3 .ensures) (sym (c .before .before .before .before .before .before .before .before .before .before .before .before .before .before .get .ensures) ∙ c .before .before .before .before .before .before .before .before .before .before .before .before .before .match .keys2))
-    (λ c. let s = c .before .before .before .before .before .before .before in evaluate-edit (s .args .rows .now) (s .args .row) (s .args .env .now) (s .args .depth) (s .args .state .now) (c .before .before .eval3 .last .1 .0) (c .put-value2 .last .0) (c .before .before .before .operand6 .result) (c .before .before .eval3 .result) (sym (c .before .before .before .before .before .before .get .ensures) ∙ c .before .before .before .before .before .match .keys3) (c .before .before .before .operand6 .ensures) (c .before .before .eval3 .ensures) (c .put-value2 .ensures))
-    (λ c. let s = c .before .before .before .before .before .before .before .before .before in evaluate-step (s .args .rows .now) (s .args .row) (s .args .env .now) (s .args .depth) (s .args .state .now) (c .before .before .evaluate4 .last .1 .0) (c .put-tag3 .last .0) (c .before .before .before .operand7 .result) (c .before .before .before .operand7 .ensures) (c .before .before .evaluate4 .ensures) (c .put-tag3 .ensures) (omega (arith, c .before .before .before .before .before .before .before .before .get .ensures, c .before .before .before .before .before .before .if2 .left)) (omega (arith, c .before .before .before .before .before .before .before .before .get .ensures, c .before .before .before .before .before .if3 .taken)))
-    (λ c. let s = c .before .before .before .before .before .before .before .before .before .before .before .before .before .before in evaluate-two (s .args .rows .now) (s .args .row) (s .args .env .now) (s .args .depth) (s .args .state .now) (c .before .before .before .before .evaluate5 .last .1 .0) (c .before .before .evaluate6 .last .1 .0) (c .put-tag4 .last .0) (c .before .before .before .before .before .before .before .operand8 .result) (c .before .before .before .before .before .before .operand9 .result) (c .before .before .before .before .before .before .before .operand8 .ensures) (c .before .before .before .before .before .before .operand9 .ensures) (c .before .before .before .before .evaluate5 .ensures) (c .before .before .evaluate6 .ensures) (c .put-tag4 .ensures) (omega (arith, c .before .before .before .before .before .before .before .before .before .before .before .before .before .get .ensures, c .before .before .before .before .before .before .before .before .before .if4 .left)) (omega (arith, c .before .before .before .before .before .before .before .before .before .before .before .before .before .get .ensures, c .before .before .before .before .before .before .before .before .if5 .taken)))
-    (λ c. let s = c .before .before .before .before .before in let k = c .before .before .before .before .get .ensures in evaluate-tag (s .args .rows .now) (s .args .row) (s .args .env .now) (s .args .depth) (s .args .state .now) (c .put-tag5 .last .0) (c .put-tag5 .ensures) (λ e. c .before .before .before .match .rest .0 .0 .1 (k ∙ e)) (λ e. c .before .before .before .match .rest .0 .1 (k ∙ e)) (λ e. c .before .before .before .match .rest .1 (k ∙ e)) (λ p q. ⊎-elim (λ z. omega (arith, k, z .taken)) (⊎-elim (λ z. omega (arith, k, z .1 .left)) (λ z. omega (arith, k, z .1 .left))) (c .before .before .if2 .came)) (λ p q. ⊎-elim (λ z. omega (arith, k, z .taken)) (⊎-elim (λ z. omega (arith, k, z .2 .taken)) (λ z. omega (arith, k, z .3 .left))) (c .before .before .if2 .came)))
+    (λ c.
+    let eval3 = c .before .before in
+    let operand6 = eval3 .before in
+    let match-at = operand6 .before .before in
+    let get = match-at .before in
+    let start = get .before in
+    evaluate-edit (start .args .rows .now) (start .args .row) (start .args .env .now) (start .args .depth) (start .args .state .now)
+    (eval3 .eval3 .last .1 .0) (c .put-value2 .last .0) (operand6 .operand6 .result) (eval3 .eval3 .result)
+    (sym (get .get .ensures) ∙ match-at .match .keys3) (operand6 .operand6 .ensures) (eval3 .eval3 .ensures) (c .put-value2 .ensures))
+    (λ c.
+    let evaluate4 = c .before .before in
+    let operand7 = evaluate4 .before in
+    let if3 = operand7 .before .before in
+    let if2 = if3 .before in
+    let get = if2 .before .before in
+    let start = get .before in
+    evaluate-step (start .args .rows .now) (start .args .row) (start .args .env .now) (start .args .depth) (start .args .state .now)
+    (evaluate4 .evaluate4 .last .1 .0) (c .put-tag3 .last .0) (operand7 .operand7 .result) (operand7 .operand7 .ensures)
+    (evaluate4 .evaluate4 .ensures) (c .put-tag3 .ensures) (omega (arith, get .get .ensures, if2 .if2 .left))
+    (omega (arith, get .get .ensures, if3 .if3 .taken)))
+    (λ c.
+    let evaluate6 = c .before .before in
+    let evaluate5 = evaluate6 .before .before in
+    let operand9 = evaluate5 .before .before in
+    let operand8 = operand9 .before in
+    let if5 = operand8 .before in
+    let if4 = if5 .before in
+    let get = if4 .before .before .before .before in
+    let start = get .before in
+    evaluate-two (start .args .rows .now) (start .args .row) (start .args .env .now) (start .args .depth) (start .args .state .now)
+    (evaluate5 .evaluate5 .last .1 .0) (evaluate6 .evaluate6 .last .1 .0) (c .put-tag4 .last .0) (operand8 .operand8 .result)
+    (operand9 .operand9 .result) (operand8 .operand8 .ensures) (operand9 .operand9 .ensures) (evaluate5 .evaluate5 .ensures)
+    (evaluate6 .evaluate6 .ensures) (c .put-tag4 .ensures) (omega (arith, get .get .ensures, if4 .if4 .left))
+    (omega (arith, get .get .ensures, if5 .if5 .taken)))
+    (λ c.
+    let if2 = c .before .before in
+    let match-at = if2 .before in
+    let get = match-at .before in
+    let start = get .before in
+    let k = get .get .ensures in
+    evaluate-tag (start .args .rows .now) (start .args .row) (start .args .env .now) (start .args .depth) (start .args .state .now)
+    (c .put-tag5 .last .0) (c .put-tag5 .ensures) (λ e. match-at .match .rest .0 .0 .1 (k ∙ e)) (λ e. match-at .match .rest .0 .1 (k ∙ e))
+    (λ e. match-at .match .rest .1 (k ∙ e))
+    (λ p q. ⊎-elim (λ z. omega (arith, k, z .taken)) (⊎-elim (λ z. omega (arith, k, z .1 .left)) (λ z. omega (arith, k, z .1 .left))) (if2 .if2 .came))
+    (λ p q. ⊎-elim (λ z. omega (arith, k, z .taken)) (⊎-elim (λ z. omega (arith, k, z .2 .taken)) (λ z. omega (arith, k, z .3 .left))) (if2 .if2 .came)))

@@ -42,33 +42,150 @@ pub +value-spec : {M : Type 1} → statement M
     value.Post
     (λ c κs. (c .pre .1) .low)
     (λ c κs. ((c .before .before .pre .1) .low, c .before .handed-on .ensures .low))
-    (λ c κs. let s = c .before .before .before in let l = low-part (s .args .rows .now) (s .args .row) (s .pre .1) (c .before .before .handed-on .ensures .on (c .before .if1 .taken)) (c .operand .ensures) in (omega (arith, s .pre .0), fine-part (s .args .rows .now) (s .args .row) (s .pre .1) (c .before .before .handed-on .ensures .on (c .before .if1 .taken)) (c .operand .ensures) ((s .pre .1) .room)))
-    (λ c. let s = c .before .before .before .before in value-hands (s .args .rows .now) (s .args .state .now) (s .args .row) (c .before .before .before .handed-on .ensures .on (c .before .before .if1 .taken)) (c .before .operand .ensures) (c .value .result) (c .value .ensures))
+    (λ c κs.
+    let if1 = c .before in
+    let handed-on = if1 .before in
+    let start = handed-on .before in
+    let l = low-part (start .args .rows .now) (start .args .row) (start .pre .1) (handed-on .handed-on .ensures .on (if1 .if1 .taken)) (c .operand .ensures) in
+    (omega (arith, start .pre .0), fine-part (start .args .rows .now) (start .args .row) (start .pre .1) (handed-on .handed-on .ensures .on (if1 .if1 .taken)) (c .operand .ensures) ((start .pre .1) .room)))
+    (λ c.
+    let operand = c .before in
+    let if1 = operand .before in
+    let handed-on = if1 .before in
+    let start = handed-on .before in
+    value-hands (start .args .rows .now) (start .args .state .now) (start .args .row) (handed-on .handed-on .ensures .on (if1 .if1 .taken))
+    (operand .operand .ensures) (c .value .result) (c .value .ensures))
     (λ c κs. ((c .before .before .pre .1) .low, omega arith))
-    (λ c κs. (c .before .before .before .before .pre .1) .low)
+    (λ c κs.
+    let start = c .before .before .before .before in
+    (start .pre .1) .low)
     (λ c κs. search needs)
-    (λ c κs. ((c .before .before .before .before .pre .1) .low, omega arith))
-    (λ c κs. (c .before .before .before .before .before .before .pre .1) .low)
+    (λ c κs.
+    let start = c .before .before .before .before in
+    ((start .pre .1) .low, omega arith))
+    (λ c κs.
+    let start = c .before .before .before .before .before .before in
+    (start .pre .1) .low)
     (λ c κs. search needs)
-    (λ c. let s = c .before .before .before .before .before .before .before .before in subst (ValueOk (s .args .rows .now) (s .args .state .now) (s .args .row)) (sym (c .some2 .ensures)) (value-entered (s .args .rows .now) (s .args .state .now) (s .args .row) (c .before .read-value2 .result) (sym (c .before .before .before .before .before .get .ensures) ∙ c .before .before .before .before .match .keys2) (sym (c .before .before .before .read .ensures) ∙ c .before .before .if2 .taken) (c .before .read-value2 .ensures)))
+    (λ c.
+    let read-value2 = c .before in
+    let if2 = read-value2 .before in
+    let read = if2 .before in
+    let match-at = read .before in
+    let get = match-at .before in
+    let start = get .before .before .before in
+    subst (ValueOk (start .args .rows .now) (start .args .state .now) (start .args .row)) (sym (c .some2 .ensures))
+    (value-entered (start .args .rows .now) (start .args .state .now) (start .args .row) (read-value2 .read-value2 .result) (sym (get .get .ensures) ∙ match-at .match .keys2) (sym (read .read .ensures) ∙ if2 .if2 .taken) (read-value2 .read-value2 .ensures)))
     (λ c κs. search needs)
-    (λ c κs. ((c .before .before .before .before .pre .1) .low, omega arith))
-    (λ c κs. let s = c .before .before .before .before .before in let h = low-a (s .pre .1) (c .before .before .get .result) (c .operand2 .result) (c .before .before .get .ensures) (c .operand2 .ensures) (omega (arith, c .before .match .keys3)) in let l = (s .pre .1) .low in omega arith)
+    (λ c κs.
+    let start = c .before .before .before .before in
+    ((start .pre .1) .low, omega arith))
+    (λ c κs.
+    let match-at = c .before in
+    let get = match-at .before in
+    let start = get .before .before .before in
+    let h = low-a (start .pre .1) (get .get .result) (c .operand2 .result) (get .get .ensures) (c .operand2 .ensures) (omega (arith, match-at .match .keys3)) in
+    let l = (start .pre .1) .low in
+    omega arith)
     (λ c κs. search needs)
-    (λ c κs. ((c .before .before .before .before .pre .1) .low, omega arith))
-    (λ c κs. call-a (c .before .before .before .before .before .pre) (c .before .before .get .result) (c .operand3 .result) (c .before .before .get .ensures) (c .operand3 .ensures) (omega (arith, c .before .match .keys4)))
-    (λ c κs. ((c .before .before .before .before .before .before .pre .1) .low, omega arith))
-    (λ c κs. call-b (c .before .before .before .before .before .before .before .pre) (c .before .before .before .before .get .result) (c .operand4 .result) (c .before .before .before .before .get .ensures) (c .operand4 .ensures) (omega (arith, c .before .before .before .match .keys4)))
+    (λ c κs.
+    let start = c .before .before .before .before in
+    ((start .pre .1) .low, omega arith))
+    (λ c κs.
+    let match-at = c .before in
+    let get = match-at .before in
+    let start = get .before .before .before in
+    call-a (start .pre) (get .get .result) (c .operand3 .result) (get .get .ensures) (c .operand3 .ensures) (omega (arith, match-at .match .keys4)))
+    (λ c κs.
+    let start = c .before .before .before .before .before .before in
+    ((start .pre .1) .low, omega arith))
+    (λ c κs.
+    let match-at = c .before .before .before in
+    let get = match-at .before in
+    let start = get .before .before .before in
+    call-b (start .pre) (get .get .result) (c .operand4 .result) (get .get .ensures) (c .operand4 .ensures) (omega (arith, match-at .match .keys4)))
     (λ c κs. search needs)
-    (λ c κs. ((c .before .before .before .before .pre .1) .low, omega arith))
-    (λ c κs. call-a (c .before .before .before .before .before .pre) (c .before .before .get .result) (c .operand5 .result) (c .before .before .get .ensures) (c .operand5 .ensures) (omega (arith, c .before .match .keys5)))
-    (λ c. let s = c .before .before .before .before .before .before .before in value-first (s .args .rows .now) (s .args .state .now) (s .args .row) (c .before .before .operand5 .result) (c .before .before .operand5 .ensures) (c .before .before .before .before .before .before .handed-on .ensures .none (c .before .before .before .before .before .if1 .left)) (sym (c .before .before .before .before .get .ensures) ∙ c .before .before .before .match .keys5) (c .before .value4 .result) (c .before .value4 .ensures) (c .if3 .taken))
-    (λ c κs. ((c .before .before .before .before .before .before .before .pre .1) .low, omega arith))
-    (λ c κs. call-b (c .before .before .before .before .before .before .before .before .pre) (c .before .before .before .before .before .get .result) (c .operand6 .result) (c .before .before .before .before .before .get .ensures) (c .operand6 .ensures) (omega (arith, c .before .before .before .before .match .keys5)))
+    (λ c κs.
+    let start = c .before .before .before .before in
+    ((start .pre .1) .low, omega arith))
+    (λ c κs.
+    let match-at = c .before in
+    let get = match-at .before in
+    let start = get .before .before .before in
+    call-a (start .pre) (get .get .result) (c .operand5 .result) (get .get .ensures) (c .operand5 .ensures) (omega (arith, match-at .match .keys5)))
+    (λ c.
+    let value4 = c .before in
+    let operand5 = value4 .before in
+    let match-at = operand5 .before in
+    let get = match-at .before in
+    let if1 = get .before in
+    let handed-on = if1 .before in
+    let start = handed-on .before in
+    value-first (start .args .rows .now) (start .args .state .now) (start .args .row) (operand5 .operand5 .result) (operand5 .operand5 .ensures)
+    (handed-on .handed-on .ensures .none (if1 .if1 .left)) (sym (get .get .ensures) ∙ match-at .match .keys5) (value4 .value4 .result)
+    (value4 .value4 .ensures) (c .if3 .taken))
+    (λ c κs.
+    let start = c .before .before .before .before .before .before .before in
+    ((start .pre .1) .low, omega arith))
+    (λ c κs.
+    let match-at = c .before .before .before .before in
+    let get = match-at .before in
+    let start = get .before .before .before in
+    call-b (start .pre) (get .get .result) (c .operand6 .result) (get .get .ensures) (c .operand6 .ensures) (omega (arith, match-at .match .keys5)))
     (λ c κs. search needs)
-    (λ c. let s = c .before .before .before .before .before .before in subst (ValueOk (s .args .rows .now) (s .args .state .now) (s .args .row)) (sym (c .some .ensures)) (value-filled (s .args .rows .now) (s .args .state .now) (s .args .row) (c .before .read-value .result) (sym (c .before .before .before .get .ensures) ∙ c .before .before .match .keys1) (c .before .read-value .ensures)))
-    (λ c. let s = c .before .before .before .before .before .before .before in subst (ValueOk (s .args .rows .now) (s .args .state .now) (s .args .row)) (sym (c .none .ensures)) (value-blank (s .args .rows .now) (s .args .state .now) (s .args .row) (sym (c .before .before .before .before .get .ensures) ∙ c .before .before .before .match .keys2) (λ e. c .before .if2 .left (c .before .before .read .ensures ∙ e))))
-    (λ c. let s = c .before .before .before .before .before .before .before in subst (ValueOk (s .args .rows .now) (s .args .state .now) (s .args .row)) (sym (c .some3 .ensures)) (value-shared (s .args .rows .now) (s .args .state .now) (s .args .row) (c .before .before .operand2 .result) (c .before .read-value3 .result) (sym (c .before .before .before .before .get .ensures) ∙ c .before .before .before .match .keys3) (c .before .before .operand2 .ensures) (c .before .read-value3 .ensures)))
-    (λ c. let s = c .before .before .before .before .before .before .before .before .before in value-both (s .args .rows .now) (s .args .state .now) (s .args .row) (c .before .before .before .before .operand3 .result) (c .before .before .before .before .operand3 .ensures) (c .before .before .operand4 .result) (c .before .before .before .value2 .result) (c .before .value3 .result) (c .both .result) (sym (c .before .before .before .before .before .before .get .ensures) ∙ c .before .before .before .before .before .match .keys4) (c .before .before .operand4 .ensures) (c .before .before .before .value2 .ensures) (c .before .value3 .ensures) (c .both .ensures))
-    (λ c. let s = c .before .before .before .before .before .before .before .before .before in value-else (s .args .rows .now) (s .args .state .now) (s .args .row) (c .before .before .before .before .operand5 .result) (c .before .before .before .before .operand5 .ensures) (c .before .before .before .before .before .before .before .before .handed-on .ensures .none (c .before .before .before .before .before .before .before .if1 .left)) (sym (c .before .before .before .before .before .before .get .ensures) ∙ c .before .before .before .before .before .match .keys5) (c .before .before .before .value4 .result) (c .before .before .before .value4 .ensures) (c .before .operand6 .result) (c .value5 .result) (c .before .operand6 .ensures) (c .before .before .if3 .left) (c .value5 .ensures))
-    (λ c. let s = c .before .before .before .before .before in subst (ValueOk (s .args .rows .now) (s .args .state .now) (s .args .row)) (sym (c .none2 .ensures)) (value-none (s .args .rows .now) (s .args .state .now) (s .args .row) (c .before .before .before .before .handed-on .ensures .none (c .before .before .before .if1 .left)) (λ e. c .before .match .rest .0 .0 .0 .0 .1 (c .before .before .get .ensures ∙ e)) (λ e. c .before .match .rest .0 .0 .0 .1 (c .before .before .get .ensures ∙ e)) (λ e. c .before .match .rest .0 .0 .1 (c .before .before .get .ensures ∙ e)) (λ e. c .before .match .rest .0 .1 (c .before .before .get .ensures ∙ e)) (λ e. c .before .match .rest .1 (c .before .before .get .ensures ∙ e))))
+    (λ c.
+    let read-value = c .before in
+    let match-at = read-value .before in
+    let get = match-at .before in
+    let start = get .before .before .before in
+    subst (ValueOk (start .args .rows .now) (start .args .state .now) (start .args .row)) (sym (c .some .ensures))
+    (value-filled (start .args .rows .now) (start .args .state .now) (start .args .row) (read-value .read-value .result) (sym (get .get .ensures) ∙ match-at .match .keys1) (read-value .read-value .ensures)))
+    (λ c.
+    let if2 = c .before in
+    let read = if2 .before in
+    let match-at = read .before in
+    let get = match-at .before in
+    let start = get .before .before .before in
+    subst (ValueOk (start .args .rows .now) (start .args .state .now) (start .args .row)) (sym (c .none .ensures))
+    (value-blank (start .args .rows .now) (start .args .state .now) (start .args .row) (sym (get .get .ensures) ∙ match-at .match .keys2) (λ e. if2 .if2 .left (read .read .ensures ∙ e))))
+    (λ c.
+    let read-value3 = c .before in
+    let operand2 = read-value3 .before in
+    let match-at = operand2 .before in
+    let get = match-at .before in
+    let start = get .before .before .before in
+    subst (ValueOk (start .args .rows .now) (start .args .state .now) (start .args .row)) (sym (c .some3 .ensures))
+    (value-shared (start .args .rows .now) (start .args .state .now) (start .args .row) (operand2 .operand2 .result) (read-value3 .read-value3 .result) (sym (get .get .ensures) ∙ match-at .match .keys3) (operand2 .operand2 .ensures) (read-value3 .read-value3 .ensures)))
+    (λ c.
+    let value3 = c .before in
+    let operand4 = value3 .before in
+    let value2 = operand4 .before in
+    let operand3 = value2 .before in
+    let match-at = operand3 .before in
+    let get = match-at .before in
+    let start = get .before .before .before in
+    value-both (start .args .rows .now) (start .args .state .now) (start .args .row) (operand3 .operand3 .result) (operand3 .operand3 .ensures)
+    (operand4 .operand4 .result) (value2 .value2 .result) (value3 .value3 .result) (c .both .result)
+    (sym (get .get .ensures) ∙ match-at .match .keys4) (operand4 .operand4 .ensures) (value2 .value2 .ensures) (value3 .value3 .ensures)
+    (c .both .ensures))
+    (λ c.
+    let operand6 = c .before in
+    let if3 = operand6 .before in
+    let value4 = if3 .before in
+    let operand5 = value4 .before in
+    let match-at = operand5 .before in
+    let get = match-at .before in
+    let if1 = get .before in
+    let handed-on = if1 .before in
+    let start = handed-on .before in
+    value-else (start .args .rows .now) (start .args .state .now) (start .args .row) (operand5 .operand5 .result) (operand5 .operand5 .ensures)
+    (handed-on .handed-on .ensures .none (if1 .if1 .left)) (sym (get .get .ensures) ∙ match-at .match .keys5) (value4 .value4 .result)
+    (value4 .value4 .ensures) (operand6 .operand6 .result) (c .value5 .result) (operand6 .operand6 .ensures) (if3 .if3 .left) (c .value5 .ensures))
+    (λ c.
+    let match-at = c .before in
+    let get = match-at .before in
+    let if1 = get .before in
+    let handed-on = if1 .before in
+    let start = handed-on .before in
+    subst (ValueOk (start .args .rows .now) (start .args .state .now) (start .args .row)) (sym (c .none2 .ensures))
+    (value-none (start .args .rows .now) (start .args .state .now) (start .args .row) (handed-on .handed-on .ensures .none (if1 .if1 .left)) (λ e. match-at .match .rest .0 .0 .0 .0 .1 (get .get .ensures ∙ e)) (λ e. match-at .match .rest .0 .0 .0 .1 (get .get .ensures ∙ e)) (λ e. match-at .match .rest .0 .0 .1 (get .get .ensures ∙ e)) (λ e. match-at .match .rest .0 .1 (get .get .ensures ∙ e)) (λ e. match-at .match .rest .1 (get .get .ensures ∙ e))))

@@ -10,4 +10,7 @@ bind-spec = tie.close (tie.spec
     (λ c κs. search needs)
     (λ c κs. search needs)
     (λ c. search needs)
-    (λ c. bound-push (c .before .before .before .if1 .left) (c .before .read-value .ensures) (c .push .ensures)))
+    (λ c.
+    let read-value = c .before in
+    let if1 = read-value .before .before in
+    bound-push (if1 .if1 .left) (read-value .read-value .ensures) (c .push .ensures)))

@@ -8,8 +8,17 @@ pub both-spec : {M : Type 1} → statement M
 both-spec = tie.close (tie.spec
     (λ c κs. search needs)
     (λ c κs. search needs)
-    (λ c. let s = c .before .before .before .before .before .before in both-two (s .args .x) (s .args .y) (c .before .before .before .before .before .if1 .taken) (c .before .before .before .before .if2 .taken) (c .before .pair .ensures) (c .some .ensures))
+    (λ c.
+    let pair = c .before in
+    let if2 = pair .before .before .before in
+    let if1 = if2 .before in
+    let start = if1 .before in
+    both-two (start .args .x) (start .args .y) (if1 .if1 .taken) (if2 .if2 .taken) (pair .pair .ensures) (c .some .ensures))
     (λ c κs. search needs)
-    (λ c. let s = c .before .before .before in both-none-right (s .args .x) (s .args .y) (c .before .before .if1 .taken) (c .before .if2 .left) (c .none .ensures))
+    (λ c.
+    let if2 = c .before in
+    let if1 = if2 .before in
+    let start = if1 .before in
+    both-none-right (start .args .x) (start .args .y) (if1 .if1 .taken) (if2 .if2 .left) (c .none .ensures))
     (λ c κs. search needs)
     (λ c. let s = c .before .before in both-none-left (s .args .x) (s .args .y) (c .before .if1 .left) (c .none2 .ensures)))

@@ -11,7 +11,22 @@ enclose-spec = tie.close (tie.spec
     (λ c κs. search needs)
     (λ c κs. search needs)
     (λ c κs. search needs)
-    (λ c. under-let (sym (c .before .before .before .get .ensures) ∙ c .before .before .match .keys1) (c .bind .ensures))
-    (λ c. let g = c .before .before .before .before .before .get .ensures in under-step (omega arith) (omega arith) (c .bind2 .ensures))
-    (λ c. let g = c .before .before .get .ensures in under-none (c .before .before .before .pre .1) (λ z. c .before .match .rest .1 (g ∙ z)) (λ z y. omega arith))
-    (λ c. let g = c .before .before .before .get .ensures in under-none (c .before .before .before .before .pre .1) (λ z. omega arith) (λ z y. omega arith)))
+    (λ c.
+    let match-at = c .before .before in
+    let get = match-at .before in
+    under-let (sym (get .get .ensures) ∙ match-at .match .keys1) (c .bind .ensures))
+    (λ c.
+    let get = c .before .before .before .before .before in
+    let g = get .get .ensures in
+    under-step (omega arith) (omega arith) (c .bind2 .ensures))
+    (λ c.
+    let match-at = c .before in
+    let get = match-at .before in
+    let start = get .before in
+    let g = get .get .ensures in
+    under-none (start .pre .1) (λ z. match-at .match .rest .1 (g ∙ z)) (λ z y. omega arith))
+    (λ c.
+    let get = c .before .before .before in
+    let start = get .before in
+    let g = get .get .ensures in
+    under-none (start .pre .1) (λ z. omega arith) (λ z y. omega arith)))

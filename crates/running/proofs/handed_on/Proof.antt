@@ -11,14 +11,74 @@ pub handed-on-spec : {M : Type 1} → statement M
 handed-on-spec = tie.close (tie.spec
     (λ c κs. search needs)
     (λ c κs. search needs)
-    (λ c. let g = c .before .before .before .before .before .before .before .get .ensures in let t = c .before .before .before .before .before .before .read .ensures in handed-left (omega arith) (omega arith) (sym t ∙ c .before .before .before .before .before .match .keys1))
-    (λ c. let g = c .before .before .before .before .get .ensures in let t = c .before .before .before .read .ensures in handed-none (λ e z. c .before .match2 .rest .1 (inl (g ∙ z))) (λ e z. c .before .match2 .rest .1 (inr (g ∙ z))) (λ e z y. omega arith) (λ e z y. omega arith) (λ e z. omega arith) (λ e z y. omega arith))
-    (λ c. let g = c .before .before .before .before .before .before .get .ensures in let t = c .before .before .before .before .before .read .ensures in handed-none (λ e z. omega arith) (λ e z. omega arith) (λ e z y. omega arith) (λ e z y. omega arith) (λ e z. omega arith) (λ e z y. omega arith))
-    (λ c. let g = c .before .before .before .before .before .before .before .get .ensures in let t = c .before .before .before .before .before .before .read .ensures in handed-none (λ e z. omega arith) (λ e z. omega arith) (λ e z y. omega arith) (λ e z y. omega arith) (λ e z. omega arith) (λ e z y. omega arith))
-    (λ c. let g = c .before .before .before .get .ensures in let t = c .before .before .read .ensures in let x = sym t ∙ c .before .match .keys1 in ⊎-elim (λ e. handed-true (sym g ∙ e) x) (λ e. handed-let (sym g ∙ e) x) (c .match2 .keys1))
-    (λ c. let g = c .before .before .before .before .before .get .ensures in let t = c .before .before .before .before .read .ensures in handed-step (omega arith) (omega arith) (sym t ∙ c .before .before .before .match .keys1))
-    (λ c. let g = c .before .before .before .get .ensures in let t = c .before .before .read .ensures in handed-false (sym g ∙ c .match3 .keys1) (sym t ∙ c .before .match .keys2))
-    (λ c. let g = c .before .before .before .before .before .get .ensures in let t = c .before .before .before .before .read .ensures in handed-right (omega arith) (omega arith) (sym t ∙ c .before .before .before .match .keys2))
-    (λ c. let g = c .before .before .before .before .get .ensures in let t = c .before .before .before .read .ensures in handed-none (λ e z. omega arith) (λ e z. omega arith) (λ e z y. omega arith) (λ e z y. omega arith) (λ e z. c .before .match3 .rest .1 (g ∙ z)) (λ e z y. omega arith))
-    (λ c. let g = c .before .before .before .before .before .get .ensures in let t = c .before .before .before .before .read .ensures in handed-none (λ e z. omega arith) (λ e z. omega arith) (λ e z y. omega arith) (λ e z y. omega arith) (λ e z. omega arith) (λ e z y. omega arith))
+    (λ c.
+    let match-at = c .before .before .before .before .before in
+    let read = match-at .before in
+    let get = read .before in
+    let g = get .get .ensures in
+    let t = read .read .ensures in
+    handed-left (omega arith) (omega arith) (sym t ∙ match-at .match .keys1))
+    (λ c.
+    let match2 = c .before in
+    let read = match2 .before .before in
+    let get = read .before in
+    let g = get .get .ensures in
+    let t = read .read .ensures in
+    handed-none (λ e z. match2 .match2 .rest .1 (inl (g ∙ z))) (λ e z. match2 .match2 .rest .1 (inr (g ∙ z))) (λ e z y. omega arith)
+    (λ e z y. omega arith) (λ e z. omega arith) (λ e z y. omega arith))
+    (λ c.
+    let read = c .before .before .before .before .before in
+    let get = read .before in
+    let g = get .get .ensures in
+    let t = read .read .ensures in
+    handed-none (λ e z. omega arith) (λ e z. omega arith) (λ e z y. omega arith) (λ e z y. omega arith) (λ e z. omega arith) (λ e z y. omega arith))
+    (λ c.
+    let read = c .before .before .before .before .before .before in
+    let get = read .before in
+    let g = get .get .ensures in
+    let t = read .read .ensures in
+    handed-none (λ e z. omega arith) (λ e z. omega arith) (λ e z y. omega arith) (λ e z y. omega arith) (λ e z. omega arith) (λ e z y. omega arith))
+    (λ c.
+    let match-at = c .before in
+    let read = match-at .before in
+    let get = read .before in
+    let g = get .get .ensures in
+    let t = read .read .ensures in
+    let x = sym t ∙ match-at .match .keys1 in
+    ⊎-elim (λ e. handed-true (sym g ∙ e) x) (λ e. handed-let (sym g ∙ e) x) (c .match2 .keys1))
+    (λ c.
+    let match-at = c .before .before .before in
+    let read = match-at .before in
+    let get = read .before in
+    let g = get .get .ensures in
+    let t = read .read .ensures in
+    handed-step (omega arith) (omega arith) (sym t ∙ match-at .match .keys1))
+    (λ c.
+    let match-at = c .before in
+    let read = match-at .before in
+    let get = read .before in
+    let g = get .get .ensures in
+    let t = read .read .ensures in
+    handed-false (sym g ∙ c .match3 .keys1) (sym t ∙ match-at .match .keys2))
+    (λ c.
+    let match-at = c .before .before .before in
+    let read = match-at .before in
+    let get = read .before in
+    let g = get .get .ensures in
+    let t = read .read .ensures in
+    handed-right (omega arith) (omega arith) (sym t ∙ match-at .match .keys2))
+    (λ c.
+    let match3 = c .before in
+    let read = match3 .before .before in
+    let get = read .before in
+    let g = get .get .ensures in
+    let t = read .read .ensures in
+    handed-none (λ e z. omega arith) (λ e z. omega arith) (λ e z y. omega arith) (λ e z y. omega arith) (λ e z. match3 .match3 .rest .1 (g ∙ z))
+    (λ e z y. omega arith))
+    (λ c.
+    let read = c .before .before .before .before in
+    let get = read .before in
+    let g = get .get .ensures in
+    let t = read .read .ensures in
+    handed-none (λ e z. omega arith) (λ e z. omega arith) (λ e z y. omega arith) (λ e z y. omega arith) (λ e z. omega arith) (λ e z y. omega arith))
     (λ c. let g = c .before .before .get .ensures in let t = c .before .read .ensures in handed-none (λ e z. omega arith) (λ e z. omega arith) (λ e z y. omega arith) (λ e z y. omega arith) (λ e z. omega arith) (λ e z y. omega arith)))

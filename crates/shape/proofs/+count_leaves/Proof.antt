@@ -39,12 +39,18 @@ pub +count-leaves-spec : {M : Type 1} → statement M
     (λ c. search needs)
     (λ c κs. search needs)
     (λ c.
-    let s = c .before .before .before .before in
-    (count-pair (s .args .d) (s .args .k) (s .args .c) (c .count-leaves .result) (c .before .before .before .if1 .left) (c .before .before .if2 .left) (c .before .if3 .taken) (c .count-leaves .ensures .0), omega (arith, c .count-leaves .ensures .1, c .before .before .if2 .left)))
+    let if3 = c .before in
+    let if2 = if3 .before in
+    let if1 = if2 .before in
+    let start = if1 .before in
+    (count-pair (start .args .d) (start .args .k) (start .args .c) (c .count-leaves .result) (if1 .if1 .left) (if2 .if2 .left) (if3 .if3 .taken) (c .count-leaves .ensures .0), omega (arith, c .count-leaves .ensures .1, if2 .if2 .left)))
     (λ c. search needs)
     (λ c. search needs)
     (λ c κs. search needs)
     (λ c. search needs)
     (λ c.
-    let s = c .before .before .before .before in
-    (count-leaf (s .args .d) (s .args .k) (s .args .c) (c .count-leaves2 .result) (c .before .before .before .if1 .left) (c .before .before .if2 .left) (c .before .if3 .left) (c .count-leaves2 .ensures .0), omega (arith, c .count-leaves2 .ensures .1, c .before .before .if2 .left)))
+    let if3 = c .before in
+    let if2 = if3 .before in
+    let if1 = if2 .before in
+    let start = if1 .before in
+    (count-leaf (start .args .d) (start .args .k) (start .args .c) (c .count-leaves2 .result) (if1 .if1 .left) (if2 .if2 .left) (if3 .if3 .left) (c .count-leaves2 .ensures .0), omega (arith, c .count-leaves2 .ensures .1, if2 .if2 .left)))

@@ -36,12 +36,16 @@ pub +store-leaves-spec : {M : Type 1} → statement M
     (λ c. let q = c .before .args in store-end (q .d) (q .c) (q .i) (q .kinds) (c .if1 .taken))
     (λ c. search needs)
     (λ c κs.
-    let s = c .before .before in
-    let q = s .args in
-    (omega (arith, s .pre .0, c .before .if1 .left), room-pair (q .d) (q .c) (q .i) (q .kinds) (c .before .if1 .left) maxLeaves (c .if2 .taken) (s .pre .1)))
+    let if1 = c .before in
+    let start = if1 .before in
+    let q = start .args in
+    (omega (arith, start .pre .0, if1 .if1 .left), room-pair (q .d) (q .c) (q .i) (q .kinds) (if1 .if1 .left) maxLeaves (c .if2 .taken) (start .pre .1)))
     (λ c.
-    let q = c .before .before .before .args in
-    store-pair (q .d) (q .c) (q .i) (q .kinds) (c .before .before .if1 .left) (c .store-leaves .result) (c .before .if2 .taken) (c .store-leaves .ensures))
+    let if2 = c .before in
+    let if1 = if2 .before in
+    let start = if1 .before in
+    let q = start .args in
+    store-pair (q .d) (q .c) (q .i) (q .kinds) (if1 .if1 .left) (c .store-leaves .result) (if2 .if2 .taken) (c .store-leaves .ensures))
     (λ c. search needs)
     (λ c.
     let s = c .before .before in
@@ -53,9 +57,13 @@ pub +store-leaves-spec : {M : Type 1} → statement M
     omega (arith, room-leaf (q .d) (q .c) (q .i) (q .kinds) (c .before .if1 .left) maxLeaves (c .if2 .left) (s .pre .1) .0))
     (λ c. search needs)
     (λ c κs.
-    let s = c .before .before in
-    let q = s .args in
-    (omega (arith, s .pre .0, c .before .if1 .left), room-leaf (q .d) (q .c) (q .i) (q .kinds) (c .before .if1 .left) maxLeaves (c .if2 .left) (s .pre .1) .1))
+    let if1 = c .before in
+    let start = if1 .before in
+    let q = start .args in
+    (omega (arith, start .pre .0, if1 .if1 .left), room-leaf (q .d) (q .c) (q .i) (q .kinds) (if1 .if1 .left) maxLeaves (c .if2 .left) (start .pre .1) .1))
     (λ c.
-    let q = c .before .before .before .args in
-    store-leaf (q .d) (q .c) (q .i) (q .kinds) (c .before .before .if1 .left) (c .store-leaves2 .result) (c .before .if2 .left) (c .store-leaves2 .ensures))
+    let if2 = c .before in
+    let if1 = if2 .before in
+    let start = if1 .before in
+    let q = start .args in
+    store-leaf (q .d) (q .c) (q .i) (q .kinds) (if1 .if1 .left) (c .store-leaves2 .result) (if2 .if2 .left) (c .store-leaves2 .ensures))

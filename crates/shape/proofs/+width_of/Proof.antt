@@ -31,5 +31,9 @@ pub +width-of-spec : {M : Type 1} → statement M
     (λ c. (width-one (c .before .args .n) (c .if1 .taken), omega arith))
     (λ c. search needs)
     (λ c κs. search needs)
-    (λ c. omega (arith, width-fits (c .before .before .args .n) (c .before .before .pre .1), width-more (c .before .before .args .n) (c .width-of .result) (c .before .if1 .left) (c .width-of .ensures .0)))
+    (λ c.
+    let if1 = c .before in
+    let start = if1 .before in
+    omega
+    (arith, width-fits (start .args .n) (start .pre .1), width-more (start .args .n) (c .width-of .result) (if1 .if1 .left) (c .width-of .ensures .0)))
     (λ c. (width-more (c .before .before .args .n) (c .width-of .result) (c .before .if1 .left) (c .width-of .ensures .0), omega arith))

@@ -11,4 +11,9 @@ first-shape-spec =
     (λ c. first-no (c .before .before .args .shape) (omega (arith, c .if1 .taken, c .before .leaves-of .ensures .0)))
     (λ c κs. search needs)
     (λ c. search needs)
-    (λ c. first-yes (c .before .before .before .args .shape) (c .first-width .result) (omega (arith, c .before .if1 .left, c .before .before .leaves-of .ensures .0)) (c .first-width .ensures .0)))
+    (λ c.
+    let if1 = c .before in
+    let leaves-of = if1 .before in
+    let start = leaves-of .before in
+    first-yes (start .args .shape) (c .first-width .result) (omega (arith, if1 .if1 .left, leaves-of .leaves-of .ensures .0))
+    (c .first-width .ensures .0)))

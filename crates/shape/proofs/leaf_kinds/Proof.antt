@@ -10,4 +10,8 @@ leaf-kinds-spec = tie.close (tie.spec
     (λ c κs. search needs)
     (λ c. kinds-none (c .before .before .args .shape) (sym (c .before .leaves-of .ensures .0) ∙ c .if1 .taken))
     (λ c κs. omega (arith, kinds-room (c .before .before .args .shape) (λ e. c .if1 .left (c .before .leaves-of .ensures .0 ∙ e))))
-    (λ c. c .store-leaves .ensures ∙ kinds-yes (c .before .before .before .args .shape) (λ e. c .before .if1 .left (c .before .before .leaves-of .ensures .0 ∙ e))))
+    (λ c.
+    let if1 = c .before in
+    let leaves-of = if1 .before in
+    let start = leaves-of .before in
+    c .store-leaves .ensures ∙ kinds-yes (start .args .shape) (λ e. if1 .if1 .left (leaves-of .leaves-of .ensures .0 ∙ e))))

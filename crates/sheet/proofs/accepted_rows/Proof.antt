@@ -8,7 +8,19 @@ pub accepted-rows-spec : {M : Type 1} → statement M
 accepted-rows-spec = tie.close (tie.spec
     (λ c κs. search needs)
     (λ c κs. search needs)
-    (λ c. let s = c .before .before .before .before .before in let i = c .before .before .before .copy-in in let r = c .before .accepted-rows in
-    let t = counts-none (s .args .rows .now) (s .args .own .now) (i .last .1 .0) (s .pre) (i .ensures .0) (r .result) (r .ensures) (c .if1 .taken) in (t .0, (t .1 .0, (t .1 .1, i .ensures .0))))
-    (λ c. let s = c .before .before .before .before .before in let i = c .before .before .before .copy-in in let r = c .before .accepted-rows in
-    let t = counts-all (s .args .rows .now) (s .args .own .now) (i .last .1 .0) (s .pre) (i .ensures .0) (r .result) (r .ensures) (c .if1 .left) (i .ensures .1) in (t .0, (t .1 .0, (t .1 .1, i .ensures .0)))))
+    (λ c.
+    let accepted-rows = c .before in
+    let copy-in = accepted-rows .before .before in
+    let start = copy-in .before .before in
+    let i = copy-in .copy-in in
+    let r = accepted-rows .accepted-rows in
+    let t = counts-none (start .args .rows .now) (start .args .own .now) (i .last .1 .0) (start .pre) (i .ensures .0) (r .result) (r .ensures) (c .if1 .taken) in
+    (t .0, (t .1 .0, (t .1 .1, i .ensures .0))))
+    (λ c.
+    let accepted-rows = c .before in
+    let copy-in = accepted-rows .before .before in
+    let start = copy-in .before .before in
+    let i = copy-in .copy-in in
+    let r = accepted-rows .accepted-rows in
+    let t = counts-all (start .args .rows .now) (start .args .own .now) (i .last .1 .0) (start .pre) (i .ensures .0) (r .result) (r .ensures) (c .if1 .left) (i .ensures .1) in
+    (t .0, (t .1 .0, (t .1 .1, i .ensures .0)))))

@@ -21,40 +21,46 @@ returns c =
 
 returns-2 : tie.Need-returns-2
 returns-2 c =
-    let sized = c .before .before in
-    let start = sized .before .before in
-    answers-21 (start .args .sheet .now) (start .args .rows .now) (yes (sized .is-sized .ensures) (c .before .if1 .left)) (c .if2 .taken)
+    let if1 = c .before in
+    let is-sized = if1 .before in
+    let start-at = is-sized .before .before in
+    let start = start-at in
+    answers-21 (start .args .sheet .now) (start .args .rows .now) (yes (is-sized .is-sized .ensures) (if1 .if1 .left)) (c .if2 .taken)
 
 read-lines-requires : tie.Need-read-lines-requires
 read-lines-requires c κs =
-    let left = c .before .before in
-    let sized = left .before in
+    let if1 = c .before .before in
+    let start-at = if1 .before in
+    let sized = start-at in
     let start = sized .before .before in
-    let z = is-sized (length (start .args .sheet .now)) (yes (sized .is-sized .ensures) (left .if1 .left)) in
+    let z = is-sized (length (start .args .sheet .now)) (yes (sized .is-sized .ensures) (if1 .if1 .left)) in
     ((z .few, omega (arith, z .whole)), refl)
 
 returns-3 : tie.Need-returns-3
 returns-3 c =
-    let read = c .before in
-    let room = read .before .before in
+    let read-lines = c .before in
+    let start-at = read-lines .before .before in
+    let room = start-at in
     let left = room .before in
     let sized = left .before in
     let start = sized .before .before in
     answers-2 (start .args .sheet .now) (start .args .rows .now) (yes (sized .is-sized .ensures) (left .if1 .left)) (room .if2 .left)
-    (read .read-lines .last .1 .1 .0) (read .read-lines .result) (read .read-lines .ensures) (c .if3 .taken)
+    (read-lines .read-lines .last .1 .1 .0) (read-lines .read-lines .result) (read-lines .read-lines .ensures) (c .if3 .taken)
 
 ground-of-rows-requires : tie.Need-ground-of-rows-requires
 ground-of-rows-requires c κs =
-    let left = c .before .before .before .before .before in
-    let sized = left .before in
+    let if1 = c .before .before .before .before .before in
+    let start-at = if1 .before in
+    let sized = start-at in
     let start = sized .before .before in
-    let z = is-sized (length (start .args .sheet .now)) (yes (sized .is-sized .ensures) (left .if1 .left)) in
+    let z = is-sized (length (start .args .sheet .now)) (yes (sized .is-sized .ensures) (if1 .if1 .left)) in
     (z .some-lines, z .few)
 
 returns-4 : tie.Need-returns-4
 returns-4 c =
-    let ground = c .before in
-    let scanned = ground .before .before in
+    let ground-of-rows = c .before in
+    let start-at = ground-of-rows .before .before in
+    let scanned = start-at in
     let read = scanned .before in
     let room = read .before .before in
     let left = room .before in
@@ -62,23 +68,25 @@ returns-4 c =
     let start = sized .before .before in
     answers-rows (start .args .sheet .now) (start .args .rows .now) (yes (sized .is-sized .ensures) (left .if1 .left)) (room .if2 .left)
     (read .read-lines .last .1 .1 .0) (read .read-lines .result) (read .read-lines .ensures) (scanned .if3 .left)
-    (ground .ground-of-rows .result) (ground .ground-of-rows .ensures) (c .if4 .taken)
+    (ground-of-rows .ground-of-rows .result) (ground-of-rows .ground-of-rows .ensures) (c .if4 .taken)
 
 slice-aggregate-copy-out : tie.Need-slice-aggregate-copy-out
 slice-aggregate-copy-out c =
-    let scanned = c .before .before .before .before in
-    let read = scanned .before in
+    let if3 = c .before .before .before .before in
+    let start-at = if3 .before in
+    let read = start-at in
     let room = read .before .before in
     let left = room .before in
     let sized = left .before in
     let start = sized .before .before in
-    sym (own-long (start .args .sheet .now) (start .args .rows .now) (yes (sized .is-sized .ensures) (left .if1 .left)) (room .if2 .left)
-    (read .read-lines .last .1 .1 .0) (read .read-lines .result) (read .read-lines .ensures) (scanned .if3 .left))
+    sym
+    (own-long (start .args .sheet .now) (start .args .rows .now) (yes (sized .is-sized .ensures) (left .if1 .left)) (room .if2 .left) (read .read-lines .last .1 .1 .0) (read .read-lines .result) (read .read-lines .ensures) (if3 .if3 .left))
 
 returns-5 : tie.Need-returns-5
 returns-5 c =
-    let copied = c .before in
-    let accepted = copied .before .before .before in
+    let copy-out = c .before in
+    let start-at = copy-out .before .before .before in
+    let accepted = start-at in
     let ground = accepted .before in
     let scanned = ground .before .before in
     let read = scanned .before in
@@ -87,8 +95,8 @@ returns-5 c =
     let sized = left .before in
     let start = sized .before .before in
     answers-0 (start .args .sheet .now) (start .args .rows .now) (yes (sized .is-sized .ensures) (left .if1 .left)) (room .if2 .left)
-    (read .read-lines .last .1 .1 .0) (read .read-lines .result) (read .read-lines .ensures) (scanned .if3 .left)
-    (ground .ground-of-rows .result) (copied .copy-out .last .1 .0) (ground .ground-of-rows .ensures) (accepted .if4 .left) (copied .copy-out .ensures)
+    (read .read-lines .last .1 .1 .0) (read .read-lines .result) (read .read-lines .ensures) (scanned .if3 .left) (ground .ground-of-rows .result)
+    (copy-out .copy-out .last .1 .0) (ground .ground-of-rows .ensures) (accepted .if4 .left) (copy-out .copy-out .ensures)
 
 pub load-spec : {M : Type 1} → statement M
 load-spec = tie.close (tie.spec (λ c κs. search needs) returns (λ c. search needs) returns-2 read-lines-requires returns-3 ground-of-rows-requires returns-4

@@ -40,22 +40,93 @@ pub +clear-spec : {M : Type 1} → statement M
     clear.Post
     (λ c κs. search needs)
     (λ c κs. search needs)
-    (λ c κs. let s = c .before .before .before .before in let h = low-b (s .pre .1) (c .before .before .before .get .result) (c .before .operand .result) (c .before .before .before .get .ensures) (c .before .operand .ensures) (omega (arith, c .before .before .match .keys1)) in (omega (arith, s .pre .0), fine-at (s .pre .1) _ _ (omega arith) (s .pre .1 .room)))
+    (λ c κs.
+    let operand = c .before in
+    let match-at = operand .before in
+    let get = match-at .before in
+    let start = get .before in
+    let h = low-b (start .pre .1) (get .get .result) (operand .operand .result) (get .get .ensures) (operand .operand .ensures) (omega (arith, match-at .match .keys1)) in
+    (omega (arith, start .pre .0), fine-at (start .pre .1) _ _ (omega arith) (start .pre .1 .room)))
     (λ c κs. search needs)
-    (λ c κs. let s = c .before .before .before .before .before .before .before in let h = low-c (s .pre .1) (c .before .before .before .before .before .before .get .result) (c .before .operand2 .result) (c .before .before .before .before .before .before .get .ensures) (c .before .operand2 .ensures) (omega (arith, c .before .before .before .before .before .match .keys1)) in (omega (arith, s .pre .0), fine-at (s .pre .1) _ _ (omega arith) (s .pre .1 .room)))
-    (λ c κs. c .before .before .before .before .before .before .before .before .before .pre .1 .low)
-    (λ c. let s = c .before .before .before .before .before .before .before .before .before .before in clear-if (s .args .rows .now) (s .args .row) (sym (c .before .before .before .before .before .before .before .before .before .get .ensures) ∙ c .before .before .before .before .before .before .before .before .match .keys1) (c .before .before .before .before .before .before .before .operand .ensures) (c .before .before .before .before .operand2 .ensures) (c .before .before .before .before .before .clear .ensures) (c .before .before .clear2 .ensures) (c .clear-row .ensures))
+    (λ c κs.
+    let operand2 = c .before in
+    let match-at = operand2 .before .before .before .before in
+    let get = match-at .before in
+    let start = get .before in
+    let h = low-c (start .pre .1) (get .get .result) (operand2 .operand2 .result) (get .get .ensures) (operand2 .operand2 .ensures) (omega (arith, match-at .match .keys1)) in
+    (omega (arith, start .pre .0), fine-at (start .pre .1) _ _ (omega arith) (start .pre .1 .room)))
+    (λ c κs.
+    let start = c .before .before .before .before .before .before .before .before .before in
+    start .pre .1 .low)
+    (λ c.
+    let clear2 = c .before .before in
+    let operand2 = clear2 .before .before in
+    let clear = operand2 .before in
+    let operand = clear .before .before in
+    let match-at = operand .before in
+    let get = match-at .before in
+    let start = get .before in
+    clear-if (start .args .rows .now) (start .args .row) (sym (get .get .ensures) ∙ match-at .match .keys1) (operand .operand .ensures)
+    (operand2 .operand2 .ensures) (clear .clear .ensures) (clear2 .clear2 .ensures) (c .clear-row .ensures))
     (λ c κs. search needs)
-    (λ c κs. let s = c .before .before .before .before in let h = low-b (s .pre .1) (c .before .before .before .get .result) (c .before .operand3 .result) (c .before .before .before .get .ensures) (c .before .operand3 .ensures) (omega (arith, c .before .before .match .keys2)) in (omega (arith, s .pre .0), fine-at (s .pre .1) _ _ (omega arith) (s .pre .1 .room)))
-    (λ c κs. c .before .before .before .before .before .before .pre .1 .low)
+    (λ c κs.
+    let operand3 = c .before in
+    let match-at = operand3 .before in
+    let get = match-at .before in
+    let start = get .before in
+    let h = low-b (start .pre .1) (get .get .result) (operand3 .operand3 .result) (get .get .ensures) (operand3 .operand3 .ensures) (omega (arith, match-at .match .keys2)) in
+    (omega (arith, start .pre .0), fine-at (start .pre .1) _ _ (omega arith) (start .pre .1 .room)))
+    (λ c κs.
+    let start = c .before .before .before .before .before .before in
+    start .pre .1 .low)
     (λ c. let s = c .before .before .before .before .before .before .before in clear-let (s .args .rows .now) (s .args .row) (sym (c .before .before .before .before .before .before .get .ensures) ∙ c .before .before .before .before .before .match .keys2) (c .before .before .before .before .operand3 .ensures) (c .before .before .clear3 .ensures) (c .clear-row2 .ensures))
     (λ c κs. c .before .before .before .pre .1 .low)
-    (λ c. let s = c .before .before .before .before in let e = sym (c .before .before .before .get .ensures) ∙ c .before .before .match .keys3 in clear-leaf (s .args .rows .now) (s .args .row) (λ z. omega arith) (λ z. omega arith) (λ x y z. z e) (c .clear-row3 .ensures))
+    (λ c.
+    let match-at = c .before .before in
+    let get = match-at .before in
+    let start = get .before in
+    let e = sym (get .get .ensures) ∙ match-at .match .keys3 in
+    clear-leaf (start .args .rows .now) (start .args .row) (λ z. omega arith) (λ z. omega arith) (λ x y z. z e) (c .clear-row3 .ensures))
     (λ c κs. search needs)
-    (λ c κs. let s = c .before .before .before .before .before .before in let h = low-a (s .pre .1) (c .before .before .before .before .before .get .result) (c .before .operand4 .result) (c .before .before .before .before .before .get .ensures) (c .before .operand4 .ensures) (omega (arith, c .before .before .before .if1 .left)) in (omega (arith, s .pre .0), fine-at (s .pre .1) _ _ (omega arith) (s .pre .1 .room)))
+    (λ c κs.
+    let operand4 = c .before in
+    let if1 = operand4 .before .before in
+    let get = if1 .before .before in
+    let start = get .before in
+    let h = low-a (start .pre .1) (get .get .result) (operand4 .operand4 .result) (get .get .ensures) (operand4 .operand4 .ensures) (omega (arith, if1 .if1 .left)) in
+    (omega (arith, start .pre .0), fine-at (start .pre .1) _ _ (omega arith) (start .pre .1 .room)))
     (λ c κs. search needs)
-    (λ c κs. let s = c .before .before .before .before .before .before .before .before .before in let h = low-b (s .pre .1) (c .before .before .before .before .before .before .before .before .get .result) (c .before .operand5 .result) (c .before .before .before .before .before .before .before .before .get .ensures) (c .before .operand5 .ensures) (omega (arith, c .before .before .before .before .before .before .if1 .left)) in (omega (arith, s .pre .0), fine-at (s .pre .1) _ _ (omega arith) (s .pre .1 .room)))
-    (λ c κs. c .before .before .before .before .before .before .before .before .before .before .before .pre .1 .low)
-    (λ c. let s = c .before .before .before .before .before .before .before .before .before .before .before .before in clear-fork (s .args .rows .now) (s .args .row) (c .before .before .before .before .before .before .before .before .before .before .before .get .result) (c .before .before .before .before .before .before .before .before .before .before .before .get .ensures) (c .before .before .before .before .before .before .before .before .before .if1 .left) (omega (arith, c .before .before .before .before .before .before .before .before .if2 .taken)) (λ e. c .before .before .before .before .before .before .before .before .before .before .match .rest .1 e) (c .before .before .before .before .before .before .before .operand4 .ensures) (c .before .before .before .before .operand5 .ensures) (c .before .before .before .before .before .clear4 .ensures) (c .before .before .clear5 .ensures) (c .clear-row4 .ensures))
-    (λ c κs. c .before .before .before .before .pre .1 .low)
-    (λ c. let s = c .before .before .before .before .before in clear-leaf (s .args .rows .now) (s .args .row) (λ e. c .before .before .before .match .rest .0 .0 .1 (c .before .before .before .before .get .ensures ∙ e)) (λ e. c .before .before .before .match .rest .0 .1 (c .before .before .before .before .get .ensures ∙ e)) (λ x y z. ⊎-elim (λ a. omega (arith, c .before .before .before .before .get .ensures)) (λ a. omega (arith, c .before .before .before .before .get .ensures)) (c .before .before .if1 .came)) (c .clear-row5 .ensures))
+    (λ c κs.
+    let operand5 = c .before in
+    let if1 = operand5 .before .before .before .before .before in
+    let get = if1 .before .before in
+    let start = get .before in
+    let h = low-b (start .pre .1) (get .get .result) (operand5 .operand5 .result) (get .get .ensures) (operand5 .operand5 .ensures) (omega (arith, if1 .if1 .left)) in
+    (omega (arith, start .pre .0), fine-at (start .pre .1) _ _ (omega arith) (start .pre .1 .room)))
+    (λ c κs.
+    let start = c .before .before .before .before .before .before .before .before .before .before .before in
+    start .pre .1 .low)
+    (λ c.
+    let clear5 = c .before .before in
+    let operand5 = clear5 .before .before in
+    let clear4 = operand5 .before in
+    let operand4 = clear4 .before .before in
+    let if2 = operand4 .before in
+    let if1 = if2 .before in
+    let match-at = if1 .before in
+    let get = match-at .before in
+    let start = get .before in
+    clear-fork (start .args .rows .now) (start .args .row) (get .get .result) (get .get .ensures) (if1 .if1 .left) (omega (arith, if2 .if2 .taken))
+    (λ e. match-at .match .rest .1 e) (operand4 .operand4 .ensures) (operand5 .operand5 .ensures) (clear4 .clear4 .ensures) (clear5 .clear5 .ensures)
+    (c .clear-row4 .ensures))
+    (λ c κs.
+    let start = c .before .before .before .before in
+    start .pre .1 .low)
+    (λ c.
+    let if1 = c .before .before in
+    let match-at = if1 .before in
+    let get = match-at .before in
+    let start = get .before in
+    clear-leaf (start .args .rows .now) (start .args .row) (λ e. match-at .match .rest .0 .0 .1 (get .get .ensures ∙ e))
+    (λ e. match-at .match .rest .0 .1 (get .get .ensures ∙ e))
+    (λ x y z. ⊎-elim (λ a. omega (arith, get .get .ensures)) (λ a. omega (arith, get .get .ensures)) (if1 .if1 .came)) (c .clear-row5 .ensures))

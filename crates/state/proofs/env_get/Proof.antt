@@ -27,14 +27,20 @@ env-get-spec = tie.close (tie.spec
     (λ c. search needs)
     (λ c. search needs) (λ c κs. search needs) (λ c. search needs) (λ c. search needs) (λ c. search needs) (λ c. search needs)
     (λ c.
-    let l = c .before .before .loop in
-    let a = c .before .before .before .before .before .args in
+    let loop = c .before .before in
+    let start = loop .before .before .before in
+    let l = loop .loop in
+    let a = start .args in
     let x = c .read-slot2 .result in
     (omega arith, length-set (l .leaves) (l .i) x ∙ l .inv .1, filled-more (λ j. slot (a .env .now) (a .depth - 1 - a .k) (1 + j)) 0 (l .leaves) (l .i) x (omega arith) (c .read-slot2 .ensures) (l .inv .2)))
     (λ c.
-    let l = c .before .loop in
-    let r = c .before .before .read-slot in
-    let a = c .before .before .before .before .args in
+    let loop = c .before in
+    let read-slot = loop .before in
+    let if1 = read-slot .before in
+    let start = if1 .before in
+    let l = loop .loop in
+    let r = read-slot .read-slot in
+    let a = start .args in
     let n = a .depth - 1 - a .k in
-    binder-in (a .env .now) (a .depth) (a .k) n _ refl (c .before .before .before .if1 .left)
+    binder-in (a .env .now) (a .depth) (a .k) n _ refl (if1 .if1 .left)
     (value-filled (slot (a .env .now) n) (λ j. slot (a .env .now) n (1 + j)) (r .result) (l .i) (l .leaves) (r .ensures) (λ i. ap (slot (a .env .now) n) (omega arith)) (l .inv .1) (c .loop-test .left) (l .inv .2))))

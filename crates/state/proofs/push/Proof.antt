@@ -26,14 +26,17 @@ push-spec = tie.close (tie.spec
     (λ c. (search needs, λ was xs h p. p))
     (λ c. search needs) (λ c. search needs) (λ c. search needs) (λ c κs. search needs) (λ c. search needs) (λ c. search needs)
     (λ c.
-    let l = c .before .before .before .loop in
-    let s = c .before .before .before .before .before .before .before in
-    let ls = s .args .v .leaves in
+    let loop = c .before .before .before in
+    let start = loop .before .before .before .before in
+    let l = loop .loop in
+    let ls = start .args .v .leaves in
     let x = getD ls (l .i) 0 in
     (omega arith, λ was xs h p. push-more x (omega arith) (omega arith) (h (l .i) (omega arith)) (c .put-slot2 .ensures .0) (c .put-slot2 .ensures .1) (l .inv .1 was xs h p)))
     (λ c.
-    let l = c .before .loop in
-    let s = c .before .before .before .before .before in
-    let v = s .args .v in
-    push-all v (omega arith) (l .inv .1 (s .args .env .now) (wordsOf v) (λ m h. ap (λ j. getD (wordsOf v) j 0) {x = suc m} {y = 1 + m} (omega arith))
-    (push-more (v .shape) (omega arith) (omega arith) refl (c .before .before .put-slot .ensures .0) (c .before .before .put-slot .ensures .1) (push-none (s .args .env .now) (s .args .depth) (wordsOf v))))))
+    let loop = c .before in
+    let put-slot = loop .before in
+    let start = put-slot .before .before .before in
+    let l = loop .loop in
+    let v = start .args .v in
+    push-all v (omega arith)
+    (l .inv .1 (start .args .env .now) (wordsOf v) (λ m h. ap (λ j. getD (wordsOf v) j 0) {x = suc m} {y = 1 + m} (omega arith)) (push-more (v .shape) (omega arith) (omega arith) refl (put-slot .put-slot .ensures .0) (put-slot .put-slot .ensures .1) (push-none (start .args .env .now) (start .args .depth) (wordsOf v))))))

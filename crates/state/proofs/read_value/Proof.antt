@@ -25,11 +25,17 @@ read-value-spec = tie.close (tie.spec
     (λ c. search needs)
     (λ c. search needs) (λ c κs. search needs) (λ c. search needs) (λ c. search needs) (λ c. search needs) (λ c. search needs)
     (λ c.
-    let l = c .before .before .loop in
-    let a = c .before .before .before .before .args in
+    let loop = c .before .before in
+    let start = loop .before .before in
+    let l = loop .loop in
+    let a = start .args in
     let x = c .read2 .result in
     (omega arith, length-set (l .leaves) (l .i) x ∙ l .inv .1, filled-more (λ j. at (a .state .now) (a .row) (2 + j)) 0 (l .leaves) (l .i) x (omega arith) (c .read2 .ensures) (l .inv .2)))
     (λ c.
-    let l = c .before .loop in
-    let a = c .before .before .before .args in
-    value-filled (λ m. at (a .state .now) (a .row) (suc m)) (λ j. at (a .state .now) (a .row) (2 + j)) (c .before .before .read .result) (l .i) (l .leaves) (c .before .before .read .ensures) (λ i. ap (at (a .state .now) (a .row)) (omega arith)) (l .inv .1) (c .loop-test .left) (l .inv .2)))
+    let loop = c .before in
+    let read = loop .before in
+    let start = read .before in
+    let l = loop .loop in
+    let a = start .args in
+    value-filled (λ m. at (a .state .now) (a .row) (suc m)) (λ j. at (a .state .now) (a .row) (2 + j)) (read .read .result) (l .i) (l .leaves)
+    (read .read .ensures) (λ i. ap (at (a .state .now) (a .row)) (omega arith)) (l .inv .1) (c .loop-test .left) (l .inv .2)))

@@ -52,29 +52,149 @@ pub +copy-task-spec : {M : Type 1} → statement M
     (λ c κs. let s = c .before in fine-at (s .pre .1) (s .args .row) 0 (omega arith) (omega arith))
     (λ c. search needs)
     (λ c. search needs)
-    (λ c κs. c .before .before .before .before .before .pre .1 .low)
+    (λ c κs.
+    let start = c .before .before .before .before .before in
+    start .pre .1 .low)
     (λ c. search needs)
-    (λ c κs. let h = lower-as (c .before .before .before .before .before .args .row) (c .before .before .before .part-at .ensures .1) (c .before .part .given .1) in let m = c .before .before .before .before .before .pre .1 .low in omega arith)
-    (λ c κs. c .before .before .before .before .before .before .before .pre .1 .low)
+    (λ c κs.
+    let part = c .before in
+    let part-at = part .before .before in
+    let start = part-at .before .before in
+    let h = lower-as (start .args .row) (part-at .part-at .ensures .1) (part .part .given .1) in
+    let m = start .pre .1 .low in
+    omega arith)
+    (λ c κs.
+    let start = c .before .before .before .before .before .before .before in
+    start .pre .1 .low)
     (λ c. search needs)
-    (λ c κs. c .before .before .before .before .before .before .pre .1 .low)
-    (λ c κs. let s = c .before .before .before .before .before .before .before .before in call-lower (s .pre) (c .before .before .before .before .part2 .given .0 .0) (s .args .depth) (lower-as (c .before .before .before .before .before .before .before .before .args .row) (c .before .before .before .before .before .before .part-at .ensures .1) (c .before .before .before .before .part2 .given .1)) (s .pre .1 .room))
+    (λ c κs.
+    let start = c .before .before .before .before .before .before in
+    start .pre .1 .low)
+    (λ c κs.
+    let part2 = c .before .before .before .before in
+    let part-at = part2 .before .before in
+    let start = part-at .before .before in
+    call-lower (start .pre) (part2 .part2 .given .0 .0) (start .args .depth)
+    (lower-as (start .args .row) (part-at .part-at .ensures .1) (part2 .part2 .given .1)) (start .pre .1 .room))
     (λ c. search needs)
-    (λ c κs. let h = lower-as (c .before .before .before .before .before .args .row) (c .before .before .before .part-at .ensures .1) (c .before .part3 .given .1) .0 in let m = c .before .before .before .before .before .pre .1 .low in omega arith)
-    (λ c κs. c .before .before .before .before .before .before .before .pre .1 .low)
+    (λ c κs.
+    let part3 = c .before in
+    let part-at = part3 .before .before in
+    let start = part-at .before .before in
+    let h = lower-as (start .args .row) (part-at .part-at .ensures .1) (part3 .part3 .given .1) .0 in
+    let m = start .pre .1 .low in
+    omega arith)
+    (λ c κs.
+    let start = c .before .before .before .before .before .before .before in
+    start .pre .1 .low)
     (λ c κs. c .if2 .taken)
     (λ c. search needs)
-    (λ c κs. let s = c .before .before .before .before .before .before .before .before .before .before .before .before in let m = c .before .before .if2 .taken in call-lower (s .pre) (c .before .before .before .before .before .before .before .before .part3 .given .0 .1 .0) (s .args .depth + 1) (lower-as (c .before .before .before .before .before .before .before .before .before .before .before .before .args .row) (c .before .before .before .before .before .before .before .before .before .before .part-at .ensures .1) (c .before .before .before .before .before .before .before .before .part3 .given .1) .1) (omega arith))
-    (λ c. let s = c .before .before .before .before .before .before .before .before .before .before .before .before .before in copy-bound (s .args .rows .now) (s .args .state .now) (s .args .work .now) (s .args .row) (s .args .env) (s .args .depth) (c .before .before .before .before .before .before .before .before .before .before .before .before .read .result) (c .before .before .before .before .before .before .before .before .before .before .before .part-at .result) (c .before .before .before .before .before .before .before .before .before .before .before .before .read .ensures) (c .before .before .before .before .before .before .before .before .before .before .before .part-at .ensures .0) (c .before .before .before .before .before .before .before .before .before .part3 .given .1) (c .before .before .before .before .before .before .before .row-type2 .ensures) (c .before .before .before .before .before .copy-value2 .ensures) (c .before .before .before .before .if1 .taken) (c .before .before .bound .ensures) (c .copy-task2 .ensures))
-    (λ c. let s = c .before .before .before .before .before .before .before .before .before .before in copy-deep (s .args .rows .now) (s .args .state .now) (s .args .work .now) (s .args .row) (s .args .env) (s .args .depth) (c .before .before .before .before .before .before .before .before .before .read .result) (c .before .before .before .before .before .before .before .before .part-at .result) (c .before .before .before .before .before .before .before .before .before .read .ensures) (c .before .before .before .before .before .before .before .before .part-at .ensures .0) (c .before .before .before .before .before .before .part3 .given .1) (c .before .before .before .before .row-type2 .ensures) (c .before .before .copy-value2 .ensures) (c .if2 .left))
+    (λ c κs.
+    let if2 = c .before .before in
+    let part3 = if2 .before .before .before .before .before .before in
+    let part-at = part3 .before .before in
+    let start = part-at .before .before in
+    let m = if2 .if2 .taken in
+    call-lower (start .pre) (part3 .part3 .given .0 .1 .0) (start .args .depth + 1)
+    (lower-as (start .args .row) (part-at .part-at .ensures .1) (part3 .part3 .given .1) .1) (omega arith))
+    (λ c.
+    let bound = c .before .before in
+    let if1 = bound .before .before in
+    let copy-value2 = if1 .before in
+    let row-type2 = copy-value2 .before .before in
+    let part3 = row-type2 .before .before in
+    let part-at = part3 .before .before in
+    let read = part-at .before in
+    let start = read .before in
+    copy-bound (start .args .rows .now) (start .args .state .now) (start .args .work .now) (start .args .row) (start .args .env) (start .args .depth)
+    (read .read .result) (part-at .part-at .result) (read .read .ensures) (part-at .part-at .ensures .0) (part3 .part3 .given .1)
+    (row-type2 .row-type2 .ensures) (copy-value2 .copy-value2 .ensures) (if1 .if1 .taken) (bound .bound .ensures) (c .copy-task2 .ensures))
+    (λ c.
+    let copy-value2 = c .before .before in
+    let row-type2 = copy-value2 .before .before in
+    let part3 = row-type2 .before .before in
+    let part-at = part3 .before .before in
+    let read = part-at .before in
+    let start = read .before in
+    copy-deep (start .args .rows .now) (start .args .state .now) (start .args .work .now) (start .args .row) (start .args .env) (start .args .depth)
+    (read .read .result) (part-at .part-at .result) (read .read .ensures) (part-at .part-at .ensures .0) (part3 .part3 .given .1)
+    (row-type2 .row-type2 .ensures) (copy-value2 .copy-value2 .ensures) (c .if2 .left))
     (λ c. search needs)
-    (λ c κs. c .before .before .before .before .before .before .pre .1 .low)
-    (λ c κs. let s = c .before .before .before .before .before .before .before .before in call-lower (s .pre) (c .before .before .before .before .part4 .given .0 .0) (s .args .depth) (lower-as (c .before .before .before .before .before .before .before .before .args .row) (c .before .before .before .before .before .before .part-at .ensures .1) (c .before .before .before .before .part4 .given .1) .0) (s .pre .1 .room))
-    (λ c κs. let s = c .before .before .before .before .before .before .before .before .before .before .before in call-lower (s .pre) (c .before .before .before .before .before .before .before .part4 .given .0 .1 .0) (s .args .depth) (lower-as (c .before .before .before .before .before .before .before .before .before .before .before .args .row) (c .before .before .before .before .before .before .before .before .before .part-at .ensures .1) (c .before .before .before .before .before .before .before .part4 .given .1) .1) (s .pre .1 .room))
-    (λ c. let s = c .before .before .before .before .before .before .before .before .before .before .before .before in copy-two (s .args .rows .now) (s .args .state .now) (s .args .work .now) (s .args .row) (s .args .env) (s .args .depth) (c .before .before .before .before .before .before .before .before .before .before .before .read .result) (c .before .before .before .before .before .before .before .before .before .before .part-at .result) (c .before .before .before .before .before .before .before .before .before .before .before .read .ensures) (c .before .before .before .before .before .before .before .before .before .before .part-at .ensures .0) (c .before .before .before .before .before .before .before .before .part4 .given .1) (c .before .before .before .before .before .put-tag3 .ensures) (c .before .before .before .copy-task3 .ensures) (c .before .before .if3 .taken) (c .copy-task4 .ensures))
-    (λ c. let s = c .before .before .before .before in copy-bad (s .args .rows .now) (s .args .state .now) (s .args .work .now) (s .args .row) (s .args .env) (s .args .depth) (c .before .before .before .read .result) (c .before .before .part-at .result) (c .before .before .before .read .ensures) (c .before .before .part-at .ensures .0) (c .enum-told .given .1))
-    (λ c. let s = c .before .before .before .before .before .before in copy-alone (s .args .rows .now) (s .args .state .now) (s .args .work .now) (s .args .row) (s .args .env) (s .args .depth) (c .before .before .before .before .before .read .result) (c .before .before .before .before .part-at .result) (c .before .before .before .before .before .read .ensures) (c .before .before .before .before .part-at .ensures .0) (c .before .before .enum-told2 .given .1) (c .put-tag .ensures))
-    (λ c. let s = c .before .before .before .before .before .before .before .before in copy-filled (s .args .rows .now) (s .args .state .now) (s .args .work .now) (s .args .row) (s .args .env) (s .args .depth) (c .before .before .before .before .before .before .before .read .result) (c .before .before .before .before .before .before .part-at .result) (c .before .before .before .before .before .before .before .read .ensures) (c .before .before .before .before .before .before .part-at .ensures .0) (c .before .before .before .before .part .given .1) (c .before .before .row-type .ensures) (c .copy-value .ensures))
-    (λ c. let s = c .before .before .before .before .before .before .before .before .before in copy-below (s .args .rows .now) (s .args .state .now) (s .args .work .now) (s .args .row) (s .args .env) (s .args .depth) (c .before .before .before .before .before .before .before .before .read .result) (c .before .before .before .before .before .before .before .part-at .result) (c .before .before .before .before .before .before .before .before .read .ensures) (c .before .before .before .before .before .before .before .part-at .ensures .0) (c .before .before .before .before .before .part2 .given .1) (c .before .before .put-tag2 .ensures) (c .copy-task .ensures))
-    (λ c. let s = c .before .before .before .before .before .before .before .before .before in copy-unbound (s .args .rows .now) (s .args .state .now) (s .args .work .now) (s .args .row) (s .args .env) (s .args .depth) (c .before .before .before .before .before .before .before .before .read .result) (c .before .before .before .before .before .before .before .part-at .result) (c .before .before .before .before .before .before .before .before .read .ensures) (c .before .before .before .before .before .before .before .part-at .ensures .0) (c .before .before .before .before .before .part3 .given .1) (c .before .before .before .row-type2 .ensures) (c .before .copy-value2 .ensures) (c .if1 .left))
-    (λ c. let s = c .before .before .before .before .before .before .before .before .before .before in copy-first (s .args .rows .now) (s .args .state .now) (s .args .work .now) (s .args .row) (s .args .env) (s .args .depth) (c .before .before .before .before .before .before .before .before .before .read .result) (c .before .before .before .before .before .before .before .before .part-at .result) (c .before .before .before .before .before .before .before .before .before .read .ensures) (c .before .before .before .before .before .before .before .before .part-at .ensures .0) (c .before .before .before .before .before .before .part4 .given .1) (c .before .before .before .put-tag3 .ensures) (c .before .copy-task3 .ensures) (c .if3 .left))
+    (λ c κs.
+    let start = c .before .before .before .before .before .before in
+    start .pre .1 .low)
+    (λ c κs.
+    let part4 = c .before .before .before .before in
+    let part-at = part4 .before .before in
+    let start = part-at .before .before in
+    call-lower (start .pre) (part4 .part4 .given .0 .0) (start .args .depth)
+    (lower-as (start .args .row) (part-at .part-at .ensures .1) (part4 .part4 .given .1) .0) (start .pre .1 .room))
+    (λ c κs.
+    let part4 = c .before .before .before .before .before .before .before in
+    let part-at = part4 .before .before in
+    let start = part-at .before .before in
+    call-lower (start .pre) (part4 .part4 .given .0 .1 .0) (start .args .depth)
+    (lower-as (start .args .row) (part-at .part-at .ensures .1) (part4 .part4 .given .1) .1) (start .pre .1 .room))
+    (λ c.
+    let if3 = c .before .before in
+    let copy-task3 = if3 .before in
+    let put-tag3 = copy-task3 .before .before in
+    let part4 = put-tag3 .before .before .before in
+    let part-at = part4 .before .before in
+    let read = part-at .before in
+    let start = read .before in
+    copy-two (start .args .rows .now) (start .args .state .now) (start .args .work .now) (start .args .row) (start .args .env) (start .args .depth)
+    (read .read .result) (part-at .part-at .result) (read .read .ensures) (part-at .part-at .ensures .0) (part4 .part4 .given .1)
+    (put-tag3 .put-tag3 .ensures) (copy-task3 .copy-task3 .ensures) (if3 .if3 .taken) (c .copy-task4 .ensures))
+    (λ c.
+    let part-at = c .before .before in
+    let read = part-at .before in
+    let start = read .before in
+    copy-bad (start .args .rows .now) (start .args .state .now) (start .args .work .now) (start .args .row) (start .args .env) (start .args .depth)
+    (read .read .result) (part-at .part-at .result) (read .read .ensures) (part-at .part-at .ensures .0) (c .enum-told .given .1))
+    (λ c.
+    let enum-told2 = c .before .before in
+    let part-at = enum-told2 .before .before in
+    let read = part-at .before in
+    let start = read .before in
+    copy-alone (start .args .rows .now) (start .args .state .now) (start .args .work .now) (start .args .row) (start .args .env) (start .args .depth)
+    (read .read .result) (part-at .part-at .result) (read .read .ensures) (part-at .part-at .ensures .0) (enum-told2 .enum-told2 .given .1)
+    (c .put-tag .ensures))
+    (λ c.
+    let row-type = c .before .before in
+    let part = row-type .before .before in
+    let part-at = part .before .before in
+    let read = part-at .before in
+    let start = read .before in
+    copy-filled (start .args .rows .now) (start .args .state .now) (start .args .work .now) (start .args .row) (start .args .env)
+    (start .args .depth) (read .read .result) (part-at .part-at .result) (read .read .ensures) (part-at .part-at .ensures .0) (part .part .given .1)
+    (row-type .row-type .ensures) (c .copy-value .ensures))
+    (λ c.
+    let put-tag2 = c .before .before in
+    let part2 = put-tag2 .before .before .before in
+    let part-at = part2 .before .before in
+    let read = part-at .before in
+    let start = read .before in
+    copy-below (start .args .rows .now) (start .args .state .now) (start .args .work .now) (start .args .row) (start .args .env) (start .args .depth)
+    (read .read .result) (part-at .part-at .result) (read .read .ensures) (part-at .part-at .ensures .0) (part2 .part2 .given .1)
+    (put-tag2 .put-tag2 .ensures) (c .copy-task .ensures))
+    (λ c.
+    let copy-value2 = c .before in
+    let row-type2 = copy-value2 .before .before in
+    let part3 = row-type2 .before .before in
+    let part-at = part3 .before .before in
+    let read = part-at .before in
+    let start = read .before in
+    copy-unbound (start .args .rows .now) (start .args .state .now) (start .args .work .now) (start .args .row) (start .args .env)
+    (start .args .depth) (read .read .result) (part-at .part-at .result) (read .read .ensures) (part-at .part-at .ensures .0)
+    (part3 .part3 .given .1) (row-type2 .row-type2 .ensures) (copy-value2 .copy-value2 .ensures) (c .if1 .left))
+    (λ c.
+    let copy-task3 = c .before in
+    let put-tag3 = copy-task3 .before .before in
+    let part4 = put-tag3 .before .before .before in
+    let part-at = part4 .before .before in
+    let read = part-at .before in
+    let start = read .before in
+    copy-first (start .args .rows .now) (start .args .state .now) (start .args .work .now) (start .args .row) (start .args .env) (start .args .depth)
+    (read .read .result) (part-at .part-at .result) (read .read .ensures) (part-at .part-at .ensures .0) (part4 .part4 .given .1)
+    (put-tag3 .put-tag3 .ensures) (copy-task3 .copy-task3 .ensures) (c .if3 .left))

@@ -17,8 +17,23 @@ pub alike-spec : {M : Type 1} → statement M
 alike-spec = tie.close (tie.spec Inv-loop μ-loop
     (λ c. (omega arith, alike-none (c .args .x .now) (c .args .y .now)))
     (λ c. search needs) (λ c. search needs) (λ c. search needs) (λ c. search needs)
-    (λ c. let s = c .before .before .before .before .before .args in alike-no (s .x .now) (s .y .now) (c .before .before .before .before .loop .k) (s .m) (c .before .before .before .loop-test .taken) (c .if1 .taken))
+    (λ c.
+    let test = c .before .before .before in
+    let loop = test .before in
+    let start = loop .before in
+    let s = start .args in
+    alike-no (s .x .now) (s .y .now) (loop .loop .k) (s .m) (test .loop-test .taken) (c .if1 .taken))
     (λ c. search needs)
     (λ c. let l = c .before .before .before .loop-test .taken in omega arith)
-    (λ c. let s = c .before .before .before .before .before .args in let l = c .before .before .before .loop-test .taken in (omega arith, alike-more (s .x .now) (s .y .now) (c .before .before .before .before .loop .k) (c .before .before .before .before .loop .inv .1) (c .if1 .left)))
-    (λ c. let s = c .before .before .args in alike-yes (s .x .now) (s .y .now) (c .before .loop .k) (s .m) (c .before .loop .inv .1) (c .loop-test .left)))
+    (λ c.
+    let test = c .before .before .before in
+    let loop = test .before in
+    let start = loop .before in
+    let s = start .args in
+    let l = test .loop-test .taken in
+    (omega arith, alike-more (s .x .now) (s .y .now) (loop .loop .k) (loop .loop .inv .1) (c .if1 .left)))
+    (λ c.
+    let loop = c .before in
+    let start = loop .before in
+    let s = start .args in
+    alike-yes (s .x .now) (s .y .now) (loop .loop .k) (s .m) (loop .loop .inv .1) (c .loop-test .left)))

@@ -18,9 +18,32 @@ abbrev μ-loop : tie.MeasureT-loop
 pub copy-cells-spec : {M : Type 1} → statement M
 copy-cells-spec = tie.close (tie.spec Inv-loop μ-loop
     (λ c. (omega arith, no-cells (c .args .rows .now) (c .args .state .now) (c .args .work .now)))
-    (λ c κs. let l = c .before .loop-test .taken in let h = c .before .before .before .pre in omega arith)
-    (λ c. let s = c .before .before .before .before .before .args in no-more-cells (s .rows .now) (s .state .now) (c .before .before .before .before .loop .i) (s .n) (c .before .before .before .before .loop .inv .1) (c .before .before .before .loop-test .taken) (c .before .copy-cell .ensures) (c .if1 .taken))
+    (λ c κs.
+    let test = c .before in
+    let start = test .before .before in
+    let l = test .loop-test .taken in
+    let h = start .pre in
+    omega arith)
+    (λ c.
+    let copy-cell = c .before in
+    let test = copy-cell .before .before in
+    let loop = test .before in
+    let start = loop .before in
+    let s = start .args in
+    no-more-cells (s .rows .now) (s .state .now) (loop .loop .i) (s .n) (loop .loop .inv .1) (test .loop-test .taken) (copy-cell .copy-cell .ensures)
+    (c .if1 .taken))
     (λ c. search needs)
     (λ c. let l = c .before .before .before .loop-test .taken in omega arith)
-    (λ c. let l = c .before .before .before .loop-test .taken in (omega arith, next-cells (c .before .before .before .before .before .args .state .now) (c .before .before .before .before .loop .inv .1) (c .before .copy-cell .ensures) (c .if1 .left)))
-    (λ c. let l = c .loop-test .left in let k = c .before .loop .inv .0 in all-cells (c .before .before .args .state .now) (c .before .loop .inv .1) (let e : c .before .loop .i ≡ c .before .before .args .n = omega arith in e)))
+    (λ c.
+    let copy-cell = c .before in
+    let test = copy-cell .before .before in
+    let loop = test .before in
+    let start = loop .before in
+    let l = test .loop-test .taken in
+    (omega arith, next-cells (start .args .state .now) (loop .loop .inv .1) (copy-cell .copy-cell .ensures) (c .if1 .left)))
+    (λ c.
+    let loop = c .before in
+    let start = loop .before in
+    let l = c .loop-test .left in
+    let k = loop .loop .inv .0 in
+    all-cells (start .args .state .now) (loop .loop .inv .1) (let e : loop .loop .i ≡ start .args .n = omega arith in e)))

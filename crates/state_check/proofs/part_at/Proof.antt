@@ -12,6 +12,12 @@ part-at-spec = tie.close (tie.spec
     (λ c κs. (c .before .before .pre .low, omega arith))
     (λ c κs. (c .before .before .before .pre .low, omega arith))
     (λ c κs. search needs)
-    (λ c. let s = c .before .before .before .before .before in
-    part-is (s .args .tag) (c .before .before .before .before .get .result) (c .before .before .before .operand .result) (c .before .before .operand2 .result) (c .before .operand3 .result) (c .part-from .result) (s .pre)
-    (c .before .before .before .before .get .ensures) (c .before .before .before .operand .ensures) (c .before .before .operand2 .ensures) (c .before .operand3 .ensures) (c .part-from .ensures)))
+    (λ c.
+    let operand3 = c .before in
+    let operand2 = operand3 .before in
+    let operand = operand2 .before in
+    let get = operand .before in
+    let start = get .before in
+    part-is (start .args .tag) (get .get .result) (operand .operand .result) (operand2 .operand2 .result) (operand3 .operand3 .result)
+    (c .part-from .result) (start .pre) (get .get .ensures) (operand .operand .ensures) (operand2 .operand2 .ensures) (operand3 .operand3 .ensures)
+    (c .part-from .ensures)))

@@ -20,6 +20,16 @@ part-from-spec = tie.close (tie.spec
     (λ c. let q = c .before .before .args in let e = c .by-tag6 .ensures in part-one (q .tag) (q .a) (q .b) (q .c) (46 ∷ []) (q .kind) (e, tt) (c .before .match .keys6))
     (λ c. let q = c .before .before .args in let e = c .by-tag7 .ensures in part-one (q .tag) (q .a) (q .b) (q .c) (47 ∷ []) (q .kind) (e, tt) (c .before .match .keys7))
     (λ c. let q = c .before .before .args in let e = c .by-tag8 .ensures in part-one (q .tag) (q .a) (q .b) (q .c) (48 ∷ []) (q .kind) (e, tt) (c .before .match .keys8))
-    (λ c. let q = c .before .before .before .before .args in part-step (q .tag) (q .a) (q .b) (q .c) (q .kind) (c .before .before .if1 .left) (c .before .if2 .taken) (c .before .before .before .match .rest) (c .by-tag9 .ensures))
+    (λ c.
+    let if2 = c .before in
+    let if1 = if2 .before in
+    let match-at = if1 .before in
+    let start = match-at .before in
+    let q = start .args in
+    part-step (q .tag) (q .a) (q .b) (q .c) (q .kind) (if1 .if1 .left) (if2 .if2 .taken) (match-at .match .rest) (c .by-tag9 .ensures))
     (λ c. let q = c .before .before .args in part-low (q .tag) (q .a) (q .b) (q .c) (q .kind) (c .if1 .taken) (c .before .match .rest))
-    (λ c. let q = c .before .before .before .args in part-high (q .tag) (q .a) (q .b) (q .c) (q .kind) (c .if2 .left) (c .before .before .match .rest)))
+    (λ c.
+    let match-at = c .before .before in
+    let start = match-at .before in
+    let q = start .args in
+    part-high (q .tag) (q .a) (q .b) (q .c) (q .kind) (c .if2 .left) (match-at .match .rest)))

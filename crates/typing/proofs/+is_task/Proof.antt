@@ -34,13 +34,37 @@ pub +is-task-spec : {M : Type 1} → statement M
     (λ c κs. search needs)
     (λ c κs. search needs)
     (λ c κs. search needs)
-    (λ c. let q = c .before .before .before .before .before .args in
-    task-branch (q .rows .now) (q .row) (c .before .before .before .before .get .result) (c .before .before .before .before .get .ensures) (c .before .before .operand .result) (c .is-task .result) (c .before .before .before .match .keys1) (c .before .before .operand .ensures) (c .before .if1 .taken) (c .is-task .ensures))
-    (λ c. let q = c .before .before .before .before .args in
-    task-high (q .rows .now) (q .row) (c .before .before .before .get .result) (c .before .before .before .get .ensures) (c .before .operand .result) (c .before .before .match .keys1) (c .before .operand .ensures) (c .if1 .left))
-    (λ c. let q = c .before .before .before .before .args in
-    task-own (q .rows .now) (q .row) (c .before .before .before .get .result) (c .before .before .before .get .ensures) (c .before .if2 .left) (c .if3 .taken))
-    (λ c. let q = c .before .before .before .args in
-    task-none (q .rows .now) (q .row) (c .before .before .get .result) (c .before .before .get .ensures) (c .if2 .taken) (c .before .match .rest))
-    (λ c. let q = c .before .before .before .before .args in
-    task-past (q .rows .now) (q .row) (c .before .before .before .get .result) (c .before .before .before .get .ensures) (c .if3 .left))
+    (λ c.
+    let if1 = c .before in
+    let operand = if1 .before in
+    let match-at = operand .before in
+    let get = match-at .before in
+    let start = get .before in
+    let q = start .args in
+    task-branch (q .rows .now) (q .row) (get .get .result) (get .get .ensures) (operand .operand .result) (c .is-task .result)
+    (match-at .match .keys1) (operand .operand .ensures) (if1 .if1 .taken) (c .is-task .ensures))
+    (λ c.
+    let operand = c .before in
+    let match-at = operand .before in
+    let get = match-at .before in
+    let start = get .before in
+    let q = start .args in
+    task-high (q .rows .now) (q .row) (get .get .result) (get .get .ensures) (operand .operand .result) (match-at .match .keys1)
+    (operand .operand .ensures) (c .if1 .left))
+    (λ c.
+    let if2 = c .before in
+    let get = if2 .before .before in
+    let start = get .before in
+    let q = start .args in
+    task-own (q .rows .now) (q .row) (get .get .result) (get .get .ensures) (if2 .if2 .left) (c .if3 .taken))
+    (λ c.
+    let match-at = c .before in
+    let get = match-at .before in
+    let start = get .before in
+    let q = start .args in
+    task-none (q .rows .now) (q .row) (get .get .result) (get .get .ensures) (c .if2 .taken) (match-at .match .rest))
+    (λ c.
+    let get = c .before .before .before in
+    let start = get .before in
+    let q = start .args in
+    task-past (q .rows .now) (q .row) (get .get .result) (get .get .ensures) (c .if3 .left))

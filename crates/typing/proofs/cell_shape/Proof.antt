@@ -9,7 +9,15 @@ unfolding asShape put
 cell-shape-spec = tie.close (tie.spec
     (λ c κs. search needs)
     (λ c κs. search needs)
-    (λ c. let s = c .before .before .before .before .args in
-    shape-truth (s .rows .now) (s .row) (c .before .before .before .operand .ensures) (c .before .kind .ensures) (c .if1 .taken))
-    (λ c. let s = c .before .before .before .before .args in
-    shape-number (s .rows .now) (s .row) (c .before .before .before .operand .ensures) (c .before .kind .ensures) (c .if1 .left)))
+    (λ c.
+    let kind = c .before in
+    let operand = kind .before .before in
+    let start = operand .before in
+    let s = start .args in
+    shape-truth (s .rows .now) (s .row) (operand .operand .ensures) (kind .kind .ensures) (c .if1 .taken))
+    (λ c.
+    let kind = c .before in
+    let operand = kind .before .before in
+    let start = operand .before in
+    let s = start .args in
+    shape-number (s .rows .now) (s .row) (operand .operand .ensures) (kind .kind .ensures) (c .if1 .left)))

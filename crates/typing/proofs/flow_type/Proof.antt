@@ -13,13 +13,18 @@ flow-type-spec =
     (λ c κs. search needs)
     (λ c. search needs)
     (λ c κs. search needs)
-    (λ c. let s = c .before .before .before in
-    let rs = s .args .rows .now in
-    let n = s .args .n in
-    let e = flow-yes rs n (c .before .before .is-task .result) (c .before .before .is-task .ensures) (c .row-type .result) (c .before .if1 .taken) (c .row-type .ensures) in
-    (e, λ p q. e ∙ flow-agrees rs n (s .pre .0) p q))
-    (λ c. let s = c .before .before in
-    let rs = s .args .rows .now in
-    let n = s .args .n in
-    let e = flow-no rs n (c .before .is-task .result) (c .before .is-task .ensures) (c .if1 .left) in
-    (e, λ p q. e ∙ flow-agrees rs n (s .pre .0) p q)))
+    (λ c.
+    let if1 = c .before in
+    let is-task = if1 .before in
+    let start = is-task .before in
+    let rs = start .args .rows .now in
+    let n = start .args .n in
+    let e = flow-yes rs n (is-task .is-task .result) (is-task .is-task .ensures) (c .row-type .result) (if1 .if1 .taken) (c .row-type .ensures) in
+    (e, λ p q. e ∙ flow-agrees rs n (start .pre .0) p q))
+    (λ c.
+    let is-task = c .before in
+    let start = is-task .before in
+    let rs = start .args .rows .now in
+    let n = start .args .n in
+    let e = flow-no rs n (is-task .is-task .result) (is-task .is-task .ensures) (c .if1 .left) in
+    (e, λ p q. e ∙ flow-agrees rs n (start .pre .0) p q)))

@@ -12,5 +12,12 @@ node-at-spec =
     (λ c κs. search needs)
     (λ c κs. search needs)
     (λ c κs. search needs)
-    (λ c. let q = c .before .before .before .before .before .args in
-    node-is (q .rows .now) (q .row) (c .before .before .before .before .get .result) (c .before .before .before .get2 .result) (c .before .before .get3 .result) (c .before .get4 .result) (c .node-from .result) (c .before .before .before .before .get .ensures) (c .before .before .before .get2 .ensures) (c .before .before .get3 .ensures) (c .before .get4 .ensures) (c .node-from .ensures)))
+    (λ c.
+    let get4 = c .before in
+    let get3 = get4 .before in
+    let get2 = get3 .before in
+    let get = get2 .before in
+    let start = get .before in
+    let q = start .args in
+    node-is (q .rows .now) (q .row) (get .get .result) (get2 .get2 .result) (get3 .get3 .result) (get4 .get4 .result) (c .node-from .result)
+    (get .get .ensures) (get2 .get2 .ensures) (get3 .get3 .ensures) (get4 .get4 .ensures) (c .node-from .ensures)))

@@ -50,13 +50,29 @@ node-from-spec =
     (λ c. let q = c .before .before .args in
     let e = c .named24 .ensures in
     node-one (q .i) (q .a) (q .b) (q .c) (31 ∷ []) (q .k) (e, tt) (c .before .match .keys12))
-    (λ c. let q = c .before .before .before .before .args in
+    (λ c.
+    let if2 = c .before in
+    let if1 = if2 .before in
+    let start = if1 .before .before in
+    let q = start .args in
     let e = c .named14 .ensures in
-    node-range (q .i) (q .a) (q .b) (q .c) 40 3 (q .k) (e, (e, (e, tt))) (c .before .before .if1 .left) (c .before .if2 .taken))
-    (λ c. let q = c .before .before .before .before .before .args in
+    node-range (q .i) (q .a) (q .b) (q .c) 40 3 (q .k) (e, (e, (e, tt))) (if1 .if1 .left) (if2 .if2 .taken))
+    (λ c.
+    let if3 = c .before in
+    let if2 = if3 .before in
+    let start = if2 .before .before .before in
+    let q = start .args in
     let e = c .named25 .ensures in
-    node-range (q .i) (q .a) (q .b) (q .c) 43 2 (q .k) (e, (e, tt)) (c .before .before .if2 .left) (c .before .if3 .taken))
-    (λ c. let q = c .before .before .before .before .before .before .args in
-    node-choice (q .i) (q .a) (q .b) (q .c) (q .k) (c .before .before .if3 .left) (c .before .if4 .taken) (c .before .before .before .before .before .match .rest) (c .named26 .ensures))
+    node-range (q .i) (q .a) (q .b) (q .c) 43 2 (q .k) (e, (e, tt)) (if2 .if2 .left) (if3 .if3 .taken))
+    (λ c.
+    let if4 = c .before in
+    let if3 = if4 .before in
+    let match-at = if3 .before .before .before in
+    let start = match-at .before in
+    let q = start .args in
+    node-choice (q .i) (q .a) (q .b) (q .c) (q .k) (if3 .if3 .left) (if4 .if4 .taken) (match-at .match .rest) (c .named26 .ensures))
     (λ c. let q = c .before .before .args in node-none (q .i) (q .a) (q .b) (q .c) (q .k) (c .if1 .taken) (c .before .match .rest))
-    (λ c. let q = c .before .before .before .before .before .args in node-past (q .i) (q .a) (q .b) (q .c) (q .k) (c .if4 .left)))
+    (λ c.
+    let start = c .before .before .before .before .before in
+    let q = start .args in
+    node-past (q .i) (q .a) (q .b) (q .c) (q .k) (c .if4 .left)))

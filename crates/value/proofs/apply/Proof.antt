@@ -18,4 +18,9 @@ apply-spec = tie.close (tie.spec
     (λ c κs. search needs) (λ c κs. search needs)
     (λ c. c .truth2 .ensures ∙ ap asValue (c .before .connected .ensures))
     (λ c κs. search needs) (λ c κs. search needs)
-    (λ c. let s = c .before .before .before .before .before in c .number2 .ensures ∙ ap asValue (other-is (s .args .op) (getD (s .args .a .leaves) 0 0) (getD (s .args .b .leaves) 0 0) (c .before .add .result) (λ p q. ⊎-elim (λ z. omega arith) (λ z. omega arith) (c .before .before .if1 .came)) (c .before .add .ensures))))
+    (λ c.
+    let add = c .before in
+    let if1 = add .before in
+    let start = if1 .before .before .before in
+    c .number2 .ensures ∙ ap asValue
+    (other-is (start .args .op) (getD (start .args .a .leaves) 0 0) (getD (start .args .b .leaves) 0 0) (add .add .result) (λ p q. ⊎-elim (λ z. omega arith) (λ z. omega arith) (if1 .if1 .came)) (add .add .ensures))))

@@ -10,4 +10,8 @@ compared-spec = tie.close (tie.spec
     (λ c κs. search needs) (λ c κs. search needs) (λ c κs. search needs)
     (λ c. let s = c .before .before in less-is (s .args .op) (s .args .x) (s .args .y) (c .less .result) (c .before .match .keys1) (c .less .ensures))
     (λ c. let s = c .before .before in less-equal-is (s .args .op) (s .args .x) (s .args .y) (c .at-most .result) (c .before .match .keys2) (c .at-most .ensures))
-    (λ c. let s = c .before .before in equal-is (s .args .op) (s .args .x) (s .args .y) (c .equal .result) (omega (arith, s .pre .0, s .pre .1, c .before .match .rest .0 .1, c .before .match .rest .1)) (c .equal .ensures)))
+    (λ c.
+    let match-at = c .before in
+    let start = match-at .before in
+    equal-is (start .args .op) (start .args .x) (start .args .y) (c .equal .result)
+    (omega (arith, start .pre .0, start .pre .1, match-at .match .rest .0 .1, match-at .match .rest .1)) (c .equal .ensures)))

@@ -11,6 +11,9 @@ pub first-spec : {M : Type 1} → statement M
 first-spec = tie.close (tie.spec
     (λ c κs. search needs) (λ c κs. search needs) (λ c κs. search needs)
     (λ c.
-    let a = c .before .before .before .before .args in
-    let s = c .before .before .before .first-shape .ensures in
-    made s (c .joined .ensures ∙ ap (λ n. joined n (a .a .leaves) noLeaves) (c .before .leaves-of .ensures .0 ∙ ap shapeLeaves s))))
+    let leaves-of = c .before in
+    let first-shape = leaves-of .before .before in
+    let start = first-shape .before in
+    let a = start .args in
+    let s = first-shape .first-shape .ensures in
+    made s (c .joined .ensures ∙ ap (λ n. joined n (a .a .leaves) noLeaves) (leaves-of .leaves-of .ensures .0 ∙ ap shapeLeaves s))))

@@ -25,8 +25,10 @@ joined-spec = tie.close (tie.spec
     (λ c. search needs) (λ c. search needs) (λ c. search needs) (λ c. search needs) (λ c κs. search needs)
     (λ c. search needs) (λ c. search needs) (λ c. search needs) (λ c. search needs)
     (λ c.
-    let l = c .before .before .loop in
-    let a = c .before .before .before .args in
+    let loop = c .before .before in
+    let start = loop .before in
+    let l = loop .loop in
+    let a = start .args in
     let x = ⊎-elim (λ (t, e). joined-front (a .t2) (a .ys) (a .n) (l .i) (c .if1 .leaves) (t .taken) e) (λ (t, g, e). joined-back (a .t2) (a .ys) (a .n) (l .i) (c .if1 .leaves) (t .left) (e ∙ g .ensures)) (c .if1 .came) in
     (omega arith, length-set (l .leaves) (l .i) (c .if1 .leaves) ∙ l .inv .1, filled-more (joinedAt (a .n) (a .t2) (a .ys)) 0 (l .leaves) (l .i) (c .if1 .leaves) (omega arith) x (l .inv .2)))
     (λ c.

@@ -22,8 +22,10 @@ leaves-from-spec = tie.close (tie.spec
     (λ c. search needs) (λ c. search needs) (λ c κs. search needs) (λ c. search needs) (λ c. search needs)
     (λ c. search needs) (λ c. search needs)
     (λ c.
-    let l = c .before .before .loop in
-    let a = c .before .before .before .args in
+    let loop = c .before .before in
+    let start = loop .before in
+    let l = loop .loop in
+    let a = start .args in
     let x = c .leaf .result in
     (omega arith, length-set (l .leaves) (l .i) x ∙ l .inv .1, filled-more (λ j. getD (a .xs) (a .n + j) 0) 0 (l .leaves) (l .i) x (omega arith) (c .leaf .ensures) (l .inv .2)))
     (λ c.

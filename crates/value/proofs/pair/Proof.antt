@@ -9,4 +9,9 @@ use Rattle.value.proofs.pair.Tie as tie
 pub pair-spec : {M : Type 1} → statement M
 pair-spec = tie.close (tie.spec
     (λ c κs. search needs) (λ c κs. search needs) (λ c κs. search needs)
-    (λ c. let a = c .before .before .before .before .before .args in made (c .pair-shape .ensures) (c .before .joined .ensures ∙ ap (λ n. joined n (a .a .leaves) (a .b .leaves)) (c .before .before .leaves-of .ensures .0))))
+    (λ c.
+    let joined-at = c .before in
+    let leaves-of = joined-at .before in
+    let start = leaves-of .before .before .before in
+    let a = start .args in
+    made (c .pair-shape .ensures) (joined-at .joined .ensures ∙ ap (λ n. joined n (a .a .leaves) (a .b .leaves)) (leaves-of .leaves-of .ensures .0))))

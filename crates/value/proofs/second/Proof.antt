@@ -11,5 +11,10 @@ pub second-spec : {M : Type 1} → statement M
 second-spec = tie.close (tie.spec
     (λ c κs. search needs) (λ c κs. search needs) (λ c κs. search needs) (λ c κs. search needs)
     (λ c.
-    let a = c .before .before .before .before .before .args in
-    made (c .second-shape .ensures) (c .before .leaves-from .ensures ∙ ap (λ n. leavesFrom n (a .a .leaves)) (c .before .before .leaves-of .ensures .0 ∙ ap shapeLeaves (c .before .before .before .first-shape .ensures)))))
+    let leaves-from = c .before in
+    let leaves-of = leaves-from .before in
+    let first-shape = leaves-of .before in
+    let start = first-shape .before .before in
+    let a = start .args in
+    made (c .second-shape .ensures)
+    (leaves-from .leaves-from .ensures ∙ ap (λ n. leavesFrom n (a .a .leaves)) (leaves-of .leaves-of .ensures .0 ∙ ap shapeLeaves (first-shape .first-shape .ensures)))))

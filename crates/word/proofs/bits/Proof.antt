@@ -28,8 +28,9 @@ module _ (c : tie.Then1) where
 -- x is not, and is its bits
 x-is : (c : tie.Else1) → (toZ w32 (ofZ w32 (c .before .args .x)) ≡ pos (ofZ w32 (c .before .args .x))) × (ofZ w32 (c .before .args .x) < half)
 x-is c =
-    let b = number-bits (c .before .args .x) (c .before .fits .x .sfits) in
-    let n = natural (c .before .args .x) (c .before .fits .x .sfits) (rw b at (c .if1 .left)) in
+    let start = c .before in
+    let b = number-bits (start .args .x) (start .fits .x .sfits) in
+    let n = natural (start .args .x) (start .fits .x .sfits) (rw b at (c .if1 .left)) in
     (b ∙ n .0, n .1)
 
 pub bits-spec : {M : Type 1} → statement M

@@ -29,7 +29,11 @@ pub copy-in-spec : {M : Type 1} → statement M
 copy-in-spec = tie.close (tie.spec Inv-loop μ-loop
     (λ c. (refl, search needs, search needs, refl, refl, below-none (λ k. IsWord (getD (c .before .args .lent .now) k (pos 0)))))
     (λ c. c .before .before .loop .inv .3)
-    (λ c. let a = c .before .before .before .before .args in let l = c .before .before .loop in
+    (λ c.
+    let loop = c .before .before in
+    let start = loop .before .before in
+    let a = start .args in
+    let l = loop .loop in
     let d = all-read (a .lent .now) (a .own .now) (l .i) (omega arith) (omega arith) (omega arith) in
     (laid-done (a .lent .now) (a .own .now) (l .i) (ofZ w32) (l .own) d (l .inv .4), subst AllWords (d .0) (words-take (l .i) (a .lent .now) (l .inv .5))))
     (λ c. search needs)
@@ -39,17 +43,19 @@ copy-in-spec = tie.close (tie.spec Inv-loop μ-loop
     (λ c. search needs)
     (λ c. search needs)
     (λ c. search needs)
-    (λ c. let a = c .before .before .before .before .before .before .args in let l = c .before .before .before .before .loop in
-    let w : IsWord (getD (a .lent .now) (l .i) (pos 0)) = c .before .bits-arg .given in (
-      l .inv .0,
-      omega arith,
-      omega arith,
-      simp length-set (l .inv .3),
-      laid-more (ofZ w32) (a .lent .now) (a .own .now) (l .own) (l .i) (pos 0) 0 (c .bits .result) (omega arith) (omega arith) (l .inv .4)
-          (c .bits .ensures ∙ ap (ofZ w32) (number-bits (getD (a .lent .now) (l .i) (pos 0)) w)),
-      below-more (λ k. IsWord (getD (a .lent .now) k (pos 0))) (l .i) (l .inv .5) w,
-    ))
+    (λ c.
+    let bits-arg = c .before in
+    let loop = bits-arg .before .before .before in
+    let start = loop .before .before in
+    let a = start .args in
+    let l = loop .loop in
+    let w : IsWord (getD (a .lent .now) (l .i) (pos 0)) = bits-arg .bits-arg .given in
+    (l .inv .0, omega arith, omega arith, simp length-set (l .inv .3), laid-more (ofZ w32) (a .lent .now) (a .own .now) (l .own) (l .i) (pos 0) 0 (c .bits .result) (omega arith) (omega arith) (l .inv .4) (c .bits .ensures ∙ ap (ofZ w32) (number-bits (getD (a .lent .now) (l .i) (pos 0)) w)), below-more (λ k. IsWord (getD (a .lent .now) k (pos 0))) (l .i) (l .inv .5) w))
     (λ c. c .before .loop .inv .3)
-    (λ c. let a = c .before .before .before .args in let l = c .before .loop in
+    (λ c.
+    let loop = c .before in
+    let start = loop .before .before in
+    let a = start .args in
+    let l = loop .loop in
     let d = all-written (a .lent .now) (a .own .now) (l .i) (omega arith) (omega arith) (omega arith) in
     (laid-done (a .lent .now) (a .own .now) (l .i) (ofZ w32) (l .own) d (l .inv .4), subst AllWords (d .0) (words-take (l .i) (a .lent .now) (l .inv .5)))))

@@ -25,7 +25,11 @@ pub copy-out-spec : {M : Type 1} → statement M
 copy-out-spec = tie.close (tie.spec Inv-loop μ-loop
     (λ c. (refl, search needs, search needs, refl, refl))
     (λ c. c .before .before .loop .inv .3)
-    (λ c. let a = c .before .before .before .before .args in let l = c .before .before .loop in
+    (λ c.
+    let loop = c .before .before in
+    let start = loop .before .before in
+    let a = start .args in
+    let l = loop .loop in
     laid-done (a .own .now) (a .lent .now) (l .i) (toZ w32) (l .lent)
     (all-read (a .own .now) (a .lent .now) (l .i) (omega arith) (omega arith) (omega arith)) (l .inv .4))
     (λ c. search needs)
@@ -35,15 +39,17 @@ copy-out-spec = tie.close (tie.spec Inv-loop μ-loop
     (λ c. search needs)
     (λ c. search needs)
     (λ c. search needs)
-    (λ c. let a = c .before .before .before .before .before .before .args in let l = c .before .before .before .before .loop in (
-      l .inv .0,
-      omega arith,
-      omega arith,
-      simp length-set (l .inv .3),
-      laid-more (toZ w32) (a .own .now) (a .lent .now) (l .lent) (l .i) 0 (pos 0) (toZ w32 (ofZ w32 (c .number .result)))
-          (omega arith) (omega arith) (l .inv .4) (number-bits (c .number .result) (c .number .ok) ∙ c .number .ensures),
-    ))
+    (λ c.
+    let loop = c .before .before .before .before in
+    let start = loop .before .before in
+    let a = start .args in
+    let l = loop .loop in
+    (l .inv .0, omega arith, omega arith, simp length-set (l .inv .3), laid-more (toZ w32) (a .own .now) (a .lent .now) (l .lent) (l .i) 0 (pos 0) (toZ w32 (ofZ w32 (c .number .result))) (omega arith) (omega arith) (l .inv .4) (number-bits (c .number .result) (c .number .ok) ∙ c .number .ensures)))
     (λ c. c .before .loop .inv .3)
-    (λ c. let a = c .before .before .before .args in let l = c .before .loop in
+    (λ c.
+    let loop = c .before in
+    let start = loop .before .before in
+    let a = start .args in
+    let l = loop .loop in
     laid-done (a .own .now) (a .lent .now) (l .i) (toZ w32) (l .lent)
     (all-written (a .own .now) (a .lent .now) (l .i) (omega arith) (omega arith) (omega arith)) (l .inv .4)))

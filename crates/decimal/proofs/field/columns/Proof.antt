@@ -11,8 +11,17 @@ pub columns-spec : {M : Type 1} → statement M
 columns-spec = tie.close (tie.spec
     (λ c. let s = c .before in sym (ap length (text-0 (s .args .n) (c .if1 .taken))))
     (λ c κs. search needs)
-    (λ c. let s = c .before .before .before in c .digits-of .ensures .0 ∙ sym (ap length (text-low (s .args .n) (c .before .before .if1 .left) (c .before .if2 .taken))))
+    (λ c.
+    let if2 = c .before in
+    let if1 = if2 .before in
+    let start = if1 .before in
+    c .digits-of .ensures .0 ∙ sym (ap length (text-low (start .args .n) (if1 .if1 .left) (if2 .if2 .taken))))
     (λ c κs. search needs)
     (λ c κs. search needs)
     (λ c. search needs)
-    (λ c. let s = c .before .before .before .before in let e = ap length (text-high (s .args .n) (c .before .negated .result) (c .before .before .if2 .left) (omega arith) (c .before .negated .ensures)) in omega (arith, e, c .digits-of2 .ensures .0)))
+    (λ c.
+    let negated = c .before in
+    let if2 = negated .before in
+    let start = if2 .before .before in
+    let e = ap length (text-high (start .args .n) (negated .negated .result) (if2 .if2 .left) (omega arith) (negated .negated .ensures)) in
+    omega (arith, e, c .digits-of2 .ensures .0)))

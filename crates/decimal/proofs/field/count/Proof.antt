@@ -19,16 +19,45 @@ pub count-spec : {M : Type 1} → statement M
 count-spec = tie.close (tie.spec Inv-loop μ-loop
     (λ c. let s = c in (s .pre .0, search needs, refl))
     (λ c. search needs)
-    (λ c. let s = c .before .before .before .before in let l = c .before .before .before .loop in sym (l .inv .2 ∙ count-low (s .args .most) (l .n) (s .args .s .now) (l .i) (s .args .end) (c .before .before .loop-test .taken) (s .pre .1) (omega arith)))
-    (λ c. let s = c .before .before .before .before .before in let l = c .before .before .before .before .loop in sym (l .inv .2 ∙ count-high (s .args .most) (l .n) (s .args .s .now) (l .i) (s .args .end) (c .before .before .before .loop-test .taken) (s .pre .1) (omega arith)))
+    (λ c.
+    let test = c .before .before in
+    let loop = test .before in
+    let start = loop .before in
+    let l = loop .loop in
+    sym
+    (l .inv .2 ∙ count-low (start .args .most) (l .n) (start .args .s .now) (l .i) (start .args .end) (test .loop-test .taken) (start .pre .1) (omega arith)))
+    (λ c.
+    let test = c .before .before .before in
+    let loop = test .before in
+    let start = loop .before in
+    let l = loop .loop in
+    sym
+    (l .inv .2 ∙ count-high (start .args .most) (l .n) (start .args .s .now) (l .i) (start .args .end) (test .loop-test .taken) (start .pre .1) (omega arith)))
     (λ c. search needs)
     (λ c. search needs)
     (λ c. search needs)
     (λ c. search needs)
-    (λ c. let s = c .before .before .before .before .before .before in let l = c .before .before .before .before .before .loop in sym (l .inv .2 ∙ count-led (s .args .most) (l .n) (s .args .s .now) (l .i) (s .args .end) (c .before .before .before .before .loop-test .taken) (s .pre .1) (omega arith)))
-    (λ c. let s = c .before .before .before .before .before .before .before in let l = c .before .before .before .before .before .before .loop in sym (l .inv .2 ∙ count-over (s .args .most) (l .n) (s .args .s .now) (l .i) (s .args .end) (c .before .before .before .before .before .loop-test .taken) (s .pre .1) (omega arith)))
+    (λ c.
+    let test = c .before .before .before .before in
+    let loop = test .before in
+    let start = loop .before in
+    let l = loop .loop in
+    sym
+    (l .inv .2 ∙ count-led (start .args .most) (l .n) (start .args .s .now) (l .i) (start .args .end) (test .loop-test .taken) (start .pre .1) (omega arith)))
+    (λ c.
+    let test = c .before .before .before .before .before in
+    let loop = test .before in
+    let start = loop .before in
+    let l = loop .loop in
+    sym
+    (l .inv .2 ∙ count-over (start .args .most) (l .n) (start .args .s .now) (l .i) (start .args .end) (test .loop-test .taken) (start .pre .1) (omega arith)))
     (λ c. search needs)
     (λ c. search needs)
     (λ c. search needs)
-    (λ c. let s = c .before .before .before .before .before .before .before in let l = c .before .before .before .before .before .before .loop in (omega arith, omega arith, l .inv .2 ∙ count-more (s .args .most) (l .n) (s .args .s .now) (l .i) (s .args .end) (c .before .before .before .before .before .loop-test .taken) (s .pre .1) (omega arith) (omega arith) (omega arith) (omega arith)))
+    (λ c.
+    let test = c .before .before .before .before .before in
+    let loop = test .before in
+    let start = loop .before in
+    let l = loop .loop in
+    (omega arith, omega arith, l .inv .2 ∙ count-more (start .args .most) (l .n) (start .args .s .now) (l .i) (start .args .end) (test .loop-test .taken) (start .pre .1) (omega arith) (omega arith) (omega arith) (omega arith)))
     (λ c. let s = c .before .before in let l = c .before .loop in count-none (s .args .most) (l .n) (s .args .s .now) (l .i) (s .args .end) (omega arith) ∙ sym (l .inv .2)))

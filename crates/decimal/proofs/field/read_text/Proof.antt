@@ -14,13 +14,44 @@ read-text-spec = tie.close (tie.spec
     (λ c. search needs)
     (λ c. search needs)
     (λ c κs. search needs)
-    (λ c. let s = c .before .before .before .before .before .before in negative-0 _ (c .before .count .result) (c .before .count .ensures) (c .if3 .taken) ∙ sym (ap reading (text-minus (s .args .s .now) (s .args .at) (s .args .end) (omega arith) (s .pre .1) (c .before .before .if2 .taken))))
+    (λ c.
+    let count = c .before in
+    let if2 = count .before in
+    let start = if2 .before .before .before .before in
+    negative-0 _ (count .count .result) (count .count .ensures) (c .if3 .taken) ∙ sym
+    (ap reading (text-minus (start .args .s .now) (start .args .at) (start .args .end) (omega arith) (start .pre .1) (if2 .if2 .taken))))
     (λ c κs. search needs)
-    (λ c. let s = c .before .before .before .before .before .before .before in negative-n _ (c .before .before .count .result) (c .negated .result) (c .before .before .count .ensures) (c .before .if3 .left) (c .negated .ensures) ∙ sym (ap reading (text-minus (s .args .s .now) (s .args .at) (s .args .end) (omega arith) (s .pre .1) (c .before .before .before .if2 .taken))))
+    (λ c.
+    let if3 = c .before in
+    let count = if3 .before in
+    let if2 = count .before in
+    let start = if2 .before .before .before .before in
+    negative-n _ (count .count .result) (c .negated .result) (count .count .ensures) (if3 .if3 .left) (c .negated .ensures) ∙ sym
+    (ap reading (text-minus (start .args .s .now) (start .args .at) (start .args .end) (omega arith) (start .pre .1) (if2 .if2 .taken))))
     (λ c. search needs)
     (λ c. search needs)
-    (λ c. let s = c .before .before .before .before .before .before .before in alone-none (s .args .s .now) (s .args .at + 1) (s .args .end) (c .if5 .taken) ∙ sym (ap reading (text-nought (s .args .s .now) (s .args .at) (s .args .end) (omega arith) (s .pre .1) (c .before .if4 .taken))))
-    (λ c. let s = c .before .before .before .before .before .before .before in alone-some (s .args .s .now) (s .args .at + 1) (s .args .end) (omega arith) (s .pre .1) ∙ sym (ap reading (text-nought (s .args .s .now) (s .args .at) (s .args .end) (omega arith) (s .pre .1) (c .before .if4 .taken))))
+    (λ c.
+    let if4 = c .before in
+    let start = if4 .before .before .before .before .before .before in
+    alone-none (start .args .s .now) (start .args .at + 1) (start .args .end) (c .if5 .taken) ∙ sym
+    (ap reading (text-nought (start .args .s .now) (start .args .at) (start .args .end) (omega arith) (start .pre .1) (if4 .if4 .taken))))
+    (λ c.
+    let if4 = c .before in
+    let start = if4 .before .before .before .before .before .before in
+    alone-some (start .args .s .now) (start .args .at + 1) (start .args .end) (omega arith) (start .pre .1) ∙ sym
+    (ap reading (text-nought (start .args .s .now) (start .args .at) (start .args .end) (omega arith) (start .pre .1) (if4 .if4 .taken))))
     (λ c κs. search needs)
-    (λ c. let s = c .before .before .before .before .before .before .before .before in positive-0 _ (c .before .count2 .result) (c .before .count2 .ensures) (c .if6 .taken) ∙ sym (ap reading (text-other (s .args .s .now) (s .args .at) (s .args .end) (omega arith) (s .pre .1) (c .before .before .before .before .if2 .left) (c .before .before .if4 .left))))
-    (λ c. let s = c .before .before .before .before .before .before .before .before in positive-n _ (c .before .count2 .result) (c .before .count2 .ensures) (c .if6 .left) ∙ sym (ap reading (text-other (s .args .s .now) (s .args .at) (s .args .end) (omega arith) (s .pre .1) (c .before .before .before .before .if2 .left) (c .before .before .if4 .left)))))
+    (λ c.
+    let count2 = c .before in
+    let if4 = count2 .before in
+    let if2 = if4 .before .before in
+    let start = if2 .before .before .before .before in
+    positive-0 _ (count2 .count2 .result) (count2 .count2 .ensures) (c .if6 .taken) ∙ sym
+    (ap reading (text-other (start .args .s .now) (start .args .at) (start .args .end) (omega arith) (start .pre .1) (if2 .if2 .left) (if4 .if4 .left))))
+    (λ c.
+    let count2 = c .before in
+    let if4 = count2 .before in
+    let if2 = if4 .before .before in
+    let start = if2 .before .before .before .before in
+    positive-n _ (count2 .count2 .result) (count2 .count2 .ensures) (c .if6 .left) ∙ sym
+    (ap reading (text-other (start .args .s .now) (start .args .at) (start .args .end) (omega arith) (start .pre .1) (if2 .if2 .left) (if4 .if4 .left)))))

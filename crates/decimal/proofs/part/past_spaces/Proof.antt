@@ -19,8 +19,18 @@ pub past-spaces-spec : {M : Type 1} → statement M
 past-spaces-spec = tie.close (tie.spec Inv-loop μ-loop
     (λ c. let s = c in (omega arith, s .pre .0, refl))
     (λ c. search needs)
-    (λ c. let s = c .before .before .before .before in let l = c .before .before .before .loop in (l .inv .0, l .inv .1, l .inv .2 ∙ trim-stop (s .args .s .now) (l .i) (s .args .end) (c .before .before .loop-test .taken) (s .pre .1) (c .if1 .taken)))
+    (λ c.
+    let test = c .before .before in
+    let loop = test .before in
+    let start = loop .before in
+    let l = loop .loop in
+    (l .inv .0, l .inv .1, l .inv .2 ∙ trim-stop (start .args .s .now) (l .i) (start .args .end) (test .loop-test .taken) (start .pre .1) (c .if1 .taken)))
     (λ c. search needs)
     (λ c. search needs)
-    (λ c. let s = c .before .before .before .before in let l = c .before .before .before .loop in (omega arith, omega arith, l .inv .2 ∙ trim-space (s .args .s .now) (l .i) (s .args .end) (c .before .before .loop-test .taken) (s .pre .1) (c .if1 .left)))
+    (λ c.
+    let test = c .before .before in
+    let loop = test .before in
+    let start = loop .before in
+    let l = loop .loop in
+    (omega arith, omega arith, l .inv .2 ∙ trim-space (start .args .s .now) (l .i) (start .args .end) (test .loop-test .taken) (start .pre .1) (c .if1 .left)))
     (λ c. let s = c .before .before in let l = c .before .loop in (l .inv .0, l .inv .1, l .inv .2 ∙ trim-none (s .args .s .now) (l .i) (s .args .end) (omega arith))))

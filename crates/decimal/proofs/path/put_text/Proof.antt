@@ -13,6 +13,13 @@ put-text-spec = tie.close (tie.spec
     (λ c. let s = c .before .before in omega (arith, s .pre, ap length (text-0 (s .args .path) (c .if1 .taken))))
     (λ c. search needs)
     (λ c. let s = c .before .before in sym (ap (sets (s .args .s .now) (s .args .at)) (text-0 (s .args .path) (c .if1 .taken))))
-    (λ c κs. let s = c .before .before .before in omega (arith, s .pre, text-length (s .args .path) (c .before .if1 .left)))
+    (λ c κs.
+    let if1 = c .before in
+    let start = if1 .before .before in
+    omega (arith, start .pre, text-length (start .args .path) (if1 .if1 .left)))
     (λ c. search needs)
-    (λ c. let s = c .before .before .before .before .before .before in c .before .before .put-marks .ensures ∙ sym (ap (sets (s .args .s .now) (s .args .at)) (text-some (s .args .path) (c .before .before .before .before .if1 .left)))))
+    (λ c.
+    let put-marks = c .before .before in
+    let if1 = put-marks .before .before in
+    let start = if1 .before .before in
+    put-marks .put-marks .ensures ∙ sym (ap (sets (start .args .s .now) (start .args .at)) (text-some (start .args .path) (if1 .if1 .left)))))

@@ -11,8 +11,29 @@ use Rattle.decimal.proofs.path.read.Tie as tie
 pub read-spec : {M : Type 1} → statement M
 read-spec = tie.close (tie.spec
     (λ c κs. search needs)
-    (λ c. let s = c .before .before .before in path-nowhere (s .args .s .now) (s .args .at) (no-room (s .args .at) pathColumns (length (s .args .s .now)) (c .before .has .result) (c .before .has .ensures) (c .if1 .taken)))
-    (λ c. let s = c .before .before .before in omega (arith, room (s .args .at) pathColumns (length (s .args .s .now)) (c .before .has .result) (c .before .has .ensures) (c .if1 .left)))
-    (λ c κs. let s = c .before .before .before in (omega arith, room (s .args .at) pathColumns (length (s .args .s .now)) (c .before .has .result) (c .before .has .ensures) (c .if1 .left)))
-    (λ c κs. let s = c .before .before .before .before in (c .past-spaces .ensures .1, room (s .args .at) pathColumns (length (s .args .s .now)) (c .before .before .has .result) (c .before .before .has .ensures) (c .before .if1 .left), omega (arith, c .past-spaces .ensures .0)))
-    (λ c. let s = c .before .before .before .before .before in path-read (s .args .s .now) (s .args .at) (c .before .past-spaces .result) (c .read-text .result) (room (s .args .at) pathColumns (length (s .args .s .now)) (c .before .before .before .has .result) (c .before .before .before .has .ensures) (c .before .before .if1 .left)) (c .before .past-spaces .ensures .2) (c .read-text .ensures)))
+    (λ c.
+    let has = c .before in
+    let start = has .before .before in
+    path-nowhere (start .args .s .now) (start .args .at)
+    (no-room (start .args .at) pathColumns (length (start .args .s .now)) (has .has .result) (has .has .ensures) (c .if1 .taken)))
+    (λ c.
+    let has = c .before in
+    let start = has .before .before in
+    omega (arith, room (start .args .at) pathColumns (length (start .args .s .now)) (has .has .result) (has .has .ensures) (c .if1 .left)))
+    (λ c κs.
+    let has = c .before in
+    let start = has .before .before in
+    (omega arith, room (start .args .at) pathColumns (length (start .args .s .now)) (has .has .result) (has .has .ensures) (c .if1 .left)))
+    (λ c κs.
+    let if1 = c .before in
+    let has = if1 .before in
+    let start = has .before .before in
+    (c .past-spaces .ensures .1, room (start .args .at) pathColumns (length (start .args .s .now)) (has .has .result) (has .has .ensures) (if1 .if1 .left), omega (arith, c .past-spaces .ensures .0)))
+    (λ c.
+    let past-spaces = c .before in
+    let if1 = past-spaces .before in
+    let has = if1 .before in
+    let start = has .before .before in
+    path-read (start .args .s .now) (start .args .at) (past-spaces .past-spaces .result) (c .read-text .result)
+    (room (start .args .at) pathColumns (length (start .args .s .now)) (has .has .result) (has .has .ensures) (if1 .if1 .left))
+    (past-spaces .past-spaces .ensures .2) (c .read-text .ensures)))

@@ -22,14 +22,38 @@ read-marks-spec = tie.close (tie.spec Inv-loop μ-loop
     (λ c. search needs)
     (λ c. search needs)
     (λ c. search needs)
-    (λ c. let s = c .before .before .before .before in let l = c .before .before .before .loop in marks-not (s .args .s .now) (s .args .at) (l .i) (s .args .end) (s .pre .1) (c .before .before .loop-test .taken) (l .inv .1) (λ e. omega (arith, e, c .if1 .taken)) (λ e. omega (arith, e, c .if1 .taken)))
+    (λ c.
+    let test = c .before .before in
+    let loop = test .before in
+    let start = loop .before in
+    let l = loop .loop in
+    marks-not (start .args .s .now) (start .args .at) (l .i) (start .args .end) (start .pre .1) (test .loop-test .taken) (l .inv .1)
+    (λ e. omega (arith, e, c .if1 .taken)) (λ e. omega (arith, e, c .if1 .taken)))
     (λ c. search needs)
-    (λ c. let s = c .before .before .before .before .before in let l = c .before .before .before .before .loop in marks-not (s .args .s .now) (s .args .at) (l .i) (s .args .end) (s .pre .1) (c .before .before .before .loop-test .taken) (l .inv .1) (λ e. omega (arith, e, c .if2 .taken)) (λ e. omega (arith, e, c .if2 .taken)))
-    (λ c. let s = c .before .before .before .before .before in let l = c .before .before .before .before .loop in omega (arith, marks-small (s .args .s .now) (l .i) (s .args .end) (s .pre .1) (l .path) (omega arith) (l .inv .2)))
+    (λ c.
+    let test = c .before .before .before in
+    let loop = test .before in
+    let start = loop .before in
+    let l = loop .loop in
+    marks-not (start .args .s .now) (start .args .at) (l .i) (start .args .end) (start .pre .1) (test .loop-test .taken) (l .inv .1)
+    (λ e. omega (arith, e, c .if2 .taken)) (λ e. omega (arith, e, c .if2 .taken)))
+    (λ c.
+    let loop = c .before .before .before .before in
+    let start = loop .before in
+    let l = loop .loop in
+    omega (arith, marks-small (start .args .s .now) (l .i) (start .args .end) (start .pre .1) (l .path) (omega arith) (l .inv .2)))
     (λ c. search needs)
     (λ c. search needs)
-    (λ c. let s = c .before .before .before .before .before in let l = c .before .before .before .before .loop in omega (arith, c .if2 .left, marks-small (s .args .s .now) (l .i) (s .args .end) (s .pre .1) (l .path) (omega arith) (l .inv .2)))
+    (λ c.
+    let loop = c .before .before .before .before in
+    let start = loop .before in
+    let l = loop .loop in
+    omega (arith, c .if2 .left, marks-small (start .args .s .now) (l .i) (start .args .end) (start .pre .1) (l .path) (omega arith) (l .inv .2)))
     (λ c. search needs)
     (λ c. search needs)
-    (λ c. let s = c .before .before .before .before .before in let l = c .before .before .before .before .loop in (omega arith, omega arith, marks-more (s .args .s .now) (l .i) (s .args .end) (s .pre .1) (omega arith) (l .inv .1) (l .path) (l .inv .2) (omega arith) (omega arith)))
+    (λ c.
+    let loop = c .before .before .before .before in
+    let start = loop .before in
+    let l = loop .loop in
+    (omega arith, omega arith, marks-more (start .args .s .now) (l .i) (start .args .end) (start .pre .1) (omega arith) (l .inv .1) (l .path) (l .inv .2) (omega arith) (omega arith)))
     (λ c. let s = c .before .before in let l = c .before .loop in marks-all (s .args .s .now) (s .args .at) (l .i) (s .args .end) (l .path) (omega arith) (l .inv .2)))

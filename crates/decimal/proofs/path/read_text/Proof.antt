@@ -12,7 +12,17 @@ read-text-spec = tie.close (tie.spec
     (λ c. let s = c .before .before in text-none (s .args .s .now) (s .args .at) (s .args .end) (c .if1 .taken))
     (λ c. search needs)
     (λ c. search needs)
-    (λ c. let s = c .before .before .before .before .before in text-alone (s .args .s .now) (s .args .at) (s .args .end) (omega arith) (s .pre .1) (c .before .if2 .taken) (c .if3 .taken))
-    (λ c. let s = c .before .before .before .before .before in text-led (s .args .s .now) (s .args .at) (s .args .end) (s .pre .1) (c .before .if2 .taken) (omega arith))
+    (λ c.
+    let if2 = c .before in
+    let start = if2 .before .before .before .before in
+    text-alone (start .args .s .now) (start .args .at) (start .args .end) (omega arith) (start .pre .1) (if2 .if2 .taken) (c .if3 .taken))
+    (λ c.
+    let if2 = c .before in
+    let start = if2 .before .before .before .before in
+    text-led (start .args .s .now) (start .args .at) (start .args .end) (start .pre .1) (if2 .if2 .taken) (omega arith))
     (λ c κs. search needs)
-    (λ c. let s = c .before .before .before .before .before in c .read-marks .ensures ∙ ap pathReading (text-marks (s .args .s .now) (s .args .at) (s .args .end) (omega arith) (s .pre .1) (c .before .if2 .left))))
+    (λ c.
+    let if2 = c .before in
+    let start = if2 .before .before .before .before in
+    c .read-marks .ensures ∙ ap pathReading
+    (text-marks (start .args .s .now) (start .args .at) (start .args .end) (omega arith) (start .pre .1) (if2 .if2 .left))))

@@ -11,11 +11,46 @@ use Rattle.decimal.proofs.path.write.Tie as tie
 pub write-spec : {M : Type 1} → statement M
 write-spec = tie.close (tie.spec
     (λ c κs. search needs)
-    (λ c. let s = c .before .before .before in put-nowhere (s .args .s .now) (s .args .at) pathColumns (writtenPath (pathOf (s .args .path))) (no-room (s .args .at) pathColumns (length (s .args .s .now)) (c .before .has .result) (c .before .has .ensures) (c .if1 .taken)))
+    (λ c.
+    let has = c .before in
+    let start = has .before .before in
+    put-nowhere (start .args .s .now) (start .args .at) pathColumns (writtenPath (pathOf (start .args .path)))
+    (no-room (start .args .at) pathColumns (length (start .args .s .now)) (has .has .result) (has .has .ensures) (c .if1 .taken)))
     (λ c κs. search needs)
-    (λ c. let s = c .before .before .before .before .before in put-wide (s .args .s .now) (s .args .at) pathColumns (c .before .columns .result) (pathText (pathOf (s .args .path))) (c .before .columns .ensures) (c .if2 .taken))
-    (λ c. let s = c .before .before .before .before .before in omega (arith, room (s .args .at) pathColumns (length (s .args .s .now)) (c .before .before .before .has .result) (c .before .before .before .has .ensures) (c .before .before .if1 .left)))
-    (λ c κs. let s = c .before .before .before .before .before .before in omega (arith, room (s .args .at) pathColumns (length (s .args .s .now)) (c .before .before .before .before .has .result) (c .before .before .before .before .has .ensures) (c .before .before .before .if1 .left)))
-    (λ c κs. let s = c .before .before .before .before .before .before .before .before .before .before in omega (arith, room (s .args .at) pathColumns (length (s .args .s .now)) (c .before .before .before .before .before .before .before .before .has .result) (c .before .before .before .before .before .before .before .before .has .ensures) (c .before .before .before .before .before .before .before .if1 .left), c .before .before .before .before .before .before .columns .ensures, c .before .before .before .before .before .if2 .left, c .before .before .before .put-spaces .kept .0))
+    (λ c.
+    let columns = c .before in
+    let start = columns .before .before .before .before in
+    put-wide (start .args .s .now) (start .args .at) pathColumns (columns .columns .result) (pathText (pathOf (start .args .path)))
+    (columns .columns .ensures) (c .if2 .taken))
+    (λ c.
+    let if1 = c .before .before in
+    let has = if1 .before in
+    let start = has .before .before in
+    omega (arith, room (start .args .at) pathColumns (length (start .args .s .now)) (has .has .result) (has .has .ensures) (if1 .if1 .left)))
+    (λ c κs.
+    let if1 = c .before .before .before in
+    let has = if1 .before in
+    let start = has .before .before in
+    omega (arith, room (start .args .at) pathColumns (length (start .args .s .now)) (has .has .result) (has .has .ensures) (if1 .if1 .left)))
+    (λ c κs.
+    let put-spaces = c .before .before .before in
+    let if2 = put-spaces .before .before in
+    let columns = if2 .before in
+    let if1 = columns .before in
+    let has = if1 .before in
+    let start = has .before .before in
+    omega
+    (arith, room (start .args .at) pathColumns (length (start .args .s .now)) (has .has .result) (has .has .ensures) (if1 .if1 .left), columns .columns .ensures, if2 .if2 .left, put-spaces .put-spaces .kept .0))
     (λ c. search needs)
-    (λ c. let s = c .before .before .before .before .before .before .before .before .before .before .before .before .before in put-there (s .args .s .now) (s .args .at) pathColumns (c .before .before .before .before .before .before .before .before .before .columns .result) (pathText (pathOf (s .args .path))) (c .before .before .before .before .before .before .before .before .before .columns .ensures) (c .before .before .before .before .before .before .put-spaces .last .0) (c .before .before .put-text .last .0) (room (s .args .at) pathColumns (length (s .args .s .now)) (c .before .before .before .before .before .before .before .before .before .before .before .has .result) (c .before .before .before .before .before .before .before .before .before .before .before .has .ensures) (c .before .before .before .before .before .before .before .before .before .before .if1 .left)) (c .before .before .before .before .before .before .before .before .if2 .left) (c .before .before .before .before .before .before .put-spaces .ensures) (c .before .before .put-text .ensures)))
+    (λ c.
+    let put-text = c .before .before in
+    let put-spaces = put-text .before .before .before .before in
+    let if2 = put-spaces .before .before in
+    let columns = if2 .before in
+    let if1 = columns .before in
+    let has = if1 .before in
+    let start = has .before .before in
+    put-there (start .args .s .now) (start .args .at) pathColumns (columns .columns .result) (pathText (pathOf (start .args .path)))
+    (columns .columns .ensures) (put-spaces .put-spaces .last .0) (put-text .put-text .last .0)
+    (room (start .args .at) pathColumns (length (start .args .s .now)) (has .has .result) (has .has .ensures) (if1 .if1 .left)) (if2 .if2 .left)
+    (put-spaces .put-spaces .ensures) (put-text .put-text .ensures)))

@@ -26,7 +26,10 @@ array-read-if1 : tie.Need-array-read-if1 Inv-loop μ-loop
 array-read-if1 c = search needs
 
 returns : tie.Need-returns Inv-loop μ-loop
-returns c = some-leaf (c .before .before .before .args .t1) (c .before .before .loop .k) (omega arith) (c .if1 .taken)
+returns c =
+    let loop = c .before .before in
+    let start = loop .before in
+    some-leaf (start .args .t1) (loop .loop .k) (omega arith) (c .if1 .taken)
 
 add-k : tie.Need-add-k Inv-loop μ-loop
 add-k c = search needs
@@ -35,10 +38,16 @@ loop-less : tie.Need-loop-less Inv-loop μ-loop
 loop-less c = omega arith
 
 loop-again : tie.Need-loop-again Inv-loop μ-loop
-loop-again c = (omega arith, one-more (c .before .before .before .args .t1) (c .before .before .loop .k) (c .before .before .loop .inv .1) (c .if1 .left))
+loop-again c =
+    let loop = c .before .before in
+    let start = loop .before in
+    (omega arith, one-more (start .args .t1) (loop .loop .k) (loop .loop .inv .1) (c .if1 .left))
 
 returns-2 : tie.Need-returns-2 Inv-loop μ-loop
-returns-2 c = no-leaf (c .before .before .args .t1) (c .before .loop .k) (omega arith) (c .before .loop .inv .1)
+returns-2 c =
+    let loop = c .before in
+    let start = loop .before in
+    no-leaf (start .args .t1) (loop .loop .k) (omega arith) (loop .loop .inv .1)
 
 pub all-zero-spec : {M : Type 1} → statement M
 all-zero-spec =

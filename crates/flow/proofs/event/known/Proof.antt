@@ -12,16 +12,28 @@ returns : tie.Need-returns
 returns c = known-value (c .before .args .action) (c .before .args .leaves) (c .before .fits .action .fits) (c .if1 .taken)
 
 returns-2 : tie.Need-returns-2
-returns-2 c = unknown (c .before .before .args .action) (c .before .before .args .leaves) (c .before .before .fits .action .fits) (c .before .if1 .left) (λ e. omega arith) (λ e. omega arith) (λ e. omega arith)
+returns-2 c =
+    let if1 = c .before in
+    let start = if1 .before in
+    unknown (start .args .action) (start .args .leaves) (start .fits .action .fits) (if1 .if1 .left) (λ e. omega arith) (λ e. omega arith)
+    (λ e. omega arith)
 
 returns-3 : tie.Need-returns-3
-returns-3 c = unknown (c .before .before .before .args .action) (c .before .before .before .args .leaves) (c .before .before .before .fits .action .fits) (c .before .before .if1 .left) (λ e. omega arith) (λ e. omega arith) (λ e. omega arith)
+returns-3 c =
+    let if1 = c .before .before in
+    let start = if1 .before in
+    unknown (start .args .action) (start .args .leaves) (start .fits .action .fits) (if1 .if1 .left) (λ e. omega arith) (λ e. omega arith)
+    (λ e. omega arith)
 
 all-zero-requires : tie.Need-all-zero-requires
 all-zero-requires c κs = search needs
 
 returns-4 : tie.Need-returns-4
-returns-4 c = known-other (c .before .before .before .before .args .action) (c .before .before .before .before .args .leaves) (c .before .before .before .before .fits .action .fits) (c .before .before .before .if1 .left) (omega arith) (omega arith) (c .all-zero .result) (c .all-zero .ensures)
+returns-4 c =
+    let if1 = c .before .before .before in
+    let start = if1 .before in
+    known-other (start .args .action) (start .args .leaves) (start .fits .action .fits) (if1 .if1 .left) (omega arith) (omega arith)
+    (c .all-zero .result) (c .all-zero .ensures)
 
 pub known-spec : {M : Type 1} → statement M
 known-spec = tie.close (tie.spec returns returns-2 returns-3 all-zero-requires returns-4)

@@ -20,19 +20,20 @@ returns c =
 
 returns-2 : tie.Need-returns-2
 returns-2 c =
-    let unread2 = c in
-    let if2 = unread2 .before in
+    let start-at = c .before in
+    let if2 = start-at in
     let if1 = if2 .before .before in
     let start = if1 .before .before in
-    says-unread (unread2 .unread2 .result) (eventOf (start .args .s .now)) (unread2 .unread2 .ensures) (not-ended (start .args .s .now) (if1 .if1 .left) (if2 .if2 .taken))
+    says-unread (c .unread2 .result) (eventOf (start .args .s .now)) (c .unread2 .ensures)
+    (not-ended (start .args .s .now) (if1 .if1 .left) (if2 .if2 .taken))
 
 returns-3 : tie.Need-returns-3
 returns-3 c =
-    let fields = c in
-    let if2 = fields .before in
+    let start-at = c .before in
+    let if2 = start-at in
     let if1 = if2 .before .before in
     let start = if1 .before .before in
-    subst (Says (fields .read-fields .result)) (sym (by-fields (start .args .s .now) (if1 .if1 .left) (if2 .if2 .left))) (fields .read-fields .ensures)
+    subst (Says (c .read-fields .result)) (sym (by-fields (start .args .s .now) (if1 .if1 .left) (if2 .if2 .left))) (c .read-fields .ensures)
 
 pub read-event-spec : {M : Type 1} → statement M
 read-event-spec = tie.close (tie.spec

@@ -15,36 +15,36 @@ use Rattle.flow.proofs.event.unread.Reads as unread-reads
 
 returns : tie.Need-returns
 returns c =
-    let unread = c in
-    let told = unread .before in
+    let start-at = c .before in
+    let told = start-at in
     let read = told .before .before in
     let start = read .before .before in
-    says-unread (unread .unread .result) (fieldsSay (start .args .s .now)) (unread .unread .ensures) (no-path (start .args .s .now) (sym (told .enum-told .given .1) ∙ read .read .ensures))
+    says-unread (c .unread .result) (fieldsSay (start .args .s .now)) (c .unread .ensures)
+    (no-path (start .args .s .now) (sym (told .enum-told .given .1) ∙ read .read .ensures))
 
 returns-2 : tie.Need-returns-2
 returns-2 c =
-    let unread2 = c in
-    let told = unread2 .before in
+    let start-at = c .before in
+    let told = start-at in
     let action = told .before .before in
     let path = action .before .before in
     let read = path .before .before in
     let start = read .before .before in
-    says-unread (unread2 .unread2 .result) (fieldsSay (start .args .s .now)) (unread2 .unread2 .ensures)
+    says-unread (c .unread2 .result) (fieldsSay (start .args .s .now)) (c .unread2 .ensures)
     (no-action (start .args .s .now) (path .path .given .0 .0) (sym (path .path .given .1) ∙ read .read .ensures) (sym (told .enum-told2 .given .1) ∙ action .read2 .ensures))
 
 returns-3 : tie.Need-returns-3
 returns-3 c =
-    let event = c in
-    let leaves = event .before in
+    let start-at = c .before in
+    let leaves = start-at in
     let number = leaves .before .before in
     let action = number .before .before in
     let path = action .before .before in
     let read = path .before .before in
     let start = read .before .before in
-    subst (Says (event .event-of .result))
-    (sym (fields-are (start .args .s .now) (path .path .given .0 .0) (sym (path .path .given .1) ∙ read .read .ensures)
-    (number .action .given .0 .0) (sym (number .action .given .1) ∙ action .read2 .ensures) (leaves .read-numbers .result) (leaves .read-numbers .ensures)))
-    (event .event-of .ensures)
+    subst (Says (c .event-of .result))
+    (sym (fields-are (start .args .s .now) (path .path .given .0 .0) (sym (path .path .given .1) ∙ read .read .ensures) (number .action .given .0 .0) (sym (number .action .given .1) ∙ action .read2 .ensures) (leaves .read-numbers .result) (leaves .read-numbers .ensures)))
+    (c .event-of .ensures)
 
 pub read-fields-spec : {M : Type 1} → statement M
 read-fields-spec = tie.close (tie.spec

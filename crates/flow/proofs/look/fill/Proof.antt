@@ -10,29 +10,34 @@ use Rattle.flow.proofs.open.open.Reads as open-reads
 
 returns : tie.Need-returns
 returns c =
-    let opening = c .before .before in
-    let start = opening .before .before .before .before in
-    let o = opening .«open» in
-    fill-shut (start .args .rows .now) (start .args .state .now) (start .args .value .now) (start .args .list .now) (o .last .1 .1 .1 .0) (o .last .1 .1 .1 .1 .0) (o .result) (o .ensures) (c .if1 .taken)
+    let start-at = c .before .before in
+    let start-at-2 = start-at .before .before .before .before in
+    let start = start-at-2 in
+    let o = start-at .«open» in
+    fill-shut (start .args .rows .now) (start .args .state .now) (start .args .value .now) (start .args .list .now) (o .last .1 .1 .1 .0)
+    (o .last .1 .1 .1 .1 .0) (o .result) (o .ensures) (c .if1 .taken)
 
 show-requires : tie.Need-show-requires
 show-requires c κs =
     let if1 = c .before .before .before .before .before in
-    let opening = if1 .before .before in
+    let start-at = if1 .before .before in
+    let opening = start-at in
     let start = opening .before .before .before .before in
     let o = opening .«open» in
-    fill-fine (start .args .rows .now) (start .args .state .now) (start .args .value .now) (start .args .list .now) (o .last .1 .1 .1 .0) (o .last .1 .1 .1 .1 .0) (o .result) (o .ensures) (if1 .if1 .left)
+    fill-fine (start .args .rows .now) (start .args .state .now) (start .args .value .now) (start .args .list .now) (o .last .1 .1 .1 .0)
+    (o .last .1 .1 .1 .1 .0) (o .result) (o .ensures) (if1 .if1 .left)
 
 returns-2 : tie.Need-returns-2
 returns-2 c =
-    let shown = c .before .before .before in
-    let if1 = shown .before .before .before .before .before .before in
+    let show = c .before .before .before in
+    let start-at = show .before .before .before .before .before .before in
+    let if1 = start-at in
     let opening = if1 .before .before in
     let start = opening .before .before .before .before in
     let o = opening .«open» in
-    let h = shown .show in
-    fill-ready (start .args .rows .now) (start .args .state .now) (start .args .value .now) (start .args .list .now) (o .last .1 .1 .1 .0) (o .last .1 .1 .1 .1 .0) (o .result) (o .ensures) (if1 .if1 .left)
-    (h .result) (h .last .1 .1 .1 .1 .0) (h .last .1 .1 .1 .1 .1 .0) (h .ensures)
+    let h = show .show in
+    fill-ready (start .args .rows .now) (start .args .state .now) (start .args .value .now) (start .args .list .now) (o .last .1 .1 .1 .0)
+    (o .last .1 .1 .1 .1 .0) (o .result) (o .ensures) (if1 .if1 .left) (h .result) (h .last .1 .1 .1 .1 .0) (h .last .1 .1 .1 .1 .1 .0) (h .ensures)
 
 pub fill-spec : {M : Type 1} → statement M
 fill-spec = tie.close (tie.spec (λ c κs. search needs) returns show-requires (λ c. search needs) (λ c. search needs) returns-2)

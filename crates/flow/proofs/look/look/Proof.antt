@@ -9,17 +9,21 @@ use Rattle.flow.proofs.look.fill.Reads as fill-reads
 
 slice-aggregate-result : tie.Need-slice-aggregate-result
 slice-aggregate-result c =
-    let filled = c .before .before .before .before in
-    let start = filled .before .before .before .before in
-    let f = filled .fill in
-    part-long (start .args .rows .now) (start .args .state .now) (start .args .value .now) (start .args .list .now) (f .result) (f .last .1 .1 .0) (f .last .1 .1 .1 .0) (f .ensures)
+    let fill = c .before .before .before .before in
+    let start-at = fill .before .before .before .before in
+    let start = start-at in
+    let f = fill .fill in
+    part-long (start .args .rows .now) (start .args .state .now) (start .args .value .now) (start .args .list .now) (f .result) (f .last .1 .1 .0)
+    (f .last .1 .1 .1 .0) (f .ensures)
 
 returns : tie.Need-returns
 returns c =
-    let filled = c .before .before .before .before in
-    let start = filled .before .before .before .before in
-    let f = filled .fill in
-    look-is (start .args .rows .now) (start .args .state .now) (start .args .value .now) (start .args .list .now) (f .result) (f .last .1 .1 .0) (f .last .1 .1 .1 .0) (f .ensures)
+    let fill = c .before .before .before .before in
+    let start-at = fill .before .before .before .before in
+    let start = start-at in
+    let f = fill .fill in
+    look-is (start .args .rows .now) (start .args .state .now) (start .args .value .now) (start .args .list .now) (f .result) (f .last .1 .1 .0)
+    (f .last .1 .1 .1 .0) (f .ensures)
 
 pub look-spec : {M : Type 1} → statement M
 look-spec = tie.close (tie.spec (λ c κs. search needs) slice-aggregate-result (λ c. search needs) returns)

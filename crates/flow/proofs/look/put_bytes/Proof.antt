@@ -32,7 +32,10 @@ loop-less c = search needs
 
 loop-again : tie.Need-loop-again Inv-loop μ-loop
 loop-again c =
-    let s = c .before .before .before in let a = s .args in let l = c .before .before .loop in
+    let loop = c .before .before in
+    let start = loop .before in
+    let a = start .args in
+    let l = loop .loop in
     (omega arith, simp length-set (l .inv .1), put-more (a .from .now) (a .list .now) (l .list) (l .i) _ (omega arith) (omega arith) (l .inv .2) refl)
 
 same-length : tie.Need-same-length Inv-loop μ-loop

@@ -1,7 +1,6 @@
 -- `open` meets its contract, each way out by its law. Assumes nothing.
 use mathlib.Core.Path.{refl}
 use native.Mathlib.Omega.{arith}
-use borrow.Author.Needs.{needs}
 use Rattle.flow.proofs.SiteLaws.{some-rows, few-rows, is-fine}
 use Rattle.flow.proofs.OpenLaws.{site-of, some-words, open-20, open-length, open-misfit, ends, open-22, open-23, open-0}
 use Rattle.flow.proofs.open.open.Statement.{statement}
@@ -32,30 +31,33 @@ mul-if2 c =
 
 returns-2 : tie.Need-returns-2
 returns-2 c =
-    let if2 = c in
-    let if1 = if2 .before in
+    let start-at = c .before in
+    let if1 = start-at in
     let rows = if1 .before in
     let start = rows .before .before in
     let q = rows .accepted-rows in
     let z = site-of (start .args .rows .now) (q .result) (q .ensures .0) (q .ensures .1 .0) (q .ensures .1 .1 .0) (if1 .if1 .left) .3 in
     let wr = some-words (start .args .rows .now) (q .result) (q .ensures .0) (q .ensures .1 .1 .0) (if1 .if1 .left) in
-    open-length (start .args .rows .now) (start .args .state .now) (q .last .1 .0) (start .args .words .now) (start .args .fits) (q .result) z wr (if2 .if2 .taken)
+    open-length (start .args .rows .now) (start .args .state .now) (q .last .1 .0) (start .args .words .now) (start .args .fits) (q .result) z wr
+    (c .if2 .taken)
 
 returns-3 : tie.Need-returns-3
 returns-3 c =
-    let if3 = c in
-    let if1 = if3 .before .before in
+    let start-at = c .before .before in
+    let if1 = start-at in
     let rows = if1 .before in
     let start = rows .before .before in
     let q = rows .accepted-rows in
     let z = site-of (start .args .rows .now) (q .result) (q .ensures .0) (q .ensures .1 .0) (q .ensures .1 .1 .0) (if1 .if1 .left) .3 in
     let wr = some-words (start .args .rows .now) (q .result) (q .ensures .0) (q .ensures .1 .1 .0) (if1 .if1 .left) in
-    open-misfit (start .args .rows .now) (start .args .state .now) (q .last .1 .0) (start .args .words .now) (start .args .fits) (q .result) z wr (if3 .if3 .taken)
+    open-misfit (start .args .rows .now) (start .args .state .now) (q .last .1 .0) (start .args .words .now) (start .args .fits) (q .result) z wr
+    (c .if3 .taken)
 
 state-in-requires : tie.Need-state-in-requires
 state-in-requires c κs =
     let if2 = c .before .before in
-    let if1 = if2 .before in
+    let start-at = if2 .before in
+    let if1 = start-at in
     let rows = if1 .before in
     let start = rows .before .before in
     let q = rows .accepted-rows in
@@ -64,8 +66,9 @@ state-in-requires c κs =
 
 held-requires : tie.Need-held-requires
 held-requires c κs =
-    let copied = c .before .before .before in
-    let if3 = copied .before .before in
+    let state-in = c .before .before .before in
+    let start-at = state-in .before .before in
+    let if3 = start-at in
     let if2 = if3 .before in
     let if1 = if2 .before in
     let rows = if1 .before in
@@ -73,15 +76,14 @@ held-requires c κs =
     let q = rows .accepted-rows in
     let z = site-of (start .args .rows .now) (q .result) (q .ensures .0) (q .ensures .1 .0) (q .ensures .1 .1 .0) (if1 .if1 .left) .3 in
     let wr = some-words (start .args .rows .now) (q .result) (q .ensures .0) (q .ensures .1 .1 .0) (if1 .if1 .left) in
-    let w = copied .state-in in (
-      (some-rows z, is-fine z),
-      (ends (start .args .rows .now) (start .args .state .now) (q .last .1 .0) (w .last .1 .1 .0) (start .args .fits) (q .result) z wr (if3 .if3 .left) (if2 .if2 .left) (w .ensures .1) (w .ensures .0), refl),
-    )
+    let w = state-in .state-in in
+    ((some-rows z, is-fine z), (ends (start .args .rows .now) (start .args .state .now) (q .last .1 .0) (w .last .1 .1 .0) (start .args .fits) (q .result) z wr (if3 .if3 .left) (if2 .if2 .left) (w .ensures .1) (w .ensures .0), refl))
 
 returns-4 : tie.Need-returns-4
 returns-4 c =
     let held = c .before in
-    let copied = held .before .before .before .before in
+    let start-at = held .before .before .before .before in
+    let copied = start-at in
     let if3 = copied .before .before in
     let if2 = if3 .before in
     let if1 = if2 .before in
@@ -92,13 +94,14 @@ returns-4 c =
     let wr = some-words (start .args .rows .now) (q .result) (q .ensures .0) (q .ensures .1 .1 .0) (if1 .if1 .left) in
     let w = copied .state-in in
     let h = held .held in
-    open-22 (start .args .rows .now) (start .args .state .now) (q .last .1 .0) (w .last .1 .1 .0) (start .args .fits) (q .result) z wr (if3 .if3 .left) (if2 .if2 .left) (w .ensures .1) (w .ensures .0)
-    (h .result) (h .last .1 .1 .1 .0) (h .ensures .0) (c .if4 .taken)
+    open-22 (start .args .rows .now) (start .args .state .now) (q .last .1 .0) (w .last .1 .1 .0) (start .args .fits) (q .result) z wr
+    (if3 .if3 .left) (if2 .if2 .left) (w .ensures .1) (w .ensures .0) (h .result) (h .last .1 .1 .1 .0) (h .ensures .0) (c .if4 .taken)
 
 sub-stride : tie.Need-sub-stride
 sub-stride c =
     let if1 = c .before .before .before .before .before .before .before .before .before .before .before in
-    let rows = if1 .before in
+    let start-at = if1 .before in
+    let rows = start-at in
     let start = rows .before .before in
     let q = rows .accepted-rows in
     let z = site-of (start .args .rows .now) (q .result) (q .ensures .0) (q .ensures .1 .0) (q .ensures .1 .1 .0) (if1 .if1 .left) .3 in
@@ -107,7 +110,8 @@ sub-stride c =
 stride-requires : tie.Need-stride-requires
 stride-requires c κs =
     let if1 = c .before .before .before .before .before .before .before .before .before .before .before .before in
-    let rows = if1 .before in
+    let start-at = if1 .before in
+    let rows = start-at in
     let start = rows .before .before in
     let q = rows .accepted-rows in
     let z = site-of (start .args .rows .now) (q .result) (q .ensures .0) (q .ensures .1 .0) (q .ensures .1 .1 .0) (if1 .if1 .left) .3 in
@@ -115,8 +119,9 @@ stride-requires c κs =
 
 returns-5 : tie.Need-returns-5
 returns-5 c =
-    let strode = c .before in
-    let if4 = strode .before .before .before .before in
+    let stride = c .before in
+    let start-at = stride .before .before .before .before in
+    let if4 = start-at in
     let held = if4 .before in
     let copied = held .before .before .before .before in
     let if3 = copied .before .before in
@@ -129,14 +134,16 @@ returns-5 c =
     let wr = some-words (start .args .rows .now) (q .result) (q .ensures .0) (q .ensures .1 .1 .0) (if1 .if1 .left) in
     let w = copied .state-in in
     let h = held .held in
-    let m = strode .stride in
-    open-23 (start .args .rows .now) (start .args .state .now) (q .last .1 .0) (w .last .1 .1 .0) (start .args .fits) (q .result) z wr (if3 .if3 .left) (if2 .if2 .left) (w .ensures .1) (w .ensures .0)
-    (h .result) (h .last .1 .1 .1 .0) (h .ensures .0) (if4 .if4 .left) (m .result) (m .last .1 .0) _ (m .ensures) (c .if5 .taken)
+    let m = stride .stride in
+    open-23 (start .args .rows .now) (start .args .state .now) (q .last .1 .0) (w .last .1 .1 .0) (start .args .fits) (q .result) z wr
+    (if3 .if3 .left) (if2 .if2 .left) (w .ensures .1) (w .ensures .0) (h .result) (h .last .1 .1 .1 .0) (h .ensures .0) (if4 .if4 .left) (m .result)
+    (m .last .1 .0) _ (m .ensures) (c .if5 .taken)
 
 returns-6 : tie.Need-returns-6
 returns-6 c =
-    let strode = c .before in
-    let if4 = strode .before .before .before .before in
+    let stride = c .before in
+    let start-at = stride .before .before .before .before in
+    let if4 = start-at in
     let held = if4 .before in
     let copied = held .before .before .before .before in
     let if3 = copied .before .before in
@@ -149,9 +156,10 @@ returns-6 c =
     let wr = some-words (start .args .rows .now) (q .result) (q .ensures .0) (q .ensures .1 .1 .0) (if1 .if1 .left) in
     let w = copied .state-in in
     let h = held .held in
-    let m = strode .stride in
-    open-0 (start .args .rows .now) (start .args .state .now) (q .last .1 .0) (w .last .1 .1 .0) (start .args .fits) (q .result) z wr (if3 .if3 .left) (if2 .if2 .left) (w .ensures .1) (w .ensures .0)
-    (h .result) (h .last .1 .1 .1 .0) (h .ensures .0) (if4 .if4 .left) (m .result) (m .last .1 .0) _ (m .ensures) (c .if5 .left)
+    let m = stride .stride in
+    open-0 (start .args .rows .now) (start .args .state .now) (q .last .1 .0) (w .last .1 .1 .0) (start .args .fits) (q .result) z wr
+    (if3 .if3 .left) (if2 .if2 .left) (w .ensures .1) (w .ensures .0) (h .result) (h .last .1 .1 .1 .0) (h .ensures .0) (if4 .if4 .left) (m .result)
+    (m .last .1 .0) _ (m .ensures) (c .if5 .left)
 
 pub open-spec : {M : Type 1} → statement M
 open-spec = tie.close (tie.spec (λ c κs. c .before .pre .0) returns mul-if2 returns-2 returns-3 state-in-requires held-requires returns-4 sub-stride stride-requires returns-5 returns-6)

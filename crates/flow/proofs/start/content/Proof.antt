@@ -12,6 +12,18 @@ content-spec = tie.close (tie.spec
     (λ c κs. search needs)
     (λ c κs. search needs)
     (λ c κs. search needs)
-    (λ c. let a = c .before .before .before .before .args in content-truth (a .rows .now) (a .row) (c .before .before .cell-shape .ensures) (c .before .before .before .get .ensures) (c .before .if1 .taken) _ refl (c .truth .ensures))
+    (λ c.
+    let if1 = c .before in
+    let cell-shape = if1 .before in
+    let get = cell-shape .before in
+    let start = get .before in
+    let a = start .args in
+    content-truth (a .rows .now) (a .row) (cell-shape .cell-shape .ensures) (get .get .ensures) (if1 .if1 .taken) _ refl (c .truth .ensures))
     (λ c κs. search needs)
-    (λ c. let a = c .before .before .before .before .args in content-number (a .rows .now) (a .row) (c .before .before .cell-shape .ensures) (c .before .before .before .get .ensures) (c .before .if1 .left) (c .number .ensures)))
+    (λ c.
+    let if1 = c .before in
+    let cell-shape = if1 .before in
+    let get = cell-shape .before in
+    let start = get .before in
+    let a = start .args in
+    content-number (a .rows .now) (a .row) (cell-shape .cell-shape .ensures) (get .get .ensures) (if1 .if1 .left) (c .number .ensures)))

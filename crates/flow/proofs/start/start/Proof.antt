@@ -16,12 +16,13 @@ use Rattle.state.proofs.lent.state_out.Reads as state-out-reads
 
 returns : tie.Need-returns
 returns c =
-    let refused = c in
-    let if1 = refused .before in
+    let start-at = c .before in
+    let if1 = start-at in
     let rows = if1 .before in
     let start = rows .before .before in
     let n = rows .accepted-rows in
-    start-20 (start .args .rows .now) (start .args .state .now) (refused .refused .result) (n .result) (n .ensures .0) (if1 .if1 .taken) (refused .refused .ensures)
+    start-20 (start .args .rows .now) (start .args .state .now) (c .refused .result) (n .result) (n .ensures .0) (if1 .if1 .taken)
+    (c .refused .ensures)
 
 mul-if2 : tie.Need-mul-if2
 mul-if2 c =
@@ -34,19 +35,20 @@ mul-if2 c =
 
 returns-2 : tie.Need-returns-2
 returns-2 c =
-    let refused = c in
-    let if2 = refused .before in
+    let start-at = c .before in
+    let if2 = start-at in
     let if1 = if2 .before in
     let rows = if1 .before in
     let start = rows .before .before in
     let n = rows .accepted-rows in
     let z = site-of (start .args .rows .now) (n .result) (n .ensures .0) (n .ensures .1 .0) (n .ensures .1 .1 .0) (if1 .if1 .left) .3 in
-    start-21 (start .args .rows .now) (start .args .state .now) (refused .refused2 .result) z (if2 .if2 .taken) (refused .refused2 .ensures)
+    start-21 (start .args .rows .now) (start .args .state .now) (c .refused2 .result) z (if2 .if2 .taken) (c .refused2 .ensures)
 
 begin-requires : tie.Need-begin-requires
 begin-requires c κs =
     let if1 = c .before .before .before in
-    let rows = if1 .before in
+    let start-at = if1 .before in
+    let rows = start-at in
     let start = rows .before .before in
     let n = rows .accepted-rows in
     let z = site-of (start .args .rows .now) (n .result) (n .ensures .0) (n .ensures .1 .0) (n .ensures .1 .1 .0) (if1 .if1 .left) .3 in
@@ -55,7 +57,8 @@ begin-requires c κs =
 state-out-requires : tie.Need-state-out-requires
 state-out-requires c κs =
     let if2 = c .before .before .before .before .before in
-    let if1 = if2 .before in
+    let start-at = if2 .before in
+    let if1 = start-at in
     let rows = if1 .before in
     let start = rows .before .before in
     let n = rows .accepted-rows in
@@ -64,8 +67,9 @@ state-out-requires c κs =
 
 returns-3 : tie.Need-returns-3
 returns-3 c =
-    let out = c .before in
-    let words = out .before .before in
+    let state-out = c .before in
+    let start-at = state-out .before .before in
+    let words = start-at in
     let begun = words .before in
     let if2 = begun .before .before .before in
     let if1 = if2 .before in
@@ -73,7 +77,8 @@ returns-3 c =
     let start = rows .before .before in
     let n = rows .accepted-rows in
     let z = site-of (start .args .rows .now) (n .result) (n .ensures .0) (n .ensures .1 .0) (n .ensures .1 .1 .0) (if1 .if1 .left) .3 in
-    start-0 (start .args .state .now) (out .state-out .last .1 .1 .0) (begun .begin .last .1 .1 .0) (begun .begin .result) z (if2 .if2 .left) (begun .begin .ensures) (out .state-out .ensures .1) (out .state-out .ensures .0)
+    start-0 (start .args .state .now) (state-out .state-out .last .1 .1 .0) (begun .begin .last .1 .1 .0) (begun .begin .result) z (if2 .if2 .left)
+    (begun .begin .ensures) (state-out .state-out .ensures .1) (state-out .state-out .ensures .0)
 
 pub start-spec : {M : Type 1} → statement M
 start-spec = tie.close (tie.spec (λ c κs. search needs) (λ c κs. search needs) returns mul-if2 (λ c κs. search needs) returns-2 begin-requires state-out-requires (λ c. search needs) returns-3)

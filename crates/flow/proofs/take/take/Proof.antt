@@ -17,54 +17,57 @@ use Rattle.state.proofs.lent.state_out.Reads as state-out-reads
 
 returns : tie.Need-returns
 returns c =
-    let refused = c in
-    let if1 = refused .before in
+    let start-at = c .before in
+    let if1 = start-at in
     let opening = if1 .before .before in
     let start = opening .before .before .before .before in
     let o = opening .«open» in
     let own = o .last .1 .1 .1 .0 in
     let words = o .last .1 .1 .1 .1 .0 in
-    take-refused (start .args .rows .now) (start .args .state .now) own words (o .result) (start .args .e) (o .ensures) (if1 .if1 .taken) (refused .refused .result) (refused .refused .ensures)
+    take-refused (start .args .rows .now) (start .args .state .now) own words (o .result) (start .args .e) (o .ensures) (if1 .if1 .taken)
+    (c .refused .result) (c .refused .ensures)
 
 returns-2 : tie.Need-returns-2
 returns-2 c =
-    let refused = c in
-    let if2 = refused .before in
+    let start-at = c .before in
+    let if2 = start-at in
     let if1 = if2 .before .before in
     let opening = if1 .before .before in
     let start = opening .before .before .before .before in
     let o = opening .«open» in
     let own = o .last .1 .1 .1 .0 in
     let words = o .last .1 .1 .1 .1 .0 in
-    take-8 (start .args .rows .now) (start .args .state .now) own words (o .result) (start .args .e) (o .ensures) (if1 .if1 .left) (if2 .if2 .taken) (refused .refused2 .result) (refused .refused2 .ensures)
+    take-8 (start .args .rows .now) (start .args .state .now) own words (o .result) (start .args .e) (o .ensures) (if1 .if1 .left) (if2 .if2 .taken)
+    (c .refused2 .result) (c .refused2 .ensures)
 
 sub-last : tie.Need-sub-last
 sub-last c =
     let if1 = c .before .before .before in
+    let start-at = if1 .before .before in
+    let opening = start-at in
+    let start = opening .before .before .before .before in
+    let o = opening .«open» in
+    let own = o .last .1 .1 .1 .0 in
+    let words = o .last .1 .1 .1 .1 .0 in
+    opened-fine (start .args .rows .now) (start .args .state .now) own words (o .result)
+    (opened (start .args .rows .now) (start .args .state .now) true) (o .ensures) (if1 .if1 .left) .0
+
+handle-requires : tie.Need-handle-requires
+handle-requires c κs =
+    let if2 = c .before .before .before .before in
+    let start-at = if2 .before .before in
+    let if1 = start-at in
     let opening = if1 .before .before in
     let start = opening .before .before .before .before in
     let o = opening .«open» in
     let own = o .last .1 .1 .1 .0 in
     let words = o .last .1 .1 .1 .1 .0 in
-    opened-fine (start .args .rows .now) (start .args .state .now) own words (o .result) (opened (start .args .rows .now) (start .args .state .now) true) (o .ensures) (if1 .if1 .left) .0
-
-handle-requires : tie.Need-handle-requires
-handle-requires c κs =
-    let if2 = c .before .before .before .before in
-    let if1 = if2 .before .before in
-    let opening = if1 .before .before in
-    let start = opening .before .before .before .before in
-    let o = opening .«open» in
-    let own = o .last .1 .1 .1 .0 in
-    let words = o .last .1 .1 .1 .1 .0 in (
-      opened-fine (start .args .rows .now) (start .args .state .now) own words (o .result) (opened (start .args .rows .now) (start .args .state .now) true) (o .ensures) (if1 .if1 .left) .2,
-      start .pre (not-false (start .args .e .readable) (if2 .if2 .left)),
-    )
+    (opened-fine (start .args .rows .now) (start .args .state .now) own words (o .result) (opened (start .args .rows .now) (start .args .state .now) true) (o .ensures) (if1 .if1 .left) .2, start .pre (not-false (start .args .e .readable) (if2 .if2 .left)))
 
 returns-3 : tie.Need-returns-3
 returns-3 c =
-    let refused = c in
-    let if3 = refused .before in
+    let start-at = c .before in
+    let if3 = start-at in
     let handled = if3 .before in
     let if2 = handled .before .before .before .before .before in
     let if1 = if2 .before .before in
@@ -74,36 +77,38 @@ returns-3 c =
     let own = o .last .1 .1 .1 .0 in
     let words = o .last .1 .1 .1 .1 .0 in
     let h = handled .handle in
-    take-9 (start .args .rows .now) (start .args .state .now) own words (o .result) (start .args .e) (if1 .if1 .left) (if2 .if2 .left) (h .last .1 .0) _ (h .result) (h .ensures) (o .ensures) (if3 .if3 .taken)
-    (refused .refused3 .result) (refused .refused3 .ensures)
+    take-9 (start .args .rows .now) (start .args .state .now) own words (o .result) (start .args .e) (if1 .if1 .left) (if2 .if2 .left)
+    (h .last .1 .0) _ (h .result) (h .ensures) (o .ensures) (if3 .if3 .taken) (c .refused3 .result) (c .refused3 .ensures)
 
 normalise-requires : tie.Need-normalise-requires
 normalise-requires c κs =
     let if1 = c .before .before .before .before .before .before .before .before .before .before .before in
-    let opening = if1 .before .before in
+    let start-at = if1 .before .before in
+    let opening = start-at in
     let start = opening .before .before .before .before in
     let o = opening .«open» in
     let own = o .last .1 .1 .1 .0 in
     let words = o .last .1 .1 .1 .1 .0 in
-    opened-fine (start .args .rows .now) (start .args .state .now) own words (o .result) (opened (start .args .rows .now) (start .args .state .now) true) (o .ensures) (if1 .if1 .left) .2
+    opened-fine (start .args .rows .now) (start .args .state .now) own words (o .result)
+    (opened (start .args .rows .now) (start .args .state .now) true) (o .ensures) (if1 .if1 .left) .2
 
 state-out-requires : tie.Need-state-out-requires
 state-out-requires c κs =
     let if1 = c .before .before .before .before .before .before .before .before .before .before .before .before .before .before in
-    let opening = if1 .before .before in
+    let start-at = if1 .before .before in
+    let opening = start-at in
     let start = opening .before .before .before .before in
     let o = opening .«open» in
     let own = o .last .1 .1 .1 .0 in
     let words = o .last .1 .1 .1 .1 .0 in
-    let x = opened (start .args .rows .now) (start .args .state .now) true in (
-      opened-room (start .args .rows .now) (start .args .state .now) own words (o .result) x (o .ensures) (if1 .if1 .left),
-      opened-fine (start .args .rows .now) (start .args .state .now) own words (o .result) x (o .ensures) (if1 .if1 .left) .1,
-    )
+    let x = opened (start .args .rows .now) (start .args .state .now) true in
+    (opened-room (start .args .rows .now) (start .args .state .now) own words (o .result) x (o .ensures) (if1 .if1 .left), opened-fine (start .args .rows .now) (start .args .state .now) own words (o .result) x (o .ensures) (if1 .if1 .left) .1)
 
 returns-4 : tie.Need-returns-4
 returns-4 c =
-    let out = c .before in
-    let normal = out .before .before .before in
+    let state-out = c .before in
+    let start-at = state-out .before .before .before in
+    let normal = start-at in
     let if3 = normal .before .before .before .before in
     let handled = if3 .before in
     let if2 = handled .before .before .before .before .before in
@@ -115,9 +120,10 @@ returns-4 c =
     let words = o .last .1 .1 .1 .1 .0 in
     let h = handled .handle in
     let m = normal .normalise in
-    let w = out .state-out in
-    take-0 (start .args .rows .now) (start .args .state .now) own words (o .result) (start .args .e) (if1 .if1 .left) (if2 .if2 .left) (h .last .1 .0) _ (h .result) (h .ensures)
-    (m .last .1 .0) _ (m .result) (w .last .1 .1 .0) (m .ensures) (w .ensures .1) (w .ensures .0) (o .ensures) (if3 .if3 .left)
+    let w = state-out .state-out in
+    take-0 (start .args .rows .now) (start .args .state .now) own words (o .result) (start .args .e) (if1 .if1 .left) (if2 .if2 .left)
+    (h .last .1 .0) _ (h .result) (h .ensures) (m .last .1 .0) _ (m .result) (w .last .1 .1 .0) (m .ensures) (w .ensures .1) (w .ensures .0)
+    (o .ensures) (if3 .if3 .left)
 
 pub take-spec : {M : Type 1} → statement M
 take-spec = tie.close (tie.spec (λ c κs. search needs)

@@ -17,10 +17,12 @@ take-requires c κs =
 
 returns : tie.Need-returns
 returns c =
-    let taken = c .before in
-    let read = taken .before .before in
+    let take = c .before in
+    let start-at = take .before .before in
+    let read = start-at in
     let start = read .before .before in
-    take-handles (start .args .rows .now) (start .args .state .now) (start .args .event .now) (read .read-event .result) (taken .take .result) (taken .take .last .1 .0) (read .read-event .ensures) (taken .take .ensures)
+    take-handles (start .args .rows .now) (start .args .state .now) (start .args .event .now) (read .read-event .result) (take .take .result)
+    (take .take .last .1 .0) (read .read-event .ensures) (take .take .ensures)
 
 pub handle-spec : {M : Type 1} → statement M
 handle-spec = tie.close (tie.spec (λ c κs. search needs) take-requires (λ c. search needs) returns)

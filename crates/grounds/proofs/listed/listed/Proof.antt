@@ -21,8 +21,21 @@ listed-spec = tie.close (tie.spec
     μ-loop
     (λ c. (omega arith, every-none (rowListed (c .args .rows .now))))
     (λ c κs. search needs)
-    (λ c. let s = c .before .before .before .before in every-broken (rowListed (s .args .rows .now)) (s .args .n) (c .before .before .before .loop .i) (c .before .row-listed .result) (c .before .before .loop-test .taken) (c .before .row-listed .ensures) (c .if1 .taken))
+    (λ c.
+    let row-listed = c .before in
+    let test = row-listed .before in
+    let loop = test .before in
+    let start = loop .before in
+    every-broken (rowListed (start .args .rows .now)) (start .args .n) (loop .loop .i) (row-listed .row-listed .result) (test .loop-test .taken)
+    (row-listed .row-listed .ensures) (c .if1 .taken))
     (λ c. search needs)
     (λ c. search needs)
-    (λ c. let s = c .before .before .before .before in (omega arith, every-more (rowListed (s .args .rows .now)) (c .before .before .before .loop .i) (c .before .row-listed .result) (c .before .before .before .loop .inv .1) (c .before .row-listed .ensures) (c .if1 .left)))
-    (λ c. let s = c .before .before in every-all (rowListed (s .args .rows .now)) (s .args .n) (c .before .loop .i) (c .before .loop .inv .1) (omega arith)))
+    (λ c.
+    let row-listed = c .before in
+    let loop = row-listed .before .before in
+    let start = loop .before in
+    (omega arith, every-more (rowListed (start .args .rows .now)) (loop .loop .i) (row-listed .row-listed .result) (loop .loop .inv .1) (row-listed .row-listed .ensures) (c .if1 .left)))
+    (λ c.
+    let loop = c .before in
+    let start = loop .before in
+    every-all (rowListed (start .args .rows .now)) (start .args .n) (loop .loop .i) (loop .loop .inv .1) (omega arith)))

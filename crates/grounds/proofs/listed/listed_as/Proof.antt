@@ -22,7 +22,10 @@ listed-as-spec = tie.close (tie.spec
     (λ c. search needs)
     (λ c. search needs)
     (λ c. sym (ap (λ q. listedAs (askBy q) (c .before .before .args .w)) (c .enum-told .given .1)))
-    (λ c. let s = c .before .before .before in c .is-operator .ensures ∙ sym (ap (λ q. listedAs (askBy q) (s .args .w)) (c .before .enum-told2 .given .1)))
+    (λ c.
+    let enum-told2 = c .before in
+    let start = enum-told2 .before .before in
+    c .is-operator .ensures ∙ sym (ap (λ q. listedAs (askBy q) (start .args .w)) (enum-told2 .enum-told2 .given .1)))
     (λ c. sym (ap (λ q. listedAs (askBy q) (c .before .before .args .w)) (c .enum-told3 .given .1)))
     (λ c. sym (ap (λ q. listedAs (askBy q) (c .before .before .args .w)) (c .enum-told4 .given .1)))
     (λ c. sym (ap (λ q. listedAs (askBy q) (c .before .before .args .w)) (c .enum-told5 .given .1)))

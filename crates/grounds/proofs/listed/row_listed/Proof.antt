@@ -11,6 +11,23 @@ row-listed-spec = tie.close (tie.spec
     (λ c κs. search needs)
     (λ c κs. search needs)
     (λ c κs. search needs)
-    (λ c. let s = c .before .before .before .before .before .before in row-unlisted (s .args .rows .now) (s .args .i) (c .before .before .before .before .before .asks-at .result) (c .before .before .before .before .before .asks-at .ensures) (c .before .before .before .before .get .ensures) (c .before .before .before .get2 .ensures) (c .before .before .get3 .ensures) (c .before .operands-listed .ensures) (c .if1 .taken))
+    (λ c.
+    let operands-listed = c .before in
+    let get3 = operands-listed .before in
+    let get2 = get3 .before in
+    let get = get2 .before in
+    let asks-at = get .before in
+    let start = asks-at .before in
+    row-unlisted (start .args .rows .now) (start .args .i) (asks-at .asks-at .result) (asks-at .asks-at .ensures) (get .get .ensures)
+    (get2 .get2 .ensures) (get3 .get3 .ensures) (operands-listed .operands-listed .ensures) (c .if1 .taken))
     (λ c κs. search needs)
-    (λ c. let s = c .before .before .before .before .before .before .before in row-cell (s .args .rows .now) (s .args .i) (c .before .before .before .before .before .before .asks-at .result) (c .before .before .before .before .before .before .asks-at .ensures) (c .before .before .before .before .before .get .ensures) (c .before .before .before .before .get2 .ensures) (c .before .before .before .get3 .ensures) (c .before .before .operands-listed .ensures) (c .before .if1 .left) (c .truth-cell .ensures)))
+    (λ c.
+    let if1 = c .before in
+    let operands-listed = if1 .before in
+    let get3 = operands-listed .before in
+    let get2 = get3 .before in
+    let get = get2 .before in
+    let asks-at = get .before in
+    let start = asks-at .before in
+    row-cell (start .args .rows .now) (start .args .i) (asks-at .asks-at .result) (asks-at .asks-at .ensures) (get .get .ensures)
+    (get2 .get2 .ensures) (get3 .get3 .ensures) (operands-listed .operands-listed .ensures) (if1 .if1 .left) (c .truth-cell .ensures)))

@@ -9,8 +9,30 @@ truth-cell-spec = tie.close (tie.spec
     (λ c κs. search needs)
     (λ c. let s = c .before .before in no-cell (s .args .rows .now) (s .args .i) (c .before .get .ensures) (c .if1 .taken))
     (λ c κs. search needs)
-    (λ c. let s = c .before .before .before .before in high-cell (s .args .rows .now) (s .args .i) (c .before .before .before .get .ensures) (c .before .before .if1 .left) (c .before .operand .ensures) (c .if2 .taken))
+    (λ c.
+    let operand = c .before in
+    let if1 = operand .before in
+    let get = if1 .before in
+    let start = get .before in
+    high-cell (start .args .rows .now) (start .args .i) (get .get .ensures) (if1 .if1 .left) (operand .operand .ensures) (c .if2 .taken))
     (λ c κs. search needs)
-    (λ c. let s = c .before .before .before .before .before .before in other-cell (s .args .rows .now) (s .args .i) (c .before .before .before .before .before .get .ensures) (c .before .before .before .before .if1 .left) (c .before .before .before .operand .ensures) (c .before .before .if2 .left) (c .before .get2 .ensures) (c .if3 .taken))
+    (λ c.
+    let get2 = c .before in
+    let if2 = get2 .before in
+    let operand = if2 .before in
+    let if1 = operand .before in
+    let get = if1 .before in
+    let start = get .before in
+    other-cell (start .args .rows .now) (start .args .i) (get .get .ensures) (if1 .if1 .left) (operand .operand .ensures) (if2 .if2 .left)
+    (get2 .get2 .ensures) (c .if3 .taken))
     (λ c κs. search needs)
-    (λ c. let s = c .before .before .before .before .before .before .before in truth-cell (s .args .rows .now) (s .args .i) (c .before .before .before .before .before .before .get .ensures) (c .before .before .before .before .before .if1 .left) (c .before .before .before .before .operand .ensures) (c .before .before .before .if2 .left) (c .before .before .get2 .ensures) (c .before .if3 .left) (c .get3 .ensures)))
+    (λ c.
+    let if3 = c .before in
+    let get2 = if3 .before in
+    let if2 = get2 .before in
+    let operand = if2 .before in
+    let if1 = operand .before in
+    let get = if1 .before in
+    let start = get .before in
+    truth-cell (start .args .rows .now) (start .args .i) (get .get .ensures) (if1 .if1 .left) (operand .operand .ensures) (if2 .if2 .left)
+    (get2 .get2 .ensures) (if3 .if3 .left) (c .get3 .ensures)))

@@ -21,9 +21,26 @@ all-named-spec = tie.close (tie.spec
     μ-loop
     (λ c. (omega arith, every-none (namedOnce (c .args .rows .now) (c .args .n))))
     (λ c. search needs)
-    (λ c κs. let s = c .before .before .before in (c .before .loop-test .taken, s .pre .0, s .pre .1 (c .before .before .loop .i) (omega arith)))
-    (λ c. let s = c .before .before .before .before .before in every-broken (namedOnce (s .args .rows .now) (s .args .n)) (s .args .n) (c .before .before .before .before .loop .i) (c .before .named-once .result) (c .before .before .before .loop-test .taken) (c .before .named-once .ensures) (c .if1 .taken))
+    (λ c κs.
+    let test = c .before in
+    let loop = test .before in
+    let start = loop .before in
+    (test .loop-test .taken, start .pre .0, start .pre .1 (loop .loop .i) (omega arith)))
+    (λ c.
+    let named-once = c .before in
+    let test = named-once .before .before in
+    let loop = test .before in
+    let start = loop .before in
+    every-broken (namedOnce (start .args .rows .now) (start .args .n)) (start .args .n) (loop .loop .i) (named-once .named-once .result)
+    (test .loop-test .taken) (named-once .named-once .ensures) (c .if1 .taken))
     (λ c. search needs)
     (λ c. search needs)
-    (λ c. let s = c .before .before .before .before .before in (omega arith, every-more (namedOnce (s .args .rows .now) (s .args .n)) (c .before .before .before .before .loop .i) (c .before .named-once .result) (c .before .before .before .before .loop .inv .1) (c .before .named-once .ensures) (c .if1 .left)))
-    (λ c. let s = c .before .before in every-all (namedOnce (s .args .rows .now) (s .args .n)) (s .args .n) (c .before .loop .i) (c .before .loop .inv .1) (omega arith)))
+    (λ c.
+    let named-once = c .before in
+    let loop = named-once .before .before .before in
+    let start = loop .before in
+    (omega arith, every-more (namedOnce (start .args .rows .now) (start .args .n)) (loop .loop .i) (named-once .named-once .result) (loop .loop .inv .1) (named-once .named-once .ensures) (c .if1 .left)))
+    (λ c.
+    let loop = c .before in
+    let start = loop .before in
+    every-all (namedOnce (start .args .rows .now) (start .args .n)) (start .args .n) (loop .loop .i) (loop .loop .inv .1) (omega arith)))

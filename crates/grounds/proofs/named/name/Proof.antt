@@ -14,7 +14,15 @@ name-spec = tie.close (tie.spec
     (λ c. let s = c .before .before in name-not (s .args .table .now) (names (askBy (s .args .q))) (s .args .w) (subst (λ b. not b ≡ true) (c .before .names-row .ensures) (c .if1 .taken)))
     (λ c. let s = c .before .before .before in name-past (s .args .table .now) (names (askBy (s .args .q))) (s .args .w) (c .if2 .taken))
     (λ c. search needs)
-    (λ c. let s = c .before .before .before .before .before in name-full (s .args .table .now) (names (askBy (s .args .q))) (s .args .w) (c .if3 .taken))
+    (λ c.
+    let start = c .before .before .before .before .before in
+    name-full (start .args .table .now) (names (askBy (start .args .q))) (start .args .w) (c .if3 .taken))
     (λ c. search needs)
     (λ c. search needs)
-    (λ c. let s = c .before .before .before .before .before in name-one (s .args .table .now) (names (askBy (s .args .q))) (s .args .w) (subst (λ b. not b ≡ false) (c .before .before .before .before .names-row .ensures) (c .before .before .before .if1 .left)) (c .before .before .if2 .left) (c .if3 .left)))
+    (λ c.
+    let if2 = c .before .before in
+    let if1 = if2 .before in
+    let names-row = if1 .before in
+    let start = names-row .before in
+    name-one (start .args .table .now) (names (askBy (start .args .q))) (start .args .w)
+    (subst (λ b. not b ≡ false) (names-row .names-row .ensures) (if1 .if1 .left)) (if2 .if2 .left) (c .if3 .left)))

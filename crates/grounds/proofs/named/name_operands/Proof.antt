@@ -12,4 +12,10 @@ name-operands-spec = tie.close (tie.spec
     (λ c κs. search needs)
     (λ c κs. search needs)
     (λ c κs. search needs)
-    (λ c. let s = c .before .before .before .before .before .before .before .before .before in name-known (s .args .table .now) (s .args .a) (s .args .b) (s .args .c) (s .args .s) (c .before .before .before .before .name .last .0) (c .before .before .name2 .last .0) (c .name3 .last .0) (c .before .before .before .before .before .before .before .s .given .1) (c .before .before .before .before .name .ensures) (c .before .before .name2 .ensures) (c .name3 .ensures)))
+    (λ c.
+    let name2 = c .before .before in
+    let name = name2 .before .before in
+    let s = name .before .before .before in
+    let start = s .before .before in
+    name-known (start .args .table .now) (start .args .a) (start .args .b) (start .args .c) (start .args .s) (name .name .last .0)
+    (name2 .name2 .last .0) (c .name3 .last .0) (s .s .given .1) (name .name .ensures) (name2 .name2 .ensures) (c .name3 .ensures)))

@@ -13,4 +13,14 @@ name-row-spec = tie.close (tie.spec
     (λ c κs. search needs)
     (λ c κs. search needs)
     (λ c κs. search needs)
-    (λ c. let s = c .before .before .before .before .before .before .before .before in name-high (s .args .rows .now) (s .args .table .now) (s .args .j) (c .before .before .before .before .before .before .before .get .ensures) (c .before .before .before .before .before .before .if1 .left) (c .name-operands .last .0) (c .before .asks-at .result) (c .before .asks-at .ensures) (c .before .before .before .before .before .get2 .ensures) (c .before .before .before .before .get3 .ensures) (c .before .before .before .get4 .ensures) (c .name-operands .ensures)))
+    (λ c.
+    let asks-at = c .before in
+    let get4 = asks-at .before .before in
+    let get3 = get4 .before in
+    let get2 = get3 .before in
+    let if1 = get2 .before in
+    let get = if1 .before in
+    let start = get .before in
+    name-high (start .args .rows .now) (start .args .table .now) (start .args .j) (get .get .ensures) (if1 .if1 .left) (c .name-operands .last .0)
+    (asks-at .asks-at .result) (asks-at .asks-at .ensures) (get2 .get2 .ensures) (get3 .get3 .ensures) (get4 .get4 .ensures)
+    (c .name-operands .ensures)))

@@ -23,5 +23,11 @@ name-rows-spec = tie.close (tie.spec
     (λ c κs. search needs)
     (λ c. search needs)
     (λ c. search needs)
-    (λ c. let s = c .before .before .before .before in (omega arith, name-rows-more (s .args .rows .now) (s .args .table .now) (c .before .before .before .loop .table) (c .name-row .last .1 .0) (c .before .before .before .loop .j) (c .before .before .before .loop .inv .1) (c .name-row .ensures)))
-    (λ c. let s = c .before .before in subst (λ k. More (s .args .table .now) (c .before .loop .table) (λ i. namings (s .args .rows .now) i k)) (omega arith) (c .before .loop .inv .1)))
+    (λ c.
+    let loop = c .before .before .before in
+    let start = loop .before in
+    (omega arith, name-rows-more (start .args .rows .now) (start .args .table .now) (loop .loop .table) (c .name-row .last .1 .0) (loop .loop .j) (loop .loop .inv .1) (c .name-row .ensures)))
+    (λ c.
+    let loop = c .before in
+    let start = loop .before in
+    subst (λ k. More (start .args .table .now) (loop .loop .table) (λ i. namings (start .args .rows .now) i k)) (omega arith) (loop .loop .inv .1)))

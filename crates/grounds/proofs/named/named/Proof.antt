@@ -12,9 +12,23 @@ use Rattle.grounds.proofs.named.named.Tie as tie
 pub named-spec : {M : Type 1} → statement M
 named-spec = tie.close (tie.spec
     (λ c κs. search needs)
-    (λ c κs. let s = c .before .before .before in (s .pre .1, more-zero (c .before .name-rows .last .1 .0) (λ i. namings (s .args .rows .now) i (s .args .n)) (c .before .name-rows .ensures)))
-    (λ c. let s = c .before .before .before .before .before in ap (λ b. b && lastFits (s .args .rows .now) ((s .args .n) - 1)) (sym (not-true (c .before .all-named .result) (c .if1 .taken)) ∙ c .before .all-named .ensures))
+    (λ c κs.
+    let name-rows = c .before in
+    let start = name-rows .before .before in
+    (start .pre .1, more-zero (name-rows .name-rows .last .1 .0) (λ i. namings (start .args .rows .now) i (start .args .n)) (name-rows .name-rows .ensures)))
+    (λ c.
+    let all-named = c .before in
+    let start = all-named .before .before .before .before in
+    ap (λ b. b && lastFits (start .args .rows .now) ((start .args .n) - 1))
+    (sym (not-true (all-named .all-named .result) (c .if1 .taken)) ∙ all-named .all-named .ensures))
     (λ c. search needs)
     (λ c κs. search needs)
     (λ c κs. search needs)
-    (λ c. let s = c .before .before .before .before .before .before .before in last-is (s .args .rows .now) ((s .args .n) - 1) (c .before .get .result) (c .before .get .ensures) (c .last-fits .result) (c .last-fits .ensures) ∙ ap (λ b. b && lastFits (s .args .rows .now) ((s .args .n) - 1)) (sym (not-false (c .before .before .before .all-named .result) (c .before .before .if1 .left)) ∙ c .before .before .before .all-named .ensures)))
+    (λ c.
+    let get = c .before in
+    let if1 = get .before in
+    let all-named = if1 .before in
+    let start = all-named .before .before .before .before in
+    last-is (start .args .rows .now) ((start .args .n) - 1) (get .get .result) (get .get .ensures) (c .last-fits .result) (c .last-fits .ensures) ∙
+    ap (λ b. b && lastFits (start .args .rows .now) ((start .args .n) - 1))
+    (sym (not-false (all-named .all-named .result) (if1 .if1 .left)) ∙ all-named .all-named .ensures)))

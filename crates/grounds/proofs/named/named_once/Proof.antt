@@ -9,5 +9,14 @@ named-once-spec = tie.close (tie.spec
     (λ c κs. search needs)
     (λ c. let s = c .before .before in once-low (s .args .rows .now) (s .args .n) (s .args .i) (c .before .get .ensures) (c .if1 .taken))
     (λ c. search needs)
-    (λ c. let s = c .before .before .before in once-last (s .args .rows .now) (s .args .n) (s .args .i) (c .before .before .get .ensures) (c .before .if1 .left) (c .if2 .taken))
-    (λ c. let s = c .before .before .before in once-counted (s .args .rows .now) (s .args .n) (s .args .i) (c .before .before .get .ensures) (c .before .if1 .left) (c .if2 .left) (s .args .x) (s .pre .2)))
+    (λ c.
+    let if1 = c .before in
+    let get = if1 .before in
+    let start = get .before in
+    once-last (start .args .rows .now) (start .args .n) (start .args .i) (get .get .ensures) (if1 .if1 .left) (c .if2 .taken))
+    (λ c.
+    let if1 = c .before in
+    let get = if1 .before in
+    let start = get .before in
+    once-counted (start .args .rows .now) (start .args .n) (start .args .i) (get .get .ensures) (if1 .if1 .left) (c .if2 .left) (start .args .x)
+    (start .pre .2)))

@@ -14,9 +14,20 @@ binders-by-spec = tie.close (tie.spec
     (λ c. let s = c .before .before in of-unknown (λ z. mostBinders z (s .args .a) (s .args .b) (s .args .c)) (c .enum-told .given .1))
     (λ c κs. search needs)
     (λ c κs. search needs)
-    (λ c. let s = c .before .before .before .before .before in omega (arith, c .binder-of .ensures .1, s .pre))
+    (λ c.
+    let start = c .before .before .before .before .before in
+    omega (arith, c .binder-of .ensures .1, start .pre))
     (λ c κs. search needs)
     (λ c κs. search needs)
     (λ c κs. search needs)
     (λ c κs. search needs)
-    (λ c. let s = c .before .before .before .before .before .before .before .before .before in binders-are (c .before .before .before .before .before .before .before .s .given .1) (s .args .a) (s .args .b) (s .args .c) (c .before .larger .ensures) (c .larger2 .ensures) (c .before .before .before .before .binder-of .ensures .0) (c .before .before .before .before .before .if-named .ensures) (c .before .before .before .if-named2 .ensures) (c .before .before .if-named3 .ensures)))
+    (λ c.
+    let larger = c .before in
+    let if-named3 = larger .before in
+    let if-named2 = if-named3 .before in
+    let binder-of = if-named2 .before in
+    let if-named = binder-of .before in
+    let s = if-named .before .before in
+    let start = s .before .before in
+    binders-are (s .s .given .1) (start .args .a) (start .args .b) (start .args .c) (larger .larger .ensures) (c .larger2 .ensures)
+    (binder-of .binder-of .ensures .0) (if-named .if-named .ensures) (if-named2 .if-named2 .ensures) (if-named3 .if-named3 .ensures)))

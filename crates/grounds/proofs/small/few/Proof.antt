@@ -25,9 +25,24 @@ few-spec = tie.close (tie.spec
     (λ c κs. search needs)
     (λ c. let s = c .before in (omega arith, refl, counts-none (s .args .w) (s .args .rows .now) (replicate maxRows 0), every-none (fewAt (s .args .w) (s .args .rows .now))))
     (λ c κs. (omega arith, c .before .before .loop .inv .2))
-    (λ c. let s = c .before .before .before .before .before .before in every-not (fewAt (s .args .w) (s .args .rows .now)) (s .args .n) (c .before .before .before .before .loop .i) (c .before .before .before .loop-test .taken) (few-not (s .args .w) (s .args .rows .now) (c .before .before .before .before .loop .i) (c .before .row-count .result) (c .before .row-count .ensures .0) (omega (arith, c .before .before .before .before .before .most-of .ensures))))
+    (λ c.
+    let row-count = c .before in
+    let test = row-count .before .before in
+    let loop = test .before in
+    let most-of = loop .before in
+    let start = most-of .before in
+    every-not (fewAt (start .args .w) (start .args .rows .now)) (start .args .n) (loop .loop .i) (test .loop-test .taken)
+    (few-not (start .args .w) (start .args .rows .now) (loop .loop .i) (row-count .row-count .result) (row-count .row-count .ensures .0) (omega (arith, most-of .most-of .ensures))))
     (λ c. omega arith)
     (λ c. omega arith)
     (λ c. omega arith)
-    (λ c. let s = c .before .before .before .before .before .before in (omega arith, length-set (c .before .before .before .before .loop .table) (c .before .before .before .before .loop .i) (c .before .row-count .result) ∙ c .before .before .before .before .loop .inv .1, count-written (s .args .w) (s .args .rows .now) (c .before .before .before .before .loop .table) (c .before .before .before .before .loop .i) (c .before .before .before .before .loop .inv .2) (c .before .row-count .result) (omega arith) (c .before .row-count .ensures .0), every-so (fewAt (s .args .w) (s .args .rows .now)) (c .before .before .before .before .loop .i) (c .before .before .before .before .loop .inv .3) (few-so (s .args .w) (s .args .rows .now) (c .before .before .before .before .loop .i) (c .before .row-count .result) (c .before .row-count .ensures .0) (omega (arith, c .before .before .before .before .before .most-of .ensures)))))
-    (λ c. let s = c .before .before .before in every-all (fewAt (s .args .w) (s .args .rows .now)) (s .args .n) (c .before .loop .i) (c .before .loop .inv .3) (omega arith)))
+    (λ c.
+    let row-count = c .before in
+    let loop = row-count .before .before .before in
+    let most-of = loop .before in
+    let start = most-of .before in
+    (omega arith, length-set (loop .loop .table) (loop .loop .i) (row-count .row-count .result) ∙ loop .loop .inv .1, count-written (start .args .w) (start .args .rows .now) (loop .loop .table) (loop .loop .i) (loop .loop .inv .2) (row-count .row-count .result) (omega arith) (row-count .row-count .ensures .0), every-so (fewAt (start .args .w) (start .args .rows .now)) (loop .loop .i) (loop .loop .inv .3) (few-so (start .args .w) (start .args .rows .now) (loop .loop .i) (row-count .row-count .result) (row-count .row-count .ensures .0) (omega (arith, most-of .most-of .ensures)))))
+    (λ c.
+    let loop = c .before in
+    let start = loop .before .before in
+    every-all (fewAt (start .args .w) (start .args .rows .now)) (start .args .n) (loop .loop .i) (loop .loop .inv .3) (omega arith)))

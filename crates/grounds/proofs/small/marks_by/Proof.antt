@@ -13,11 +13,25 @@ marks-by-spec = tie.close (tie.spec
     (λ c. search needs)
     (λ c. let s = c .before .before in of-unknown (λ z. mostMarks z (s .args .a) (s .args .b) (s .args .c)) (c .enum-told .given .1))
     (λ c κs. search needs)
-    (λ c. let s = c .before .before .before .before in omega (arith, c .mark-of .ensures .1, s .pre))
+    (λ c.
+    let start = c .before .before .before .before in
+    omega (arith, c .mark-of .ensures .1, start .pre))
     (λ c κs. search needs)
-    (λ c. let s = c .before .before .before .before .before in omega (arith, c .before .mark-of .ensures .1, s .pre))
+    (λ c.
+    let mark-of = c .before in
+    let start = mark-of .before .before .before .before in
+    omega (arith, mark-of .mark-of .ensures .1, start .pre))
     (λ c κs. search needs)
     (λ c κs. search needs)
     (λ c κs. search needs)
     (λ c κs. search needs)
-    (λ c. let s = c .before .before .before .before .before .before .before .before .before in marks-are (c .before .before .before .before .before .before .before .s .given .1) (s .args .a) (s .args .b) (s .args .c) (c .before .larger .ensures) (c .larger2 .ensures) (c .before .before .before .before .before .mark-of .ensures .0) (c .before .before .before .before .if-named .ensures) (c .before .before .before .if-named2 .ensures) (c .before .before .if-named3 .ensures)))
+    (λ c.
+    let larger = c .before in
+    let if-named3 = larger .before in
+    let if-named2 = if-named3 .before in
+    let if-named = if-named2 .before in
+    let mark-of = if-named .before in
+    let s = mark-of .before .before in
+    let start = s .before .before in
+    marks-are (s .s .given .1) (start .args .a) (start .args .b) (start .args .c) (larger .larger .ensures) (c .larger2 .ensures)
+    (mark-of .mark-of .ensures .0) (if-named .if-named .ensures) (if-named2 .if-named2 .ensures) (if-named3 .if-named3 .ensures)))

@@ -18,8 +18,39 @@ row-count-spec = tie.close (tie.spec
     (λ c κs. search needs)
     (λ c κs. search needs)
     (λ c κs. search needs)
-    (λ c κs. let s = c .before .before .before .before .before .before .before in (count-bound (s .args .w) (s .args .rows .now) (s .args .table .now) (s .args .i) (s .pre .1) (c .before .before .before .before .before .before .get .ensures) (c .before .before .before .before .before .below .ensures), count-bound (s .args .w) (s .args .rows .now) (s .args .table .now) (s .args .i) (s .pre .1) (c .before .before .before .before .get2 .ensures) (c .before .before .before .below2 .ensures)))
+    (λ c κs.
+    let below2 = c .before .before .before in
+    let get2 = below2 .before in
+    let below = get2 .before in
+    let get = below .before in
+    let start = get .before in
+    (count-bound (start .args .w) (start .args .rows .now) (start .args .table .now) (start .args .i) (start .pre .1) (get .get .ensures) (below .below .ensures), count-bound (start .args .w) (start .args .rows .now) (start .args .table .now) (start .args .i) (start .pre .1) (get2 .get2 .ensures) (below2 .below2 .ensures)))
     (λ c κs. search needs)
-    (λ c. let s = c .before .before .before .before .before .before .before .before .before .before in (sym (stop-low (suc (mostOf (s .args .w))) (c .before .before .count-by .result) (omega (arith, c .before .most-of .ensures))) ∙ count-row (s .args .w) (s .args .rows .now) (s .args .table .now) (s .args .i) (s .pre .1) (c .before .before .before .asks-at .result) (c .before .before .before .asks-at .ensures) (count-read (s .args .w) (s .args .rows .now) (s .args .table .now) (s .args .i) (s .pre .1) (c .before .before .before .before .before .before .before .before .before .get .ensures) (c .before .before .before .before .before .before .before .before .below .ensures)) (count-read (s .args .w) (s .args .rows .now) (s .args .table .now) (s .args .i) (s .pre .1) (c .before .before .before .before .before .before .before .get2 .ensures) (c .before .before .before .before .before .before .below2 .ensures)) (count-read (s .args .w) (s .args .rows .now) (s .args .table .now) (s .args .i) (s .pre .1) (c .before .before .before .before .before .get3 .ensures) (c .before .before .before .before .below3 .ensures)) (c .before .before .count-by .ensures), omega (arith, c .before .most-of .ensures)))
-    (λ c. let s = c .before .before .before .before .before .before .before .before .before .before in omega (arith, c .before .most-of .ensures, most-small (s .args .w)))
-    (λ c. let s = c .before .before .before .before .before .before .before .before .before .before in (omega (arith, c .before .most-of .ensures, stop-high (suc (mostOf (s .args .w))) (c .before .before .count-by .result) (omega (arith, c .before .most-of .ensures)), count-row (s .args .w) (s .args .rows .now) (s .args .table .now) (s .args .i) (s .pre .1) (c .before .before .before .asks-at .result) (c .before .before .before .asks-at .ensures) (count-read (s .args .w) (s .args .rows .now) (s .args .table .now) (s .args .i) (s .pre .1) (c .before .before .before .before .before .before .before .before .before .get .ensures) (c .before .before .before .before .before .before .before .before .below .ensures)) (count-read (s .args .w) (s .args .rows .now) (s .args .table .now) (s .args .i) (s .pre .1) (c .before .before .before .before .before .before .before .get2 .ensures) (c .before .before .before .before .before .before .below2 .ensures)) (count-read (s .args .w) (s .args .rows .now) (s .args .table .now) (s .args .i) (s .pre .1) (c .before .before .before .before .before .get3 .ensures) (c .before .before .before .before .below3 .ensures)) (c .before .before .count-by .ensures)), omega (arith, c .before .most-of .ensures))))
+    (λ c.
+    let most-of = c .before in
+    let count-by = most-of .before in
+    let asks-at = count-by .before in
+    let below3 = asks-at .before in
+    let get3 = below3 .before in
+    let below2 = get3 .before in
+    let get2 = below2 .before in
+    let below = get2 .before in
+    let get = below .before in
+    let start = get .before in
+    (sym (stop-low (suc (mostOf (start .args .w))) (count-by .count-by .result) (omega (arith, most-of .most-of .ensures))) ∙ count-row (start .args .w) (start .args .rows .now) (start .args .table .now) (start .args .i) (start .pre .1) (asks-at .asks-at .result) (asks-at .asks-at .ensures) (count-read (start .args .w) (start .args .rows .now) (start .args .table .now) (start .args .i) (start .pre .1) (get .get .ensures) (below .below .ensures)) (count-read (start .args .w) (start .args .rows .now) (start .args .table .now) (start .args .i) (start .pre .1) (get2 .get2 .ensures) (below2 .below2 .ensures)) (count-read (start .args .w) (start .args .rows .now) (start .args .table .now) (start .args .i) (start .pre .1) (get3 .get3 .ensures) (below3 .below3 .ensures)) (count-by .count-by .ensures), omega (arith, most-of .most-of .ensures)))
+    (λ c.
+    let most-of = c .before in
+    let start = most-of .before .before .before .before .before .before .before .before .before in
+    omega (arith, most-of .most-of .ensures, most-small (start .args .w)))
+    (λ c.
+    let most-of = c .before in
+    let count-by = most-of .before in
+    let asks-at = count-by .before in
+    let below3 = asks-at .before in
+    let get3 = below3 .before in
+    let below2 = get3 .before in
+    let get2 = below2 .before in
+    let below = get2 .before in
+    let get = below .before in
+    let start = get .before in
+    (omega (arith, most-of .most-of .ensures, stop-high (suc (mostOf (start .args .w))) (count-by .count-by .result) (omega (arith, most-of .most-of .ensures)), count-row (start .args .w) (start .args .rows .now) (start .args .table .now) (start .args .i) (start .pre .1) (asks-at .asks-at .result) (asks-at .asks-at .ensures) (count-read (start .args .w) (start .args .rows .now) (start .args .table .now) (start .args .i) (start .pre .1) (get .get .ensures) (below .below .ensures)) (count-read (start .args .w) (start .args .rows .now) (start .args .table .now) (start .args .i) (start .pre .1) (get2 .get2 .ensures) (below2 .below2 .ensures)) (count-read (start .args .w) (start .args .rows .now) (start .args .table .now) (start .args .i) (start .pre .1) (get3 .get3 .ensures) (below3 .below3 .ensures)) (count-by .count-by .ensures)), omega (arith, most-of .most-of .ensures))))

@@ -13,6 +13,21 @@ small-spec = tie.close (tie.spec
     (λ c κs. search needs)
     (λ c. let s = c .before .before in not-first (every (s .args .n) (fewAt Leaves (s .args .rows .now))) (every (s .args .n) (fewAt Binders (s .args .rows .now))) (every (s .args .n) (fewAt Marks (s .args .rows .now))) (all-small (s .args .rows .now) (s .args .n)) (c .before .few .ensures) (c .if1 .taken))
     (λ c κs. search needs)
-    (λ c. let s = c .before .before .before .before in not-second (every (s .args .n) (fewAt Leaves (s .args .rows .now))) (every (s .args .n) (fewAt Binders (s .args .rows .now))) (every (s .args .n) (fewAt Marks (s .args .rows .now))) (all-small (s .args .rows .now) (s .args .n)) (c .before .before .before .few .ensures) (c .before .before .if1 .left) (c .before .few2 .ensures) (c .if2 .taken))
+    (λ c.
+    let few2 = c .before in
+    let if1 = few2 .before in
+    let few = if1 .before in
+    let start = few .before in
+    not-second (every (start .args .n) (fewAt Leaves (start .args .rows .now))) (every (start .args .n) (fewAt Binders (start .args .rows .now)))
+    (every (start .args .n) (fewAt Marks (start .args .rows .now))) (all-small (start .args .rows .now) (start .args .n)) (few .few .ensures)
+    (if1 .if1 .left) (few2 .few2 .ensures) (c .if2 .taken))
     (λ c κs. search needs)
-    (λ c. let s = c .before .before .before .before .before in third (every (s .args .n) (fewAt Leaves (s .args .rows .now))) (every (s .args .n) (fewAt Binders (s .args .rows .now))) (every (s .args .n) (fewAt Marks (s .args .rows .now))) (all-small (s .args .rows .now) (s .args .n)) (c .before .before .before .before .few .ensures) (c .before .before .before .if1 .left) (c .before .before .few2 .ensures) (c .before .if2 .left) (c .few3 .ensures)))
+    (λ c.
+    let if2 = c .before in
+    let few2 = if2 .before in
+    let if1 = few2 .before in
+    let few = if1 .before in
+    let start = few .before in
+    third (every (start .args .n) (fewAt Leaves (start .args .rows .now))) (every (start .args .n) (fewAt Binders (start .args .rows .now)))
+    (every (start .args .n) (fewAt Marks (start .args .rows .now))) (all-small (start .args .rows .now) (start .args .n)) (few .few .ensures)
+    (if1 .if1 .left) (few2 .few2 .ensures) (if2 .if2 .left) (c .few3 .ensures)))

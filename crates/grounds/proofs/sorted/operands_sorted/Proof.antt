@@ -13,8 +13,27 @@ operands-sorted-spec = tie.close (tie.spec
     (λ c. search needs)
     (λ c. λ u v w d e f. unsorted u v w (c .enum-told .given .1))
     (λ c κs. search needs)
-    (λ c. λ u v w d e f. not-first (sortedAs (askBy (c .before .before .before .s .given .0 .0)) u v) (sortedAs (askBy (c .before .before .before .s .given .0 .1 .0)) v v) (sortedAs (askBy (c .before .before .before .s .given .0 .1 .1 .0)) w v) (sorted-is u v w (c .before .before .before .s .given .1)) (c .before .sorted-as .ensures u v d e) (c .if1 .taken))
+    (λ c.
+    let sorted-as = c .before in
+    let s = sorted-as .before .before in
+    λ u v w d e f. not-first (sortedAs (askBy (s .s .given .0 .0)) u v) (sortedAs (askBy (s .s .given .0 .1 .0)) v v)
+    (sortedAs (askBy (s .s .given .0 .1 .1 .0)) w v) (sorted-is u v w (s .s .given .1)) (sorted-as .sorted-as .ensures u v d e) (c .if1 .taken))
     (λ c κs. search needs)
-    (λ c. λ u v w d e f. not-second (sortedAs (askBy (c .before .before .before .before .before .s .given .0 .0)) u v) (sortedAs (askBy (c .before .before .before .before .before .s .given .0 .1 .0)) v v) (sortedAs (askBy (c .before .before .before .before .before .s .given .0 .1 .1 .0)) w v) (sorted-is u v w (c .before .before .before .before .before .s .given .1)) (c .before .before .before .sorted-as .ensures u v d e) (c .before .before .if1 .left) (c .before .sorted-as2 .ensures v v e e) (c .if2 .taken))
+    (λ c.
+    let sorted-as2 = c .before in
+    let if1 = sorted-as2 .before in
+    let sorted-as = if1 .before in
+    let s = sorted-as .before .before in
+    λ u v w d e f. not-second (sortedAs (askBy (s .s .given .0 .0)) u v) (sortedAs (askBy (s .s .given .0 .1 .0)) v v)
+    (sortedAs (askBy (s .s .given .0 .1 .1 .0)) w v) (sorted-is u v w (s .s .given .1)) (sorted-as .sorted-as .ensures u v d e) (if1 .if1 .left)
+    (sorted-as2 .sorted-as2 .ensures v v e e) (c .if2 .taken))
     (λ c κs. search needs)
-    (λ c. λ u v w d e f. third (sortedAs (askBy (c .before .before .before .before .before .before .s .given .0 .0)) u v) (sortedAs (askBy (c .before .before .before .before .before .before .s .given .0 .1 .0)) v v) (sortedAs (askBy (c .before .before .before .before .before .before .s .given .0 .1 .1 .0)) w v) (sorted-is u v w (c .before .before .before .before .before .before .s .given .1)) (c .before .before .before .before .sorted-as .ensures u v d e) (c .before .before .before .if1 .left) (c .before .before .sorted-as2 .ensures v v e e) (c .before .if2 .left) (c .sorted-as3 .ensures w v f e)))
+    (λ c.
+    let if2 = c .before in
+    let sorted-as2 = if2 .before in
+    let if1 = sorted-as2 .before in
+    let sorted-as = if1 .before in
+    let s = sorted-as .before .before in
+    λ u v w d e f. third (sortedAs (askBy (s .s .given .0 .0)) u v) (sortedAs (askBy (s .s .given .0 .1 .0)) v v)
+    (sortedAs (askBy (s .s .given .0 .1 .1 .0)) w v) (sorted-is u v w (s .s .given .1)) (sorted-as .sorted-as .ensures u v d e) (if1 .if1 .left)
+    (sorted-as2 .sorted-as2 .ensures v v e e) (if2 .if2 .left) (c .sorted-as3 .ensures w v f e)))

@@ -11,4 +11,10 @@ own-sort-spec = tie.close (tie.spec
     (λ c κs. search needs)
     (λ c κs. search needs)
     (λ c κs. search needs)
-    (λ c. let s = c .before .before .before .before in row-sort-is (s .args .rows .now) (s .args .i) (c .before .asks-at .result) (c .before .asks-at .ensures) (c .sort-by .ensures (sortBelow (s .args .rows .now) (s .args .i) (opB (s .args .rows .now) (s .args .i))) (sort-read (s .args .rows .now) (s .args .table .now) (s .args .i) (s .pre .1) (c .before .before .before .get .ensures) (c .before .before .below .ensures)))))
+    (λ c.
+    let asks-at = c .before in
+    let below = asks-at .before in
+    let get = below .before in
+    let start = get .before in
+    row-sort-is (start .args .rows .now) (start .args .i) (asks-at .asks-at .result) (asks-at .asks-at .ensures)
+    (c .sort-by .ensures (sortBelow (start .args .rows .now) (start .args .i) (opB (start .args .rows .now) (start .args .i))) (sort-read (start .args .rows .now) (start .args .table .now) (start .args .i) (start .pre .1) (get .get .ensures) (below .below .ensures)))))

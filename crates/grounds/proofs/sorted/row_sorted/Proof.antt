@@ -15,4 +15,14 @@ row-sorted-spec = tie.close (tie.spec
     (λ c κs. search needs)
     (λ c κs. search needs)
     (λ c κs. search needs)
-    (λ c. let s = c .before .before .before .before .before .before .before .before in row-sorted-is (s .args .rows .now) (s .args .i) (c .before .asks-at .result) (c .before .asks-at .ensures) (c .operands-sorted .ensures (sortBelow (s .args .rows .now) (s .args .i) (opA (s .args .rows .now) (s .args .i))) (sortBelow (s .args .rows .now) (s .args .i) (opB (s .args .rows .now) (s .args .i))) (sortBelow (s .args .rows .now) (s .args .i) (opC (s .args .rows .now) (s .args .i))) (sort-read (s .args .rows .now) (s .args .table .now) (s .args .i) (s .pre .1) (c .before .before .before .before .before .before .before .get .ensures) (c .before .before .before .before .before .before .below .ensures)) (sort-read (s .args .rows .now) (s .args .table .now) (s .args .i) (s .pre .1) (c .before .before .before .before .before .get2 .ensures) (c .before .before .before .before .below2 .ensures)) (sort-read (s .args .rows .now) (s .args .table .now) (s .args .i) (s .pre .1) (c .before .before .before .get3 .ensures) (c .before .before .below3 .ensures)))))
+    (λ c.
+    let asks-at = c .before in
+    let below3 = asks-at .before in
+    let get3 = below3 .before in
+    let below2 = get3 .before in
+    let get2 = below2 .before in
+    let below = get2 .before in
+    let get = below .before in
+    let start = get .before in
+    row-sorted-is (start .args .rows .now) (start .args .i) (asks-at .asks-at .result) (asks-at .asks-at .ensures)
+    (c .operands-sorted .ensures (sortBelow (start .args .rows .now) (start .args .i) (opA (start .args .rows .now) (start .args .i))) (sortBelow (start .args .rows .now) (start .args .i) (opB (start .args .rows .now) (start .args .i))) (sortBelow (start .args .rows .now) (start .args .i) (opC (start .args .rows .now) (start .args .i))) (sort-read (start .args .rows .now) (start .args .table .now) (start .args .i) (start .pre .1) (get .get .ensures) (below .below .ensures)) (sort-read (start .args .rows .now) (start .args .table .now) (start .args .i) (start .pre .1) (get2 .get2 .ensures) (below2 .below2 .ensures)) (sort-read (start .args .rows .now) (start .args .table .now) (start .args .i) (start .pre .1) (get3 .get3 .ensures) (below3 .below3 .ensures)))))

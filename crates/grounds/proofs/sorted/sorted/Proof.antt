@@ -23,10 +23,26 @@ sorted-spec = tie.close (tie.spec
     μ-loop
     (λ c. (omega arith, refl, sorts-none (c .args .rows .now) (replicate maxRows 0), every-none (rowSorted (c .args .rows .now))))
     (λ c κs. (omega arith, c .before .before .loop .inv .2))
-    (λ c. let s = c .before .before .before .before .before in every-broken (rowSorted (s .args .rows .now)) (s .args .n) (c .before .before .before .before .loop .i) (c .before .row-sorted .result) (c .before .before .before .loop-test .taken) (c .before .row-sorted .ensures) (c .if1 .taken))
-    (λ c κs. (omega arith, c .before .before .before .before .before .loop .inv .2))
+    (λ c.
+    let row-sorted = c .before in
+    let test = row-sorted .before .before in
+    let loop = test .before in
+    let start = loop .before in
+    every-broken (rowSorted (start .args .rows .now)) (start .args .n) (loop .loop .i) (row-sorted .row-sorted .result) (test .loop-test .taken)
+    (row-sorted .row-sorted .ensures) (c .if1 .taken))
+    (λ c κs.
+    let loop = c .before .before .before .before .before in
+    (omega arith, loop .loop .inv .2))
     (λ c. omega arith)
     (λ c. omega arith)
     (λ c. omega arith)
-    (λ c. let s = c .before .before .before .before .before .before .before in (omega arith, length-set (c .before .before .before .before .before .before .loop .table) (c .before .before .before .before .before .before .loop .i) (c .own-sort .result) ∙ c .before .before .before .before .before .before .loop .inv .1, sort-written (s .args .rows .now) (c .before .before .before .before .before .before .loop .table) (c .before .before .before .before .before .before .loop .i) (c .before .before .before .before .before .before .loop .inv .2) (c .own-sort .result) (omega arith) (c .own-sort .ensures), every-more (rowSorted (s .args .rows .now)) (c .before .before .before .before .before .before .loop .i) (c .before .before .before .row-sorted .result) (c .before .before .before .before .before .before .loop .inv .3) (c .before .before .before .row-sorted .ensures) (c .before .before .if1 .left)))
-    (λ c. let s = c .before .before in every-all (rowSorted (s .args .rows .now)) (s .args .n) (c .before .loop .i) (c .before .loop .inv .3) (omega arith)))
+    (λ c.
+    let if1 = c .before .before in
+    let row-sorted = if1 .before in
+    let loop = row-sorted .before .before .before in
+    let start = loop .before in
+    (omega arith, length-set (loop .loop .table) (loop .loop .i) (c .own-sort .result) ∙ loop .loop .inv .1, sort-written (start .args .rows .now) (loop .loop .table) (loop .loop .i) (loop .loop .inv .2) (c .own-sort .result) (omega arith) (c .own-sort .ensures), every-more (rowSorted (start .args .rows .now)) (loop .loop .i) (row-sorted .row-sorted .result) (loop .loop .inv .3) (row-sorted .row-sorted .ensures) (if1 .if1 .left)))
+    (λ c.
+    let loop = c .before in
+    let start = loop .before in
+    every-all (rowSorted (start .args .rows .now)) (start .args .n) (loop .loop .i) (loop .loop .inv .3) (omega arith)))

@@ -46,11 +46,34 @@ asks-of-spec = tie.close (tie.spec
     (λ c. at-key (c .match .keys15))
     (λ c. at-key (c .match .keys16))
     (λ c. in-asks 1 3 (tt, (refl, (refl, tt))) (c .before .if1 .left) (c .if2 .taken) (c .before .before .match .rest))
-    (λ c. in-asks 20 4 (tt, (tt, (refl, (refl, tt)))) (c .before .if3 .left) (c .if4 .taken) (c .before .before .before .before .match .rest))
-    (λ c. in-asks 24 5 (tt, (tt, (tt, (refl, (refl, tt))))) (c .before .if4 .left) (c .if5 .taken) (c .before .before .before .before .before .match .rest))
-    (λ c. in-asks 40 5 (tt, (tt, (tt, (refl, (refl, tt))))) (c .before .if6 .left) (c .if7 .taken) (c .before .before .before .before .before .before .before .match .rest))
-    (λ c. in-asks 45 3 (tt, (refl, (refl, tt))) (c .before .if7 .left) (c .if8 .taken) (c .before .before .before .before .before .before .before .before .match .rest))
+    (λ c.
+    let if3 = c .before in
+    let match-at = if3 .before .before .before in
+    in-asks 20 4 (tt, (tt, (refl, (refl, tt)))) (if3 .if3 .left) (c .if4 .taken) (match-at .match .rest))
+    (λ c.
+    let if4 = c .before in
+    let match-at = if4 .before .before .before .before in
+    in-asks 24 5 (tt, (tt, (tt, (refl, (refl, tt))))) (if4 .if4 .left) (c .if5 .taken) (match-at .match .rest))
+    (λ c.
+    let if6 = c .before in
+    let match-at = if6 .before .before .before .before .before .before in
+    in-asks 40 5 (tt, (tt, (tt, (refl, (refl, tt))))) (if6 .if6 .left) (c .if7 .taken) (match-at .match .rest))
+    (λ c.
+    let if7 = c .before in
+    let match-at = if7 .before .before .before .before .before .before .before in
+    in-asks 45 3 (tt, (refl, (refl, tt))) (if7 .if7 .left) (c .if8 .taken) (match-at .match .rest))
     (λ c. gap 0 1 (c .before .before .args .k) refl (omega arith) (c .if1 .taken) (c .before .match .rest))
-    (λ c. gap 4 16 (c .before .before .before .before .args .k) refl (c .before .if2 .left) (c .if3 .taken) (c .before .before .before .match .rest))
-    (λ c. gap 29 11 (c .before .before .before .before .before .before .before .args .k) refl (c .before .if5 .left) (c .if6 .taken) (c .before .before .before .before .before .before .match .rest))
-    (λ c. beyond (c .before .before .before .before .before .before .before .before .before .args .k) (c .if8 .left) (c .before .before .before .before .before .before .before .before .match .rest)))
+    (λ c.
+    let if2 = c .before in
+    let match-at = if2 .before .before in
+    let start = match-at .before in
+    gap 4 16 (start .args .k) refl (if2 .if2 .left) (c .if3 .taken) (match-at .match .rest))
+    (λ c.
+    let if5 = c .before in
+    let match-at = if5 .before .before .before .before .before in
+    let start = match-at .before in
+    gap 29 11 (start .args .k) refl (if5 .if5 .left) (c .if6 .taken) (match-at .match .rest))
+    (λ c.
+    let match-at = c .before .before .before .before .before .before .before .before in
+    let start = match-at .before in
+    beyond (start .args .k) (c .if8 .left) (match-at .match .rest)))

@@ -19,6 +19,10 @@ load-counted-spec = tie.close (tie.spec
     (λ c κs. search needs)
     (λ c. search needs)
     (λ c.
-    let a = c .before .before .before .before .before .before .args in
-    let e = met (a .n) (a .text .now) (a .rows .now) (omega (arith, c .before .before .before .if2 .left, c .before .before .before .before .if1 .left)) in
-    (c .before .load .ensures .0 ∙ ap (λ p. p .0) (sym e), c .before .load .ensures .1 ∙ ap (λ p. p .1) (sym e))))
+    let load = c .before in
+    let if2 = load .before .before in
+    let if1 = if2 .before in
+    let start = if1 .before .before in
+    let a = start .args in
+    let e = met (a .n) (a .text .now) (a .rows .now) (omega (arith, if2 .if2 .left, if1 .if1 .left)) in
+    (load .load .ensures .0 ∙ ap (λ p. p .0) (sym e), load .load .ensures .1 ∙ ap (λ p. p .1) (sym e))))

@@ -16,16 +16,28 @@ show-spec = tie.close (tie.spec
     (λ c. search needs)
     (λ c κs. search needs)
     (λ c.
-    let s = c .before .before .before .before .before .before .before .before .before .before .before in let a = s .args in let q = c .before .before .before .before .before .before .before .fill in
-    let b = bytes-few (a .rows .now) (a .state .now) (a .answer) (a .strides) (a .out .now) (s .pre .0) (q .result) (q .last .1 .1 .0) (q .last .1 .1 .1 .0) (q .kept .1 .1 .1 .0) (q .ensures) in
+    let fill = c .before .before .before .before .before .before .before in
+    let start = fill .before .before .before .before in
+    let a = start .args in
+    let q = fill .fill in
+    let b = bytes-few (a .rows .now) (a .state .now) (a .answer) (a .strides) (a .out .now) (start .pre .0) (q .result) (q .last .1 .1 .0) (q .last .1 .1 .1 .0) (q .kept .1 .1 .1 .0) (q .ensures) in
     record { fits = omega (arith, b) })
     (λ c κs. search needs)
     (λ c.
-    let s = c .before .before .before .before .before .before .before .before .before .before .before .before .before .before .before in let a = s .args in let q = c .before .before .before .before .before .before .before .before .before .before .before .fill in
-    let b = bytes-few (a .rows .now) (a .state .now) (a .answer) (a .strides) (a .out .now) (s .pre .0) (q .result) (q .last .1 .1 .0) (q .last .1 .1 .1 .0) (q .kept .1 .1 .1 .0) (q .ensures) in
+    let fill = c .before .before .before .before .before .before .before .before .before .before .before in
+    let start = fill .before .before .before .before in
+    let a = start .args in
+    let q = fill .fill in
+    let b = bytes-few (a .rows .now) (a .state .now) (a .answer) (a .strides) (a .out .now) (start .pre .0) (q .result) (q .last .1 .1 .0) (q .last .1 .1 .1 .0) (q .kept .1 .1 .1 .0) (q .ensures) in
     record { fits = omega (arith, b) })
     (λ c. search needs)
     (λ c.
-    let s = c .before .before .before .before .before .before .before .before .before .before .before .before .before .before .before in let a = s .args in let q = c .before .before .before .before .before .before .before .before .before .before .before .fill in
-    drawn (a .rows .now) (a .state .now) (a .answer) (a .strides) (a .out .now) (s .pre .0) (q .result) (q .last .1 .1 .0) (q .last .1 .1 .1 .0) (q .kept .1 .1 .1 .0) (q .ensures)
-    (s .pre .1) (s .pre .2) (q .kept .1 .1 .0) (c .before .before .before .before .before .copy-in .ensures .1) (c .before .before .before .before .before .copy-in .last .1 .0) (c .before .before .write .last .0) (c .before .before .before .before .before .copy-in .ensures .0) (c .before .before .write .kept .0) (c .before .before .write .ensures)))
+    let write = c .before .before in
+    let copy-in = write .before .before .before in
+    let fill = copy-in .before .before .before .before .before .before in
+    let start = fill .before .before .before .before in
+    let a = start .args in
+    let q = fill .fill in
+    drawn (a .rows .now) (a .state .now) (a .answer) (a .strides) (a .out .now) (start .pre .0) (q .result) (q .last .1 .1 .0) (q .last .1 .1 .1 .0)
+    (q .kept .1 .1 .1 .0) (q .ensures) (start .pre .1) (start .pre .2) (q .kept .1 .1 .0) (copy-in .copy-in .ensures .1)
+    (copy-in .copy-in .last .1 .0) (write .write .last .0) (copy-in .copy-in .ensures .0) (write .write .kept .0) (write .write .ensures)))

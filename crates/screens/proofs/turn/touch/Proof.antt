@@ -15,7 +15,8 @@ touch-spec = tie.close (tie.spec
     (search needs, omega (arith, f .0), omega (arith, f .1)))
     (λ c. search needs)
     (λ c.
-    let a = c .before .before .before .before .before .before .before .args in let q = c .before .before .before .before .handle in (
-      touch-state (a .rows .now) (a .state .now) (a .event .now) (a .out .now) (q .result) (q .last .1 .0) (q .ensures .0),
-      touch-drawn (a .rows .now) (a .state .now) (a .event .now) (a .out .now) (q .result) (q .last .1 .0) (q .ensures .0) (c .show .result) (c .show .last .1 .1 .1 .1 .0) (c .show .ensures),
-    )))
+    let handle = c .before .before .before .before in
+    let start = handle .before .before .before in
+    let a = start .args in
+    let q = handle .handle in
+    (touch-state (a .rows .now) (a .state .now) (a .event .now) (a .out .now) (q .result) (q .last .1 .0) (q .ensures .0), touch-drawn (a .rows .now) (a .state .now) (a .event .now) (a .out .now) (q .result) (q .last .1 .0) (q .ensures .0) (c .show .result) (c .show .last .1 .1 .1 .1 .0) (c .show .ensures))))

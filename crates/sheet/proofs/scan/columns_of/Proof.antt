@@ -1,5 +1,4 @@
 -- `columns_of` meets its contract. Assumes nothing.
-use borrow.Author.Needs.{needs}
 use Rattle.sheet.proofs.ScanLaws.{columns-kind, columns-operand}
 use Rattle.sheet.proofs.scan.columns_of.Statement.{statement}
 use Rattle.sheet.proofs.scan.columns_of.Tie as tie

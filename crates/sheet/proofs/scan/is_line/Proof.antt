@@ -15,17 +15,20 @@ returns c =
 
 returns-2 : tie.Need-returns-2
 returns-2 c =
-    let told = c .before in
-    let read = told .before .before in
+    let reading = c .before in
+    let start-at = reading .before .before in
+    let read = start-at in
     let start = read .before .before .before .before in
     line-row (start .args .sheet .now) (start .args .i) (start .args .i * lineBytes + (lineBytes - 1)) (omega arith) (read .before .if1 .left)
-    (told .reading .given .0 .0) (start .pre .0) (sym (told .reading .given .1) ∙ read .read .ensures)
+    (reading .reading .given .0 .0) (start .pre .0) (sym (reading .reading .given .1) ∙ read .read .ensures)
 
 returns-3 : tie.Need-returns-3
 returns-3 c =
     let read = c .before .before in
-    let start = read .before .before .before .before in
-    line-unread (start .args .sheet .now) (start .args .i) (start .args .i * lineBytes + (lineBytes - 1)) (omega arith) (read .before .if1 .left)
+    let if1 = read .before in
+    let start-at = if1 .before .before .before in
+    let start = start-at in
+    line-unread (start .args .sheet .now) (start .args .i) (start .args .i * lineBytes + (lineBytes - 1)) (omega arith) (if1 .if1 .left)
     (sym (c .enum-told .given .1) ∙ read .read .ensures)
 
 pub is-line-spec : {M : Type 1} → statement M

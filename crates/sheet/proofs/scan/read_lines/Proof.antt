@@ -27,27 +27,27 @@ lines-holds c = let start = c .before in (search needs, refl, rows-none (start .
 
 loop-holds : tie.Need-loop-holds Inv-loop μ-loop Inv-lines μ-lines
 loop-holds c =
-    let line = c .before in
-    let lines = line .before .before in
+    let is-line = c .before in
+    let start-at = is-line .before .before in
+    let lines = start-at in
     let start = lines .before .before in
-    (search needs, lines .lines .inv .1, kept-none (start .args .sheet .now) (lines .lines .i) (lines .lines .own) (line .is-line .result) (line .is-line .ensures) (c .if1 .left))
+    (search needs, lines .lines .inv .1, kept-none (start .args .sheet .now) (lines .lines .i) (lines .lines .own) (is-line .is-line .result) (is-line .is-line .ensures) (c .if1 .left))
 
 loop-again : tie.Need-loop-again Inv-loop μ-loop Inv-lines μ-lines
 loop-again c =
-    let told = c .before in
-    let read = told .before .before in
+    let w = c .before in
+    let start-at = w .before .before in
+    let read = start-at in
     let loop = read .before .before in
     let lines = loop .before .before .before .before in
-    let start = lines .before .before in (
-      omega arith,
-      loop .loop .inv .1,
-      kept-more (start .args .sheet .now) (lines .lines .i) (lines .lines .own) (told .w .given .0 .0) (read .before .loop-test .taken) (loop .loop .inv .2) (sym (told .w .given .1) ∙ read .read-word .ensures),
-    )
+    let start = lines .before .before in
+    (omega arith, loop .loop .inv .1, kept-more (start .args .sheet .now) (lines .lines .i) (lines .lines .own) (w .w .given .0 .0) (read .before .loop-test .taken) (loop .loop .inv .2) (sym (w .w .given .1) ∙ read .read-word .ensures))
 
 lines-again : tie.Need-lines-again Inv-loop μ-loop Inv-lines μ-lines
 lines-again c =
     let loop = c .before in
-    let lines = loop .before .before .before .before in
+    let start-at = loop .before .before .before .before in
+    let lines = start-at in
     let start = lines .before .before in
     (omega arith, loop .loop .inv .1, rows-more (start .args .sheet .now) (lines .lines .i) (loop .loop .k) (omega arith) (omega arith) (lines .lines .inv .2) (loop .loop .inv .2))
 
@@ -59,20 +59,24 @@ returns c =
 
 returns-2 : tie.Need-returns-2 Inv-loop μ-loop Inv-lines μ-lines
 returns-2 c =
-    let line = c .before in
-    let lines = line .before .before in
+    let is-line = c .before in
+    let test = is-line .before in
+    let start-at = test .before in
+    let lines = start-at in
     let start = lines .before .before in
-    rows-stop (start .args .sheet .now) (lines .lines .own) (lines .lines .i) (start .args .n) (line .before .lines-test .taken)
-    (line-none (start .args .sheet .now) (lines .lines .i) (line .is-line .result) (line .is-line .ensures) (c .if1 .taken))
+    rows-stop (start .args .sheet .now) (lines .lines .own) (lines .lines .i) (start .args .n) (test .lines-test .taken)
+    (line-none (start .args .sheet .now) (lines .lines .i) (is-line .is-line .result) (is-line .is-line .ensures) (c .if1 .taken))
 
 returns-3 : tie.Need-returns-3 Inv-loop μ-loop Inv-lines μ-lines
 returns-3 c =
-    let read = c .before .before in
-    let loop = read .before .before in
+    let read-word = c .before .before in
+    let test = read-word .before in
+    let start-at = test .before in
+    let loop = start-at in
     let lines = loop .before .before .before .before in
     let start = lines .before .before in
     rows-stop (start .args .sheet .now) (loop .loop .own) (lines .lines .i) (start .args .n) (loop .before .before .before .lines-test .taken)
-    (line-stops (start .args .sheet .now) (lines .lines .i) (read .before .loop-test .taken) (sym (c .enum-told .given .1) ∙ read .read-word .ensures))
+    (line-stops (start .args .sheet .now) (lines .lines .i) (test .loop-test .taken) (sym (c .enum-told .given .1) ∙ read-word .read-word .ensures))
 
 pub read-lines-spec : {M : Type 1} → statement M
 read-lines-spec = tie.close (tie.spec Inv-loop μ-loop Inv-lines μ-lines

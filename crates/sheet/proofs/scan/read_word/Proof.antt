@@ -1,5 +1,5 @@
 -- `read_word` meets its contract. Assumes nothing.
-use mathlib.Core.Path.{ap, _∙_}
+use mathlib.Core.Path.{_∙_}
 use Prim.Native.Nat.{_+_, _*_}
 use native.Mathlib.Omega.{arith}
 use borrow.Author.Needs.{needs}
@@ -19,10 +19,12 @@ add-read c =
 
 returns : tie.Need-returns
 returns c =
-    let columns = c .before in
-    let place = columns .before in
+    let columns-of = c .before in
+    let start-at = columns-of .before in
+    let place = start-at in
     let start = place .before .before in
-    c .read .ensures ∙ (λ j. reading (readsAt (start .args .sheet .now) (start .args .i * lineBytes + place .place-of .ensures j) (columns .columns-of .ensures j)))
+    c .read .ensures ∙
+    (λ j. reading (readsAt (start .args .sheet .now) (start .args .i * lineBytes + place .place-of .ensures j) (columns-of .columns-of .ensures j)))
 
 pub read-word-spec : {M : Type 1} → statement M
 read-word-spec = tie.close (tie.spec (λ c κs. search needs) (λ c κs. search needs) (λ c. search needs) add-read (λ c κs. search needs) returns)
