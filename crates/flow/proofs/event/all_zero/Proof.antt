@@ -4,6 +4,7 @@ use Prim.Native.Nat.{ℕ, _-_, _≤_, _<_}
 use native.Mathlib.Omega.{arith}
 use lib.ListN.{getD}
 use borrow.Author.Needs.{needs}
+use Rattle.tophat.specs.Syntax.{maxLeaves}
 use Rattle.flow.proofs.EventLaws.{some-leaf, no-leaf, one-more}
 use Rattle.flow.proofs.event.all_zero.Statement.{statement}
 use Rattle.flow.proofs.event.all_zero.Tie as tie
@@ -11,10 +12,10 @@ use Rattle.flow.proofs.event.all_zero.Reads as reads
 use Rattle.flow.proofs.event.all_zero.Lts as lts
 
 abbrev Inv-loop : tie.InvT-loop
-Inv-loop leaves k₀ k = (k ≤ 4) × ((i : ℕ) → i < k → getD leaves i 0 ≡ 0)
+Inv-loop leaves k₀ k = (k ≤ maxLeaves) × ((i : ℕ) → i < k → getD leaves i 0 ≡ 0)
 
 abbrev μ-loop : tie.MeasureT-loop
-μ-loop leaves k₀ k = 4 - k
+μ-loop leaves k₀ k = maxLeaves - k
 
 loop-holds : tie.Need-loop-holds Inv-loop μ-loop
 loop-holds c = (omega arith, (λ i l. absurd (omega arith)))

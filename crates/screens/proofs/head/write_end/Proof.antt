@@ -2,6 +2,9 @@
 use mathlib.Core.Path.{sym}
 use borrow.Author.Needs.{needs}
 use lib.Seq.{set-out}
+use Rattle.decimal.specs.Field.{newline}
+use Rattle.formats.specs.Records.{total}
+use Rattle.formats.specs.Heads.{headColumns}
 use Rattle.screens.proofs.head.write_end.Statement.{statement}
 use Rattle.screens.proofs.head.write_end.Tie as tie
 
@@ -10,4 +13,4 @@ write-end-spec = tie.close (tie.spec
     (λ c. search needs)
     (λ c. search needs)
     (λ c. search needs)
-    (λ c. sym (set-out (c .before .args .s .now) 64 10 (c .if1 .left))))
+    (λ c. sym (set-out (c .before .args .s .now) (total headColumns) newline (c .if1 .left))))
