@@ -60,18 +60,18 @@ pub fn ground_of_rows(rows: &[u32; ROWS_WORDS], n: usize) -> u32
     0
 }
 
-// Ground 20 does not hold: the first `length` words are rows that an accepted sheet loads to.
-pub fn accepted_rows(rows: &[u32; ROWS_WORDS], length: usize) -> bool
-    ensures { λ r. ⌜ r ≡ acceptedRows (now (rows .entry)) length ⌝ }
+// Ground 20 does not hold: the first so many words are rows that an accepted sheet loads to.
+pub fn accepted_rows(rows: &[u32; ROWS_WORDS], words: usize) -> bool
+    ensures { λ r. ⌜ r ≡ acceptedRows (now (rows .entry)) words ⌝ }
 {
-    if length == 0 {
+    if words == 0 {
         return false;
     }
-    if ROWS_WORDS < length {
+    if ROWS_WORDS < words {
         return false;
     }
-    if length % ROW_WORDS != 0 {
+    if words % ROW_WORDS != 0 {
         return false;
     }
-    ground_of_rows(rows, length / ROW_WORDS) == 0
+    ground_of_rows(rows, words / ROW_WORDS) == 0
 }

@@ -1,5 +1,6 @@
--- 01's proved cases, P1 to P12, as one computed check: what the definitions give for each flow and its touches is what 01
--- says. A screen is written in 01's numbers and in 01's order. Rests on the Compute files.
+-- 01's proved cases, P1 to P12, and one for 01's numbers, as one computed check: what the definitions give for each flow and its
+-- touches is what 01 says. What is computed has its numbers from the calculus' tables; what 01 says has them as 01 writes them, and is
+-- in 01's order. Rests on the Compute files.
 use mathlib.Core.Path.{_≡_, refl}
 use mathlib.Core.Bool.{Bool, true, false}
 use mathlib.Core.Option.{Option, none, some, bind}
@@ -9,16 +10,16 @@ use lib.IntN.{ℤ, pos, negsuc}
 use native.Mathlib.Decide.{decLe}
 use Rattle.word.specs.Word.{wrap, residue}
 use Rattle.decimal.specs.Path.{Mark, first, second, Path}
-use Rattle.tophat.specs.Syntax.{leaves, moves, Ty, number, pair, sum, product, lessEqual, equal, Exp, enumber, ebinder, eop, eassign}
+use Rattle.tophat.specs.Syntax.{leaves, moves, Ty, unit, truth, number, pair, sum, product, lessEqual, equal, Exp, enumber, ebinder, eop, eassign}
 use Rattle.tophat.specs.Syntax.{Code, edit, enter, update, then, next, fail, and, or, xor, if, let', TaskOf, Val, vnumber, Store}
 use Rattle.tophat.specs.Normalising.{value, pairOf}
-use Rattle.tophat.specs.Handling.{continue, left, right, Action, give, press}
-use Rattle.tophat.specs.Leaves.{leavesOf, padded, numberLeaf, leafNumber, leafKinds, valueOf, meetsLeaf, meets, given}
+use Rattle.tophat.specs.Handling.{continue, left, right, giving, pressing, actNumber, Action, give, press}
+use Rattle.tophat.specs.Leaves.{leavesOf, padded, leafNumber, leafKinds, valueOf, meetsLeaf, meets, given}
 use Rattle.tophat.specs.Showing.{Offer, fill, button, marked, offers, buttonIf}
 use Rattle.tophat.proofs.ComputeTyping.{inferTask, infer, ask, nth, numberTo, opTo, takes, gives, sameTo, ifTo, typeTo, assignTo}
 use Rattle.tophat.proofs.ComputeEvaluation.{eval, branch, isTrue, apply, leaf}
 use Rattle.tophat.proofs.ComputeNormalising.{failing, normalise, settle, strides, unlessStill, goOn, goOnWith, chooseRight, chooseLeft}
-use Rattle.tophat.proofs.ComputeHandling.{handle, mapTask, thenSome, atEditor, atSides, atContinue, unlessFailing}
+use Rattle.tophat.proofs.ComputeHandling.{handle, mapTask, thenSome, atEditor, atMark, atSides, atContinue, unlessFailing}
 use Rattle.tophat.specs.Typing.{typeOf}
 use Rattle.tophat.proofs.ComputeEntries.{entries, continueIf}
 
@@ -37,10 +38,8 @@ digit first = 1
 digit second = 2
 
 unfoldable pub lineOf : Path → Offer → Line
-lineOf p (fill ks) = line (map digit p) 1 (map leafNumber ks)
-lineOf p (button continue) = line (map digit p) 2 (padded 0 [])
-lineOf p (button left) = line (map digit p) 3 (padded 0 [])
-lineOf p (button right) = line (map digit p) 4 (padded 0 [])
+lineOf p (fill ks) = line (map digit p) (actNumber giving) (map leafNumber ks)
+lineOf p (button b) = line (map digit p) (actNumber (pressing b)) (padded 0 [])
 
 unfoldable pub flag : Bool → ℕ
 flag true = 1
@@ -105,12 +104,15 @@ single n = padded (pos 0) (n ∷ [])
 abbrev pub value1 : ℕ → Path × Action
 value1 n = ([], give (single (pos n)))
 
--- the entry of an editor of numbers at a path, and Left's at the empty path
-abbrev pub editor : List ℕ → Line
-editor p = line p 1 (padded 0 (leafNumber numberLeaf ∷ []))
+-- the entry of an editor of one leaf of this kind at a path, of numbers; and a button's at the empty path
+abbrev pub editorOf : ℕ → List ℕ → Line
+editorOf k p = line p 1 (padded 0 (k ∷ []))
 
-abbrev pub leftLine : Line
-leftLine = line [] 3 (padded 0 [])
+abbrev pub editor : List ℕ → Line
+editor p = editorOf 3 p
+
+abbrev pub buttonLine : ℕ → Line
+buttonLine n = line [] n (padded 0 [])
 
 -- P1 to P4: 01's session: started, value 12, value 4, Continue
 abbrev pub p1-p4 : Case
@@ -169,8 +171,8 @@ p8 = record {
   events = ([], press right) ∷ ([], press left) ∷ [];
   type = some number;
   shown =
-      screen 0 1 0 0 (single (pos 0)) (leftLine ∷ [])
-      ∷ screen 9 0 0 0 (single (pos 0)) (leftLine ∷ [])
+      screen 0 1 0 0 (single (pos 0)) (buttonLine 3 ∷ [])
+      ∷ screen 9 0 0 0 (single (pos 0)) (buttonLine 3 ∷ [])
       ∷ screen 0 1 0 1 (single (pos 1)) (editor [] ∷ [])
       ∷ [];
   kept = [];
@@ -224,15 +226,32 @@ p12 = record {
   kept = [];
 }
 
-unfoldable pub cases : List Case
-cases = p1-p4 ∷ p5 ∷ p6 ∷ p7 ∷ p8 ∷ p9 ∷ p10 ∷ p11 ∷ p12 ∷ []
+-- 01's numbers: leaf kinds 1 and 2 (an editor of unit and one of truth, action 1), then action 2 (Continue), then 3 and 4 (Left and Right).
+-- Of these P1 to P12 show 1 and 3 alone, and of the leaf kinds 3
+abbrev pub buttons : Case
+buttons = record {
+  flow = next (and (enter unit) (enter truth)) (xor (edit (num 1)) (edit (num 2)));
+  cells = [];
+  events = (first ∷ [], give (single (pos 0))) ∷ (second ∷ [], give (single (pos 1))) ∷ ([], press continue) ∷ [];
+  type = some number;
+  shown =
+      screen 0 1 0 0 (single (pos 0)) (editorOf 1 (1 ∷ []) ∷ editorOf 2 (2 ∷ []) ∷ [])
+      ∷ screen 0 1 0 0 (single (pos 0)) (editorOf 1 (1 ∷ []) ∷ editorOf 2 (2 ∷ []) ∷ [])
+      ∷ screen 0 1 0 0 (single (pos 0)) (editorOf 1 (1 ∷ []) ∷ editorOf 2 (2 ∷ []) ∷ buttonLine 2 ∷ [])
+      ∷ screen 0 1 0 0 (single (pos 0)) (buttonLine 3 ∷ buttonLine 4 ∷ [])
+      ∷ [];
+  kept = [];
+}
 
--- P1 to P12: what is computed is what 01 says
+unfoldable pub cases : List Case
+cases = p1-p4 ∷ p5 ∷ p6 ∷ p7 ∷ p8 ∷ p9 ∷ p10 ∷ p11 ∷ p12 ∷ buttons ∷ []
+
+-- what is computed is what 01 says
 pub cases-hold : map computed cases ≡ map expected cases
 unfolding
     cases computed expected screens taken screenOf flag valueFlag valueLeaves lineOf digit inferTask infer
     bind ask nth numberTo opTo takes gives sameTo ifTo typeTo assignTo decLe leaves moves settle normalise strides
     unlessStill goOn goOnWith chooseRight chooseLeft failing eval branch isTrue apply leaf value pairOf
     leavesOf padded leafKinds marked offers buttonIf typeOf valueOf meetsLeaf meets given mapTask thenSome atEditor
-    atSides atContinue unlessFailing handle continueIf entries wrap residue
+    atMark atSides atContinue unlessFailing handle continueIf entries wrap residue
 cases-hold = refl
