@@ -18,13 +18,13 @@ use Rattle.entries.specs.Listing.{AtPath}
 
 -- what a mark more than 16 would add
 abbrev pub mostUnit : ℕ
-mostUnit = 65536
+mostUnit = 2 ^ maxMarks
 
 module _ {n u : ℕ} (a : AtPath n u) where
   pub unit-most : u ≤ mostUnit
   unit-most = let h : 2 ^ length (pathOf n) ≤ 2 ^ maxMarks = pow-le-pow-right {n = 2} (omega arith) (a .few) in let e = a .unit-is in omega arith
 
-  pub path-most : n + 2 ≤ 131072
+  pub path-most : n + 2 ≤ 2 * mostUnit
   path-most = let h = number-small (pathOf n) (a .few) in let e = number-path n in omega arith
 
   -- the path is full

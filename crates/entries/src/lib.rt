@@ -12,6 +12,7 @@ use formats::write_numbers;
 use normalising::attempt;
 use normalising::tried;
 use rows::MAX_BINDERS;
+use rows::MAX_MARKS;
 use rows::MAX_ROWS;
 use rows::ROWS_WORDS;
 use rows::get;
@@ -48,7 +49,7 @@ pub const LIST_BYTES: usize = MAX_ROWS * ENTRY_BYTES;
 const LAST: usize = ENTRY_BYTES - 1;
 
 // What one mark more would add to a path of 16 marks.
-const MOST_UNIT: u32 = 65536;
+const MOST_UNIT: u32 = 1 << MAX_MARKS;
 
 // An entry at the front of the list, where there is room for it; how many bytes were written.
 fn write_entry(list: &mut [u8], marks: u32, action: u32, kinds: [u32; MAX_LEAVES]) -> usize

@@ -208,7 +208,7 @@ attempt-returns-3 t c =
     (operand2 .operand2 .result) (if2 .if2 .left) (operand2 .operand2 .ensures) (clear .clear .ensures) (c .put-value .ensures)
 
 choose-operand-requires : (t : ℕ) → choose-lts.Need-operand-requires (choose-calls t) (choose-at t) choose.Post
-choose-operand-requires t c κs = let s = c in ((s .pre .1 .0) .low, omega arith)
+choose-operand-requires t c κs = ((c .pre .1 .0) .low, omega arith)
 
 choose-operand-requires-2 : (t : ℕ) → choose-lts.Need-operand-requires-2 (choose-calls t) (choose-at t) choose.Post
 choose-operand-requires-2 t c κs = let s = c .before in ((s .pre .1 .0) .low, omega arith)
@@ -332,7 +332,7 @@ choose-returns-4 t c =
     (if1 .if1 .left) (stride2 .stride2 .result) (if2 .if2 .left) (or-right (c .if3 .left))
 
 failing-handed-on-requires : (t : ℕ) → failing-lts.Need-handed-on-requires (failing-calls t) (failing-at t) failing.Post
-failing-handed-on-requires t c κs = let s = c in (s .pre .1) .low
+failing-handed-on-requires t c κs = (c .pre .1) .low
 
 failing-enclose-requires : (t : ℕ) → failing-lts.Need-enclose-requires (failing-calls t) (failing-at t) failing.Post
 failing-enclose-requires t c κs =
@@ -547,7 +547,7 @@ abbrev normalise-μ-loop : normalise-lts.MeasureT-loop
 normalise-μ-loop rows state₀ row env depth strides₀ state strides = maxStrides - strides
 
 normalise-loop-holds : (t : ℕ) → normalise-lts.Need-loop-holds (normalise-calls t) (normalise-at t) normalise.Post normalise-Inv-loop normalise-μ-loop
-normalise-loop-holds t c = let s = c in (omega arith, mid-0 (s .args .rows .now) (s .args .state .now) (s .args .row) (s .args .env .now) (s .args .depth))
+normalise-loop-holds t c = (omega arith, mid-0 (c .args .rows .now) (c .args .state .now) (c .args .row) (c .args .env .now) (c .args .depth))
 
 normalise-stride-requires : (t : ℕ) → normalise-lts.Need-stride-requires (normalise-calls t) (normalise-at t) normalise.Post normalise-Inv-loop normalise-μ-loop
 normalise-stride-requires t c κs = let s = c .before .before .before in call-same (s .args .rows .now) (s .args .row) (s .args .depth) t 3 (s .pre) 2 (omega arith)

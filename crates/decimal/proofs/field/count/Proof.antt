@@ -17,7 +17,7 @@ abbrev μ-loop : tie.MeasureT-loop
 
 pub count-spec : {M : Type 1} → statement M
 count-spec = tie.close (tie.spec Inv-loop μ-loop
-    (λ c. let s = c in (s .pre .0, search needs, refl))
+    (λ c. (c .pre .0, search needs, refl))
     (λ c. search needs)
     (λ c.
     let test = c .before .before in

@@ -17,7 +17,7 @@ abbrev μ-loop : tie.MeasureT-loop
 
 pub put-digits-spec : {M : Type 1} → statement M
 put-digits-spec = tie.close (tie.spec Inv-loop μ-loop
-    (λ c. let s = c in (s .pre .1, refl, stored-0 (s .args .n) (s .args .at) (s .args .end) (s .args .s .now) (s .pre .0)))
+    (λ c. (c .pre .1, refl, stored-0 (c .args .n) (c .args .at) (c .args .end) (c .args .s .now) (c .pre .0)))
     (λ c. let l = c .before .loop in omega (arith, l .inv .2 .place, decimal-count (l .m) (c .loop-test .taken)))
     (λ c. search needs)
     (λ c. search needs)

@@ -17,7 +17,7 @@ abbrev μ-loop : tie.MeasureT-loop
 
 pub past-spaces-spec : {M : Type 1} → statement M
 past-spaces-spec = tie.close (tie.spec Inv-loop μ-loop
-    (λ c. let s = c in (omega arith, s .pre .0, refl))
+    (λ c. (omega arith, c .pre .0, refl))
     (λ c. search needs)
     (λ c.
     let test = c .before .before in

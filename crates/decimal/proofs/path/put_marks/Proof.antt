@@ -18,7 +18,7 @@ abbrev μ-loop : tie.MeasureT-loop
 
 pub put-marks-spec : {M : Type 1} → statement M
 put-marks-spec = tie.close (tie.spec Inv-loop μ-loop
-    (λ c. let s = c in (refl, laid-0 (s .args .path) (s .args .at) (s .args .s .now)))
+    (λ c. (refl, laid-0 (c .args .path) (c .args .at) (c .args .s .now)))
     (λ c. search needs)
     (λ c. search needs)
     (λ c. search needs)

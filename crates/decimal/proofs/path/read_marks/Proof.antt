@@ -18,7 +18,7 @@ abbrev μ-loop : tie.MeasureT-loop
 
 pub read-marks-spec : {M : Type 1} → statement M
 read-marks-spec = tie.close (tie.spec Inv-loop μ-loop
-    (λ c. let s = c in (s .pre .0, omega arith, marks-end (s .args .s .now) (s .args .end) (s .args .end) (s .pre .1) refl))
+    (λ c. (c .pre .0, omega arith, marks-end (c .args .s .now) (c .args .end) (c .args .end) (c .pre .1) refl))
     (λ c. search needs)
     (λ c. search needs)
     (λ c. search needs)
