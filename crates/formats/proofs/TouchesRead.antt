@@ -32,10 +32,10 @@ act-numbered (pressing left) = refl
 act-numbered (pressing right) = refl
 
 act-fits : (a : Act) → Fits (actionColumns, pos (actNumber a))
-act-fits giving = number-fits 2 1 (omega arith) (lit< tt) (lit< tt)
-act-fits (pressing continue) = number-fits 2 2 (omega arith) (lit< tt) (lit< tt)
-act-fits (pressing left) = number-fits 2 3 (omega arith) (lit< tt) (lit< tt)
-act-fits (pressing right) = number-fits 2 4 (omega arith) (lit< tt) (lit< tt)
+act-fits giving = number-fits actionColumns (actNumber giving) (omega arith) (lit< tt) (lit< tt)
+act-fits (pressing continue) = number-fits actionColumns (actNumber (pressing continue)) (omega arith) (lit< tt) (lit< tt)
+act-fits (pressing left) = number-fits actionColumns (actNumber (pressing left)) (omega arith) (lit< tt) (lit< tt)
+act-fits (pressing right) = number-fits actionColumns (actNumber (pressing right)) (omega arith) (lit< tt) (lit< tt)
 
 leaf-numbered : (k : Leaf) → numbered leafNumber leafTable (pos (leafNumber k)) ≡ some k
 unfolding numbered
@@ -45,10 +45,10 @@ leaf-numbered truthLeaf = refl
 leaf-numbered numberLeaf = refl
 
 pub leaf-fits : (k : Leaf) → Fits (actionColumns, pos (leafNumber k))
-leaf-fits noLeaf = number-fits 2 0 (omega arith) (lit< tt) (lit< tt)
-leaf-fits unitLeaf = number-fits 2 1 (omega arith) (lit< tt) (lit< tt)
-leaf-fits truthLeaf = number-fits 2 2 (omega arith) (lit< tt) (lit< tt)
-leaf-fits numberLeaf = number-fits 2 3 (omega arith) (lit< tt) (lit< tt)
+leaf-fits noLeaf = number-fits actionColumns (leafNumber noLeaf) (omega arith) (lit< tt) (lit< tt)
+leaf-fits unitLeaf = number-fits actionColumns (leafNumber unitLeaf) (omega arith) (lit< tt) (lit< tt)
+leaf-fits truthLeaf = number-fits actionColumns (leafNumber truthLeaf) (omega arith) (lit< tt) (lit< tt)
+leaf-fits numberLeaf = number-fits actionColumns (leafNumber numberLeaf) (omega arith) (lit< tt) (lit< tt)
 
 pub leaves-numbered : (ks : List Leaf) → leavesNumbered (map (λ k. pos (leafNumber k)) ks) ≡ some ks
 unfolding leavesNumbered bind
