@@ -3,7 +3,7 @@
  * cut into memories as it is. Every lent memory ends at a page that may not be touched, with guard bytes before it.
  *
  * Each call is asked: does it answer a number of its list; does a refusal change nothing and answer 0 beside its number; is what
- * start and handle leave a rest; are entries whole, and none exactly where the flow fails; are strides within their bound.
+ * start and handle leave a rest; are entries whole, and none where the flow fails; are strides within their bound.
  *
  * The archive tells libFuzzer nothing of its branches, so the answers do: libFuzzer keeps an input that sets a new counter. */
 #define _DEFAULT_SOURCE /* MAP_ANONYMOUS */
@@ -117,7 +117,7 @@ static uint32_t look(void) {
     ask(valued <= 1 && fails <= 1 && written <= list.count && written % 27 == 0, "flags or entries");
     ask(kept(&list, written), "look changed the list after its part");
     ask(number == 0 || (!valued && !fails && !written && kept(&value, 0)), "a refused look left something");
-    ask(number != 0 || fails == (written == 0), "failing is not the empty list");
+    ask(!fails || written == 0, "entries where the flow fails");
     ask(number != 0 || valued || !(lent_value[0] | lent_value[1] | lent_value[2] | lent_value[3]), "leaves without a value");
     kept(&value, 0); /* for its guard bytes */
     shown(2, number, (uint32_t)written * 4 + valued * 2 + fails);

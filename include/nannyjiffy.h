@@ -76,9 +76,10 @@ uint32_t nannyjiffy_start(const int32_t *rows, size_t rows_words, int32_t *state
  *   state   read: what start or handle wrote; 16 words a row exactly, else 21
  *   value   accepted: all 4 words written, the value's leaves, unused ones 0, all 0 without a value; 4 words exactly, else 21
  *   list    accepted: the entries from its first byte on, 27 bytes each; the bytes after them keep their content.
- *           Too short for the entries: 24. NANNYJIFFY_LIST_BYTES(rows) always suffice; a failing flow needs none
+ *           Too short for the entries: 24. NANNYJIFFY_LIST_BYTES(rows) always suffice; a quiet flow, one without entries,
+ *           needs none
  *   valued  1 with a value, else 0; refused: 0
- *   fails   1 where the flow fails, else 0; refused: 0
+ *   fails   1 where the flow fails, else 0; a flow that fails is quiet, a quiet one need not fail; refused: 0
  *   bytes   how many bytes of the list the entries are, a multiple of 27; refused: 0 */
 uint32_t nannyjiffy_look(const int32_t *rows, size_t rows_words, const int32_t *state, size_t state_words, int32_t *value,
                          size_t value_words, uint8_t *list, size_t list_bytes, uint32_t *valued, uint32_t *fails,

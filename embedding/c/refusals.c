@@ -1,5 +1,6 @@
 /* Each export from C with memory that is wrong in one way: the number that it answers, its single answers, and that lent memory, and
- * what stands beside it, keeps its content. Prints nothing where all is as nannyjiffy.h says. */
+ * what stands beside it, keeps its content; and a look at a quiet flow, which needs no list memory. Prints nothing where all is as
+ * nannyjiffy.h says. */
 #include "nannyjiffy.h"
 
 #include <stdio.h>
@@ -10,6 +11,9 @@ enum { ROWS = 2 };
 
 static const char sheet[] = "   0   3           0           0           0\n"
                             "   1  41           0           0           0\n";
+/* A shown 5: a value, no entry, and it does not fail. */
+static const char quiet[] = "   0  22           5           0           0\n"
+                            "   1  49           0           0           0\n";
 static const char entry[] = "               0 1 3 0 0 0\n";
 static const char give[] = "               0 1          12           0           0           0\n";
 static const char left[] = "               0 3           0           0           0           0\n";
@@ -32,9 +36,9 @@ enum { ROWS_WORDS = ROWS * NANNYJIFFY_ROW_WORDS, STATE_WORDS = ROWS * NANNYJIFFY
         }                                                                   \
     } while (0)
 
-static uint32_t load(size_t bytes, size_t words)
+static uint32_t load(const char *text, size_t bytes, size_t words)
 {
-    return nannyjiffy_load((const uint8_t *)sheet, bytes, lent.rows, words);
+    return nannyjiffy_load((const uint8_t *)text, bytes, lent.rows, words);
 }
 
 static uint32_t start(size_t rows, size_t words, uint32_t *strides)
@@ -75,14 +79,14 @@ int main(void)
     memset(&lent, 0x77, sizeof lent);
     kept = lent;
 
-    CHECK(load(0, 0) == NANNYJIFFY_LENGTH);
-    CHECK(load(sizeof sheet - 2, ROWS_WORDS) == NANNYJIFFY_LENGTH);
-    CHECK(load(sizeof sheet - 1, ROWS_WORDS + 1) == NANNYJIFFY_MEMORY);
-    CHECK(load(NANNYJIFFY_LINE_BYTES, NANNYJIFFY_ROW_WORDS) == NANNYJIFFY_NAMING);
+    CHECK(load(sheet, 0, 0) == NANNYJIFFY_LENGTH);
+    CHECK(load(sheet, sizeof sheet - 2, ROWS_WORDS) == NANNYJIFFY_LENGTH);
+    CHECK(load(sheet, sizeof sheet - 1, ROWS_WORDS + 1) == NANNYJIFFY_MEMORY);
+    CHECK(load(sheet, NANNYJIFFY_LINE_BYTES, NANNYJIFFY_ROW_WORDS) == NANNYJIFFY_NAMING);
     CHECK(start(ROWS_WORDS, STATE_WORDS, &strides) == NANNYJIFFY_ROWS && strides == 0);
     CHECK(memcmp(&lent, &kept, sizeof lent) == 0);
 
-    CHECK(load(sizeof sheet - 1, ROWS_WORDS) == NANNYJIFFY_ACCEPTED);
+    CHECK(load(sheet, sizeof sheet - 1, ROWS_WORDS) == NANNYJIFFY_ACCEPTED);
     memcpy(kept.rows, (const int32_t[]){3, 0, 0, 0, 41, 0, 0, 0}, ROWS_WORDS * sizeof(int32_t));
     CHECK(memcmp(&lent, &kept, sizeof lent) == 0);
     CHECK(start(0, 0, &strides) == NANNYJIFFY_ROWS && strides == 0);
@@ -108,6 +112,16 @@ int main(void)
     CHECK(seen.valued == 1 && seen.fails == 0 && seen.bytes == NANNYJIFFY_ENTRY_BYTES);
     memcpy(kept.value, (const int32_t[]){12, 0, 0, 0}, sizeof lent.value - sizeof(int32_t));
     memcpy(kept.list, entry, NANNYJIFFY_ENTRY_BYTES);
+    CHECK(memcmp(&lent, &kept, sizeof lent) == 0);
+
+    CHECK(load(quiet, sizeof quiet - 1, ROWS_WORDS) == NANNYJIFFY_ACCEPTED);
+    CHECK(start(ROWS_WORDS, STATE_WORDS, &strides) == NANNYJIFFY_ACCEPTED && strides == 1);
+    memcpy(kept.rows, (const int32_t[]){22, 5, 0, 0, 49, 0, 0, 0}, ROWS_WORDS * sizeof(int32_t));
+    memcpy(&kept.state[NANNYJIFFY_STATE_WORDS], (const int32_t[]){1, 3, 5}, 3 * sizeof(int32_t));
+    CHECK(memcmp(&lent, &kept, sizeof lent) == 0);
+    CHECK(look(STATE_WORDS, NANNYJIFFY_VALUE_WORDS, 0) == NANNYJIFFY_ACCEPTED);
+    CHECK(seen.valued == 1 && seen.fails == 0 && seen.bytes == 0);
+    kept.value[0] = 5;
     CHECK(memcmp(&lent, &kept, sizeof lent) == 0);
     return EXIT_SUCCESS;
 }

@@ -5,7 +5,7 @@ use reference::random::Random;
 use reference::sheet::{Row, LINES};
 
 /// Kinds and operators that stand in for one another with the same operands.
-const ALIKE: [&[i32]; 5] = [&[43, 44], &[46, 47, 48], &[27, 28], &[40, 45, 41, 42], &[1, 2, 3]];
+const ALIKE: [&[i32]; 5] = [&[43, 44], &[46, 47, 48], &[27, 28], &[40, 49, 45, 41, 42], &[1, 2, 3]];
 const OPERATORS: [&[i32]; 3] = [&[1, 2, 3], &[4, 5, 6], &[7, 8]];
 
 /// Changes the rows in one way; `other` are those of another sheet.

@@ -66,10 +66,12 @@ pub struct Coverage {
     pub paths: Tally,
     /// Strides of start and of accepted events.
     pub strides: Tally,
-    /// Entries, failing flags and value flags of the screens.
+    /// Entries, failing flags and value flags of the screens, and the failing flags of the quiet
+    /// ones, which have no entry (CR 1).
     pub entries: Tally,
     pub failing: Tally,
     pub values: Tally,
+    pub quiet: Tally,
 }
 
 impl Coverage {
@@ -119,6 +121,9 @@ impl Coverage {
         self.entries.add(look.entries.len());
         self.failing.add(look.failing.into());
         self.values.add(look.value.is_some().into());
+        if look.entries.is_empty() {
+            self.quiet.add(look.failing.into());
+        }
     }
 }
 
@@ -143,6 +148,7 @@ impl fmt::Display for Coverage {
             ("entries shown", &self.entries),
             ("failing flag", &self.failing),
             ("value flag", &self.values),
+            ("failing flag of quiet screens", &self.quiet),
         ];
         for (name, tally) in tallies {
             writeln!(out, "{name} ({}):{tally}", tally.total())?;

@@ -1,5 +1,5 @@
 //! Sessions at the edges: 01's own (lines, binders, a field too large, an empty text), and those of
-//! row counts, events cut short, marks and depth.
+//! row counts, events cut short, marks, depth and shown values.
 
 use crate::event;
 use crate::generate::counted;
@@ -22,6 +22,12 @@ impl Rows {
         let number = self.row(22, number, 0);
         self.row(40, number, 0)
     }
+
+    /// A shown 5, or an empty editor or a fail of type number.
+    fn leaf(&mut self, kind: i32) -> i32 {
+        let operand = if kind == 49 { self.row(22, 5, 0) } else { 0 };
+        self.row(kind, operand, 0)
+    }
 }
 
 /// The inputs, each with its name.
@@ -37,6 +43,7 @@ pub fn inputs() -> Vec<(String, Vec<u8>)> {
     inputs.extend(fields());
     inputs.extend(counts());
     inputs.extend(short_events());
+    inputs.extend(shown());
     for levels in [1, 2, 16, 64, 126] {
         inputs.push((format!("{levels} choices deep"), with(&picks(levels), &vec![press(3); levels])));
     }
@@ -115,6 +122,46 @@ fn steps(levels: usize) -> Vec<Row> {
     }
     rows.0
 }
+
+/// Kind 49, the shown value (CR 1): under each kind of task beside an editor, a fail and another, and
+/// in every other place, right and wrong. All are touched alike.
+fn shown() -> Vec<(String, Vec<u8>)> {
+    let touches = [("", 1), ("1", 1), ("2", 1), ("", 2), ("", 3), ("", 4), ("", 2), ("", 1), ("1", 1), ("2", 1)];
+    let touches = touches.map(|(path, action)| event::write(path, action, [i32::from(action == 1), 0, 0, 0]));
+    let mut sheets = Vec::new();
+    for kind in [43, 44, 46, 47, 48] {
+        for (left, right) in [(41, 49), (49, 41), (45, 49), (49, 45), (49, 49)] {
+            let mut rows = Rows::new();
+            let (a, b) = (rows.leaf(left), rows.leaf(right));
+            rows.row(kind, a, b);
+            sheets.push((format!("{kind} of {left} and {right}"), rows.0));
+        }
+    }
+    sheets.extend(SHOWN.iter().map(|(name, rows)| {
+        let rows = rows.iter().map(|&[kind, a, b, c]| Row::new(kind, a, b, c)).collect();
+        (name.to_string(), rows)
+    }));
+    sheets.into_iter().map(|(name, rows)| (name, with(&rows, &touches))).collect()
+}
+
+const NUMBER: [i32; 4] = [3, 0, 0, 0];
+const FIVE: [i32; 4] = [22, 5, 0, 0];
+const FAIL: [i32; 4] = [45, 0, 0, 0];
+
+/// Further sheets with a 49, each with its name.
+const SHOWN: [(&str, &[[i32; 4]]); 11] = [
+    ("49 alone", &[FIVE, [49, 0, 0, 0]]),
+    ("49 of a pair", &[FIVE, [21, 1, 0, 0], [26, 0, 1, 0], [49, 2, 0, 0]]),
+    ("49 of a binder under 43", &[FIVE, [49, 0, 0, 0], [23, 0, 0, 0], [49, 2, 0, 0], [43, 1, 3, 0]]),
+    ("49 under 31", &[FIVE, [23, 0, 0, 0], [49, 1, 0, 0], [31, 0, 2, 0]]),
+    ("49 under 25", &[NUMBER, [21, 1, 0, 0], FIVE, [49, 2, 0, 0], FAIL, [25, 1, 3, 4]]),
+    ("49 of a read cell", &[NUMBER, [10, 0, 5, 0], [29, 1, 0, 0], [49, 2, 0, 0], [42, 1, 0, 0], [46, 3, 4, 0]]),
+    ("48 of a quiet branch", &[NUMBER, FIVE, [49, 1, 0, 0], FAIL, [44, 2, 3, 0], FAIL, [48, 4, 5, 0]]),
+    ("49 with a B", &[FIVE, [49, 0, 1, 0]]),
+    ("49 with a C", &[FIVE, [49, 0, 0, 1]]),
+    ("49 of a task", &[FIVE, [40, 0, 0, 0], [49, 1, 0, 0]]),
+    ("kind 50", &[FIVE, [50, 0, 0, 0]]),
+];
 
 /// The largest and the least number, and one past each.
 fn fields() -> Vec<(String, Vec<u8>)> {

@@ -101,6 +101,7 @@ impl Rules {
                 }
                 Task::Pick(left, right)
             }
+            Code::View(content) => Task::View(self.plain(env, store, content)),
             Code::Condition(condition, then, otherwise) => {
                 let (side, code) = match self.plain(env, store, condition).truth() {
                     true => (Side::Left, then),

@@ -50,7 +50,12 @@ impl Rules {
                 *task = Task::Became(Origin::Picked(side), Box::new(picked.task));
                 Some(picked.strides)
             }
-            Task::Fail => None,
+            Task::View(content) if self.slip == Slip::ViewTakesValue && at_end && event.action == Action::Value => {
+                *content = Value::of_leaves(&content.type_of(), &event.leaves, self.slip)?;
+                Some(0)
+            }
+            // CR 1: a shown value takes no event.
+            Task::Fail | Task::View(_) => None,
             Task::Became(origin, task) => {
                 let mut path = event.path;
                 if let (Origin::Chosen(side), Slip::ChosenKeepsMark) = (&*origin, self.slip) {

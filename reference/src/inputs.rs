@@ -51,7 +51,8 @@ impl Rules {
                     list.action(Action::Continue);
                 }
             }
-            Task::Fail => {}
+            Task::View(content) if self.slip == Slip::ViewOffers => list.editor(&content.type_of()),
+            Task::Fail | Task::View(_) => {}
             Task::Both(left, right) | Task::Choice(left, right) => {
                 let mut parts = [(Side::Left, left), (Side::Right, right)];
                 if self.slip == Slip::RightPartShownFirst {

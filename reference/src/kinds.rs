@@ -59,7 +59,8 @@ pub fn operands(kind: i32) -> Option<[Operand; 3]> {
         29 => [CELL, Unused, Unused],
         30 => [CELL, PLAIN, Unused],
         31 => [PLAIN, Expression, Unused],
-        40 => [PLAIN, Unused, Unused],
+        // 49, the shown value, is CR 1's.
+        40 | 49 => [PLAIN, Unused, Unused],
         41 | 45 => [TYPE, Unused, Unused],
         42 => [CELL, Unused, Unused],
         43 | 44 | 46..=48 => [TASK, TASK, Unused],

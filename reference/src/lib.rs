@@ -1,4 +1,5 @@
-//! A second implementation of document 01, "Kiosk order flows: sheet, state and touches".
+//! A second implementation of document 01, "Kiosk order flows: sheet, state and touches", and of
+//! its change request CR 1, "A total nobody can type over".
 //!
 //! Trees inside, words in lent memory. Loading ([`sheet`], [`limits`], [`tree`], [`typing`], put
 //! together in [`flow`]); the rules ([`evaluate`], [`observe`], [`stride`], [`handle`], [`inputs`]);

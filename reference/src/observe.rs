@@ -21,7 +21,7 @@ impl Rules {
     /// The task's value, if it has one.
     pub fn value(&self, store: &Store, task: &Task) -> Option<Value> {
         match task {
-            Task::Filled(content) => Some(content.clone()),
+            Task::Filled(content) | Task::View(content) => Some(content.clone()),
             Task::Shared(cell) => Some(store.read(*cell).clone()),
             Task::Empty(of) if self.slip == Slip::EmptyHasZero => Some(zero(of)),
             Task::Empty(_) | Task::Step(..) | Task::Fail | Task::Pick(..) => None,
@@ -36,6 +36,8 @@ impl Rules {
         match task {
             Task::Fail => true,
             Task::Filled(_) | Task::Empty(_) | Task::Shared(_) => false,
+            // CR 1: it never fails.
+            Task::View(_) => self.slip == Slip::ViewFails,
             Task::Step(..) if self.slip == Slip::StepNeverFails => false,
             Task::Step(_, left, _) => self.failing(env, store, left),
             Task::Both(left, right) if self.slip == Slip::BothFailsIfEither => {

@@ -3,7 +3,7 @@
 
 macro_rules! slips {
     ($($name:ident: $told:literal,)*) => {
-        /// A slip, or none: the rules of 01.
+        /// A slip, or none: the true rules.
         #[derive(Clone, Copy, Debug, Default, PartialEq, Eq)]
         pub enum Slip {
             #[default]
@@ -73,6 +73,8 @@ slips! {
     PickThreadsStore: "failing of a 48 normalises the right from the left's store",
     BranchFailsInOldStore: "a branch's normal form is asked in the store before it",
     RightSideFailsInOldStore: "a right side is asked in the store before evaluating it",
+    ViewFails: "a shown value fails",
+    FailingByTheList: "the failing flag is told by the empty list",
 
     // Striding
     KeepsFailedWrites: "the writes of a step that failed are kept",
@@ -102,6 +104,7 @@ slips! {
     LeftDropsStore: "Left and Right drop the writes of the branch",
     LeftTakenThoughFailing: "Left and Right are taken though the branch fails",
     SharedBecomesFilled: "a shared editor keeps the value and does not write its cell",
+    ViewTakesValue: "a shown value takes a value",
     ChosenKeepsMark: "a chosen 47 keeps its mark",
     MarksExchangedInHandling: "mark 1 leads right and mark 2 left",
     MarkMissing: "an action without a digit at a 46 or 47 goes left",
@@ -115,6 +118,7 @@ slips! {
     // The list
     ContinueShownUntried: "Continue is offered because a value stands, without trying the right side",
     LeftShownThoughFailing: "Left and Right are offered though the branch fails",
+    ViewOffers: "a shown value is offered as an editor",
     ContinueShownFirst: "Continue is listed before A's entries",
     RightPartShownFirst: "the right part's entries are listed before the left's",
     RightShownFirst: "Right is listed before Left",

@@ -41,11 +41,13 @@ impl<'f> State<'f> {
     }
 
     pub fn look(&self) -> Look {
-        Look {
-            value: self.rules.value(&self.store, &self.task),
-            failing: self.rules.failing(&Binders::NONE, &self.store, &self.task),
-            entries: self.rules.inputs(&Binders::NONE, &self.store, &self.task),
-        }
+        let entries = self.rules.inputs(&Binders::NONE, &self.store, &self.task);
+        // CR 1: a screen without an entry need not fail.
+        let failing = match self.rules.slip {
+            Slip::FailingByTheList => entries.is_empty(),
+            _ => self.rules.failing(&Binders::NONE, &self.store, &self.task),
+        };
+        Look { value: self.rules.value(&self.store, &self.task), failing, entries }
     }
 
     /// Handles an event and normalises the result. Gives the strides of the latter; on a refusal

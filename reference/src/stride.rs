@@ -69,7 +69,7 @@ impl Rules {
                 moved || chosen.is_some()
             }
             Task::Became(origin, task) => self.stride(&origin.within(env), store, task),
-            Task::Filled(_) | Task::Empty(_) | Task::Shared(_) | Task::Fail | Task::Pick(..) => false,
+            Task::Filled(_) | Task::Empty(_) | Task::Shared(_) | Task::Fail | Task::Pick(..) | Task::View(_) => false,
         }
     }
 

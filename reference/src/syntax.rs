@@ -52,7 +52,7 @@ pub enum Going {
     AtContinue,
 }
 
-/// Task expressions, kinds 40 to 48, and 25 and 31 where they are tasks.
+/// Task expressions, kinds 40 to 49, and 25 and 31 where they are tasks.
 #[derive(Clone, Debug, PartialEq, Eq)]
 pub enum Code {
     Filled(Plain),
@@ -65,6 +65,8 @@ pub enum Code {
     Choice(Box<Code>, Box<Code>),
     /// 48, the external choice.
     Pick(Box<Code>, Box<Code>),
+    /// 49, a shown value (CR 1).
+    View(Plain),
     Condition(Plain, Box<Code>, Box<Code>),
     Bind(Plain, Box<Code>),
 }

@@ -26,6 +26,8 @@ pub enum Task<'c> {
     Both(Box<Task<'c>>, Box<Task<'c>>),
     Choice(Box<Task<'c>>, Box<Task<'c>>),
     Pick(&'c Code, &'c Code),
+    /// 49: its content is of its own, and nothing changes it (CR 1).
+    View(Value),
     /// What a step, choice, condition or binding became. It hands value, failing, striding,
     /// entries and handling on to that task, and has no mark of its own.
     Became(Origin, Box<Task<'c>>),

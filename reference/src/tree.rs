@@ -85,6 +85,7 @@ impl<'r> Trees<'r> {
             46 => Code::Both(part(a), part(b)),
             47 => Code::Choice(part(a), part(b)),
             48 => Code::Pick(part(a), part(b)),
+            49 => Code::View(self.plain(a)),
             kind => unreachable!("kind {kind} is no task row, by ground 4"),
         }
     }

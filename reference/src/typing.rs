@@ -53,7 +53,7 @@ impl Typing<'_> {
     /// The type of a task's value, if the task has a typing.
     pub fn task(&self, context: &Context, code: &Code) -> Option<Type> {
         match code {
-            Code::Filled(content) => self.plain(context, content),
+            Code::Filled(content) | Code::View(content) => self.plain(context, content),
             Code::Empty(of) | Code::Fail(of) => Some(of.clone()),
             Code::Shared(cell) => Some(self.cells[*cell].clone()),
             Code::Step(_, left, right) => {

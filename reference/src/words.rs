@@ -89,7 +89,7 @@ impl Writer<'_> {
         let row = &self.rows[at];
         let [a, b, c] = parts(row);
         match (row.kind, task) {
-            (40, Task::Filled(content)) => self.put(at, 1, Some(content)),
+            (40, Task::Filled(content)) | (49, Task::View(content)) => self.put(at, 1, Some(content)),
             (41, Task::Filled(content)) => self.put(at, 2, Some(content)),
             (41, Task::Empty(_)) | (42, Task::Shared(_)) | (45, Task::Fail) | (48, Task::Pick(..)) => {
                 self.put(at, 1, None);
@@ -194,6 +194,10 @@ impl Reader<'_> {
                 let (side, at_part, code) = sided(tag, (a, left), (b, right))?;
                 let picked = Task::Became(Origin::Picked(side), self.part(at_part, code, context)?);
                 self.bare(at, picked)?
+            }
+            (Code::View(content), 1) => {
+                let of = self.typing.plain(context, content)?;
+                Task::View(self.value(at, &of)?)
             }
             (Code::Condition(_, then, otherwise), tag) => {
                 let (side, at_part, code) = sided(tag, (b, then), (c, otherwise))?;

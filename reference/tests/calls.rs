@@ -231,13 +231,18 @@ fn look_20_to_24() {
     }
 }
 
-/// A failing flow needs no list memory.
+/// A quiet flow needs no list memory, whether it fails or not.
 #[test]
-fn look_at_a_failing_flow() {
-    let rows = [3, 0, 0, 0, 45, 0, 0, 0];
-    let (_, _, state) = start(&rows, &[7; 32]);
-    let (looked, value, _) = look(&rows, &state, &[7; 4], &[]);
-    assert_eq!((looked, &value[..]), (Looked { number: 0, valued: false, fails: true, bytes: 0 }, &[0; 4][..]));
+fn look_at_a_quiet_flow() {
+    let quiet = |rows: [i32; 8]| {
+        let (_, _, state) = start(&rows, &[7; 32]);
+        let (looked, value, _) = look(&rows, &state, &[7; 4], &[]);
+        (looked, value[0])
+    };
+    let fail = Looked { number: 0, valued: false, fails: true, bytes: 0 };
+    let shown = Looked { number: 0, valued: true, fails: false, bytes: 0 };
+    assert_eq!(quiet([3, 0, 0, 0, 45, 0, 0, 0]), (fail, 0));
+    assert_eq!(quiet([22, 5, 0, 0, 49, 0, 0, 0]), (shown, 5));
 }
 
 #[test]

@@ -1,17 +1,20 @@
 //! The cases from a fixed seed: what they cover, that both ways of asking print the same, and that
 //! they catch every slip.
 
+use reference::binders::Binders;
 use reference::compare::{self, Case};
 use reference::coverage::{Coverage, Tally};
-use reference::event::EVENT;
+use reference::event::{Action, Event, EVENT};
 use reference::flow::Flow;
-use reference::generate;
+use reference::generate::{self, states};
 use reference::random::Random;
 use reference::rules::{Asking, Rules};
 use reference::session;
 use reference::sheet;
 use reference::slips::Slip;
 use reference::state::State;
+use reference::syntax::Going;
+use reference::task::{Env, Store, Task};
 
 const SEED: u64 = 1;
 const COUNT: u64 = 3000;
@@ -31,7 +34,7 @@ fn cases_cover_the_document() {
     let coverage = Coverage::of(cases().into_iter().map(|case| case.input));
     at_least(&coverage.sheets, [0], 2000, "accepted sheets");
     at_least(&coverage.sheets, 1..=7, 30, "sheets with ground");
-    at_least(&coverage.kinds, (1..=4).chain([10]).chain(20..=31).chain(40..=48), 400, "kind");
+    at_least(&coverage.kinds, (1..=4).chain([10]).chain(20..=31).chain(40..=49), 400, "kind");
     at_least(&coverage.operators, 1..=8, 200, "operator");
     assert_eq!((coverage.rows.least(), coverage.rows.most()), (Some(2), Some(256)));
     at_least(&coverage.rows, 2..=90, 1, "rows");
@@ -49,6 +52,8 @@ fn cases_cover_the_document() {
     at_least(&coverage.entries, 0..=17, 10, "entries");
     at_least(&coverage.failing, 0..=1, 250, "failing flag");
     at_least(&coverage.values, 0..=1, 5000, "value flag");
+    // CR 1: a screen may be quiet without failing.
+    at_least(&coverage.quiet, 0..=1, 201, "failing flag of quiet screens");
 }
 
 #[test]
@@ -85,9 +90,54 @@ fn drafts_within_the_limits_are_accepted() {
     }
 }
 
-/// What 01 and the paper say of every rest: strides bounded by the rows of kind 43 and 47; a list
-/// that is empty exactly where the task fails; a rest that normalising does not change; entries
-/// that stand once.
+/// CR 1: "Call a task quiet if it is 45, 49, a 46 or 47 of quiet parts, a 43 with quiet A, a 44 with
+/// quiet A whose Continue is not takable, or a failing 48." What has been taken, named or picked, and
+/// 25 and 31, is quiet as the task that it became.
+fn quiet(env: &Env, store: &Store, task: &Task) -> bool {
+    match task {
+        Task::Fail | Task::View(_) => true,
+        Task::Filled(_) | Task::Empty(_) | Task::Shared(_) => false,
+        Task::Both(left, right) | Task::Choice(left, right) => quiet(env, store, left) && quiet(env, store, right),
+        Task::Step(Going::ByItself, left, _) => quiet(env, store, left),
+        Task::Step(Going::AtContinue, left, _) => quiet(env, store, left) && !takes_continue(env, store, task),
+        Task::Pick(..) => Rules::default().failing(env, store, task),
+        Task::Became(origin, task) => quiet(&origin.within(env), store, task),
+    }
+}
+
+/// Whether a handling rule derives a step for Continue at the empty path.
+fn takes_continue(env: &Env, store: &Store, task: &Task) -> bool {
+    let event = Event { path: b"", action: Action::Continue, leaves: [0; 4] };
+    Rules::default().handle(env, &mut store.clone(), &mut task.clone(), event).is_some()
+}
+
+/// The list is empty exactly for quiet tasks; one that fails is quiet. Gives whether the state's
+/// task is quiet, and whether it fails.
+fn check_quiet(state: &State) -> (bool, bool) {
+    let (look, is_quiet) = (state.look(), quiet(&Binders::NONE, &state.store, &state.task));
+    assert_eq!(look.entries.is_empty(), is_quiet, "{state:?}");
+    assert!(is_quiet || !look.failing, "{state:?}");
+    (is_quiet, look.failing)
+}
+
+/// Quiet is said of every task, so states are asked that are no rests and that no session need
+/// reach.
+#[test]
+fn the_list_is_empty_exactly_for_quiet_tasks() {
+    let mut without_failing = 0;
+    for at in 0..COUNT {
+        let random = &mut Random::of_case(SEED, at);
+        let flow = Flow::of_rows(generate::accepted(random), Rules::default()).expect("accepted");
+        for _ in 0..3 {
+            without_failing += usize::from(check_quiet(&states::state(random, &flow)) == (true, false));
+        }
+    }
+    assert!(without_failing > 200, "{without_failing}");
+}
+
+/// What 01, CR 1 and the paper say of every rest: strides bounded by the rows of kind 43 and 47; no
+/// entry exactly where the task is quiet, and then no event taken; a rest that normalising does not
+/// change; entries that stand once.
 #[test]
 fn every_screen_keeps_the_theorems() {
     for case in cases() {
@@ -100,7 +150,7 @@ fn every_screen_keeps_the_theorems() {
         for event in input.chunks(EVENT) {
             let before = state.clone();
             match state.handle(event) {
-                Ok(strides) => assert!((1..=bound).contains(&strides)),
+                Ok(strides) => assert!((1..=bound).contains(&strides) && !check_quiet(&before).0),
                 Err(_) => assert_eq!(state, before),
             }
             check_rest(&flow, &state);
@@ -110,7 +160,7 @@ fn every_screen_keeps_the_theorems() {
 
 fn check_rest(flow: &Flow, state: &State) {
     let look = state.look();
-    assert_eq!(look.failing, look.entries.is_empty());
+    check_quiet(state);
     assert!(look.entries.len() <= 2 * flow.rows.len());
     for (at, entry) in look.entries.iter().enumerate() {
         assert!(look.entries[..at].iter().all(|other| (&other.path, other.action) != (&entry.path, entry.action)));

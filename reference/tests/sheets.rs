@@ -35,7 +35,7 @@ fn ground_2_fields() {
 
 #[test]
 fn ground_3_kinds_operators_truths_and_unused_operands() {
-    for kind in [-1, 0, 5, 9, 11, 19, 32, 39, 49, 50, 999] {
+    for kind in [-1, 0, 5, 9, 11, 19, 32, 39, 50, 60, 999] {
         assert_eq!(rows(&[[kind, 0, 0, 0], [20, 0, 0, 0], [40, 1, 0, 0]]), 3, "kind {kind}");
     }
     for operator in [-1, 0, 9] {
@@ -49,7 +49,7 @@ fn ground_3_kinds_operators_truths_and_unused_operands() {
         assert_eq!(rows(&[[10, 1, truth, 0], [2, 0, 0, 0], [42, 0, 0, 0]]), 4);
     }
     // The operands used by each kind, as places: all others must be 0.
-    let used: [(i32, &[usize]); 26] = [
+    let used: [(i32, &[usize]); 27] = [
         (1, &[]),
         (2, &[]),
         (3, &[]),
@@ -76,6 +76,7 @@ fn ground_3_kinds_operators_truths_and_unused_operands() {
         (46, &[1, 2]),
         (47, &[1, 2]),
         (48, &[1, 2]),
+        (49, &[1]),
     ];
     for (kind, places) in used {
         for place in 1..=3 {
@@ -92,7 +93,7 @@ fn ground_4_operands() {
     // Row 0 number, 1 cell, 2 plain, 3 task: each place asks its own sort.
     let lower = [[3, 0, 0, 0], [10, 0, 0, 0], [22, 7, 0, 0], [41, 0, 0, 0]];
     let sorts = ["type", "cell", "plain", "task"];
-    let asks: [(i32, usize, &[&str]); 30] = [
+    let asks: [(i32, usize, &[&str]); 31] = [
         (4, 1, &["type"]),
         (4, 2, &["type"]),
         (10, 1, &["type"]),
@@ -122,6 +123,7 @@ fn ground_4_operands() {
         (47, 2, &["task"]),
         (48, 1, &["task"]),
         (48, 2, &["task"]),
+        (49, 1, &["plain"]),
         (25, 2, &["task"]),
     ];
     for (kind, place, asked) in asks {
@@ -133,7 +135,7 @@ fn ground_4_operands() {
                 24 => [24, 1, 2, 2],
                 25 => [25, 2, 3, 3],
                 26 => [26, 2, 2, 0],
-                27 | 28 | 40 => [kind, 2, 0, 0],
+                27 | 28 | 40 | 49 => [kind, 2, 0, 0],
                 29 | 42 => [kind, 1, 0, 0],
                 30 => [30, 1, 2, 0],
                 31 => [31, 2, 3, 0],
@@ -169,6 +171,7 @@ fn ground_5_naming() {
     assert_eq!(rows(&[[22, 1, 0, 0], [22, 1, 0, 0], [24, 1, 0, 1]]), 5);
     assert_eq!(rows(&[[22, 1, 0, 0], [22, 1, 0, 0], [26, 0, 1, 0]]), 5);
     assert_eq!(rows(&[[20, 0, 0, 0], [40, 0, 0, 0], [3, 0, 0, 0]]), 5);
+    assert_eq!(rows(&[[20, 0, 0, 0], [49, 0, 0, 0]]), 0);
     // A plain 25 or 31 as the last row passes 5 and gets 7, unless 6 comes first.
     assert_eq!(rows(&[[21, 1, 0, 0], [20, 0, 0, 0], [20, 0, 0, 0], [25, 0, 1, 2]]), 7);
     assert_eq!(rows(&[[20, 0, 0, 0], [20, 0, 0, 0], [31, 0, 1, 0]]), 7);
@@ -239,6 +242,9 @@ fn ground_7_typing() {
     for kind in [47, 48] {
         assert_eq!(answer(&[[41, 0, 0, 0], [42, 3, 0, 0], [kind, 5, 6, 0]]), 0);
         assert_eq!(answer(&[[41, 0, 0, 0], [42, 4, 0, 0], [kind, 5, 6, 0]]), 7);
+        // A shown value is of the type of its A.
+        assert_eq!(answer(&[number, [49, 5, 0, 0], [41, 0, 0, 0], [kind, 6, 7, 0]]), 0);
+        assert_eq!(answer(&[truth, [49, 5, 0, 0], [41, 0, 0, 0], [kind, 6, 7, 0]]), 7);
     }
     // Binders: of the type of A's task value; none, or a negative one, reaches nothing.
     assert_eq!(answer(&[[41, 1, 0, 0], [23, 0, 0, 0], unit, unit, [25, 6, 7, 8], [40, 9, 0, 0], [43, 5, 10, 0]]), 0);

@@ -259,6 +259,7 @@ fn failing_of_each_kind() {
         let mut sheet = with_cell(0);
         build(&mut sheet);
         let screen = last_screen(&sheet, &[]);
+        // Without a 49, what is quiet fails (`view.rs` has the others).
         assert_eq!(screen.failing, screen.entries.is_empty());
         screen.failing
     };

@@ -53,7 +53,7 @@ fn lines() -> Vec<Line> {
     let two = |kind| [NUMBER, EMPTY, EMPTY, [kind, 1, 2, 0]];
     let cells = [NUMBER, [2, 0, 0, 0], [10, 0, -7, 0], [10, 1, 1, 0], [42, 3, 0, 0]];
     let either = |truth| [NUMBER, [21, truth, 0, 0], EMPTY, [45, 0, 0, 0], [25, 1, 2, 3]];
-    let pair = [[22, 5, 0, 0], [22, -6, 0, 0], [26, 0, 1, 0], [40, 2, 0, 0]];
+    let pair = |kind| [[22, 5, 0, 0], [22, -6, 0, 0], [26, 0, 1, 0], [kind, 2, 0, 0]];
     let task_of_a = "| 43, 44 | a task of A | 1 | | A |";
     let taken = "| 43, 44 | a value of A's type and a task of B under it | 2 | that value | B |";
     let chosen = "| 47 | the left, the right | 2, 3 | | A, B |";
@@ -62,7 +62,7 @@ fn lines() -> Vec<Line> {
     let in_cells = [number(2, 1, -7), (3, 1, 2, [1, 0, 0, 0]), bare(4, 1)];
     vec![
         line("| 10 | cell | 1 | its content | |", &cells, &[], &in_cells),
-        line("| 40 | filled | 1 | its content | |", &pair, &[], &[(3, 1, 60, [5, -6, 0, 0])]),
+        line("| 40 | filled | 1 | its content | |", &pair(40), &[], &[(3, 1, 60, [5, -6, 0, 0])]),
         line("| 41 | empty | 1 | | |", &[NUMBER, EMPTY], &[], &[bare(1, 1)]),
         line("| 41 | with a content | 2 | its content | |", &[NUMBER, EMPTY], &[value("", 6)], &[number(1, 2, 6)]),
         line("| 42 | shared | 1 | | |", &[NUMBER, [10, 0, 4, 0], [42, 1, 0, 0]], &[], &[number(1, 1, 4), bare(2, 1)]),
@@ -78,6 +78,7 @@ fn lines() -> Vec<Line> {
         line("| 48 | unpicked | 1 | | |", &two(48), &[], &[bare(3, 1)]),
         line(picked, &two(48), &[left("")], &[bare(1, 1), bare(3, 2)]),
         line(picked, &two(48), &[right("")], &[bare(2, 1), bare(3, 3)]),
+        line("| 49 | shown | 1 | its content | |", &pair(49), &[], &[(3, 1, 60, [5, -6, 0, 0])]),
         line(decided, &either(1), &[], &[bare(2, 1), bare(4, 2)]),
         line(decided, &either(0), &[], &[bare(3, 1), bare(4, 3)]),
         line(

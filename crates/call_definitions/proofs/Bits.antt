@@ -12,7 +12,7 @@ use Rattle.word.specs.Word.{words, AllWords, AllBits}
 use Rattle.word.proofs.Lists.{words-append, bits-bits, bits-replicate}
 use Rattle.tophat.specs.Syntax.{maxLeaves, Ty, leaves, Code, Val, vunit, TaskOf, Store}
 use Rattle.tophat.specs.Typing.{ValueType, v-unit, ValueTypes, v-nil, v-cons, TaskType, k-filled, k-blank, k-entered, k-shared, k-then-before, k-then-after, k-next-before, k-next-after, AllSmall, small-nil, small-cons}
-use Rattle.tophat.specs.Typing.{k-failed, k-both, k-either, k-or-left, k-or-right, k-unpicked, k-picked-left, k-picked-right, k-if-true, k-if-false, k-bound}
+use Rattle.tophat.specs.Typing.{k-failed, k-both, k-either, k-or-left, k-or-right, k-unpicked, k-picked-left, k-picked-right, k-viewed, k-if-true, k-if-false, k-bound}
 use Rattle.tophat.specs.Leaves.{leavesOf, padded}
 use Rattle.tophat.proofs.Leaves.{type-of}
 use Rattle.tophat.proofs.TypeLeaves.{type-leaves, task-type-leaves}
@@ -100,6 +100,7 @@ module _ (rs : List ℕ) {Σ : List Ty} (g : AllSmall Σ) where
   task-bits i (k-unpicked d e) h w = tag-bits i (lit< tt) w
   task-bits i (k-picked-left d e) h w = task-bits (opA rs i) d h (tag-bits i (lit< tt) w)
   task-bits i (k-picked-right d e) h w = task-bits (opB rs i) e h (tag-bits i (lit< tt) w)
+  task-bits i (k-viewed d v) h w = valued-bits i (lit< tt) v (type-leaves d g h) w
   task-bits i (k-if-true b d e) h w = task-bits (opB rs i) d h (tag-bits i (lit< tt) w)
   task-bits i (k-if-false b d e) h w = task-bits (opC rs i) e h (tag-bits i (lit< tt) w)
   task-bits i (k-bound b v e) h w = let l = type-leaves b g h in task-bits (opB rs i) e (small-cons l h) (valued-bits i (lit< tt) v l w)

@@ -15,7 +15,9 @@
 -- - the list shown is k entries of 27 bytes, each of which can be read. An event is answered 0 exactly when one of them covers it:
 --   both say the same path and action, and the event's leaves meet the entry's leaf kinds. Two places that cover one event are one
 --   place, and each entry covers some event: no entry is dead;
--- - k is 0 exactly when the task is quiet.
+-- - that list is empty exactly when the task is quiet (tophat's Quiet);
+-- - the failing flag is 1 exactly when the rules say that the task fails, and 0 exactly when they say that it does not; a task that fails is
+--   quiet, and a quiet one need not fail.
 --
 -- What start, look and handle answer is what their definitions in specs/Calls give, and the contracts of the code (crate flow) are
 -- equations with these; nothing else here speaks of the engine: the rules are tophat's relations, and what bytes say is formats'. That start

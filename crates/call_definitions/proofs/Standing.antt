@@ -4,8 +4,8 @@ use mathlib.Core.Path.{_≡_, refl, sym, ap, subst, _∙_}
 use mathlib.Core.Bool.{Bool, true, false}
 use mathlib.Core.Option.{Option, none, some}
 use mathlib.Core.Logic.{_⊎_, inl, inr, ⊎-elim, _↔_}
-use mathlib.Core.List.{List, [], _∷_}
-use Prim.Native.Nat.{ℕ, _<_, _≤_}
+use mathlib.Core.List.{List, [], _∷_, cons≢nil}
+use Prim.Native.Nat.{ℕ, _*_, _<_, _≤_}
 use native.Mathlib.Omega.{arith}
 use borrow.Author.Tests.{ne-eqb, eqb-true, eqb-false}
 use borrow.Table.Steps.{cases}
@@ -15,15 +15,17 @@ use lib.ListN.{length}
 use Rattle.decimal.specs.Path.{Path}
 use Rattle.tophat.specs.Syntax.{maxLeaves, Ty, Code, TaskOf, Store}
 use Rattle.tophat.specs.Typing.{small-nil}
+use Rattle.tophat.specs.Normalising.{Fails}
 use Rattle.tophat.specs.Handling.{Action}
 use Rattle.tophat.specs.Showing.{Entry}
 use Rattle.tophat.specs.Runs.{Accepts, Refuses, Stands as TreeStands}
-use Rattle.tophat.proofs.Basics.{no-some}
+use Rattle.tophat.proofs.Basics.{apart, no-some}
+use Rattle.tophat.proofs.NormalisingComplete.{fails-one}
 use Rattle.tophat.proofs.EntriesAgree.{shows-is}
 use Rattle.tophat.proofs.Bound.{normalises-bound}
 use Rattle.tophat.proofs.ResidualTyped.{residual-typed}
 use Rattle.tophat.proofs.EveryRun.{rest-stands}
-use Rattle.formats.specs.Touches.{eventOf}
+use Rattle.formats.specs.Touches.{eventOf, entryBytes}
 use Rattle.formats.specs.Lists.{listText, CoversAt, Fits}
 use Rattle.formats.proofs.EntriesFit.{entries-fit}
 use Rattle.formats.proofs.ListsRead.{list-length}
@@ -73,25 +75,25 @@ module _ {rows ws : List ℤ} {c : Code} {Σ : List Ty} {τ : Ty} (a : AcceptedF
     abbrev seen : Bool → LookAnswer
     seen x = looking c t s es x list
 
-    shows-all : length values ≡ maxLeaves → length shown ≤ length list → (x : Bool) × (lookCall rows ws values list ≡ seen x)
+    shows-all : length values ≡ maxLeaves → length shown ≤ length list → (x : Bool) × Fails c [] s t x × (lookCall rows ws values list ≡ seen x)
     shows-all l m =
         let e = list-length es-fit in
-        ⊎-elim (λ d. (true, answer-0 a r values list l (tree .shows) (omega (arith, e, m)) d)) (λ d. (false, answer-0 a r values list l (tree .shows) (omega (arith, e, m)) d)) (tree .fails-decided)
+        ⊎-elim (λ d. (true, d, answer-0 a r values list l (tree .shows) (omega (arith, e, m)) d)) (λ d. (false, d, answer-0 a r values list l (tree .shows) (omega (arith, e, m)) d)) (tree .fails-decided)
 
     looks : length values ≡ maxLeaves → length shown ≤ length list → lookCall rows ws values list .number ≡ 0
-    looks l m = ap (λ z. z .number) (shows-all l m .1)
+    looks l m = ap (λ z. z .number) (shows-all l m .2)
 
     -- its answer, by the memories
     data Looked : LookAnswer → Type 0 where
       seen-21 : Looked (lookRefusal wrongMemory values list)
       seen-24 : Looked (lookRefusal listTooShort values list)
-      seen-0 : (x : Bool) → Looked (seen x)
+      seen-0 : (x : Bool) → Fails c [] s t x → Looked (seen x)
 
     looked : Looked (lookCall rows ws values list)
     looked = cases (eqb (length values) maxLeaves)
         (λ y.
         let l = eqb-true (length values) maxLeaves y in
-        ⊎-elim (λ m. subst Looked (sym (shows-all l m .1)) (seen-0 (shows-all l m .0))) (λ m. subst Looked (sym (shorts l m)) seen-24) (le-or-lt (length shown) (length list)))
+        ⊎-elim (λ m. let (x, d, e) = shows-all l m in subst Looked (sym e) (seen-0 x d)) (λ m. subst Looked (sym (shorts l m)) seen-24) (le-or-lt (length shown) (length list)))
         (λ n. subst Looked (sym (misfits (eqb-false (length values) maxLeaves n))) seen-21)
 
     part : lookCall rows ws values list .number ≡ 0 → lookCall rows ws values list .part ≡ shown
@@ -100,7 +102,26 @@ module _ {rows ws : List ℤ} {c : Code} {Σ : List Ty} {τ : Ty} (a : AcceptedF
         by : {z : LookAnswer} → Looked z → z .number ≡ 0 → z .part ≡ shown
         by seen-21 h = absurd (omega (arith, h))
         by seen-24 h = absurd (omega (arith, h))
-        by (seen-0 x) h = refl
+        by (seen-0 x d) h = refl
+
+    -- the failing flag is 1 exactly where the task fails, and 0 exactly where it does not
+    fails-is-1 : lookCall rows ws values list .number ≡ 0 → (lookCall rows ws values list .fails ≡ 1) ↔ Fails c [] s t true
+    fails-is-1 = by looked
+      where
+        by : {z : LookAnswer} → Looked z → z .number ≡ 0 → (z .fails ≡ 1) ↔ Fails c [] s t true
+        by seen-21 h = absurd (omega (arith, h))
+        by seen-24 h = absurd (omega (arith, h))
+        by (seen-0 true d) h = ((λ e. d), (λ f. refl))
+        by (seen-0 false d) h = ((λ e. absurd (omega (arith, e))), (λ f. apart refl (fails-one f d)))
+
+    fails-is-0 : lookCall rows ws values list .number ≡ 0 → (lookCall rows ws values list .fails ≡ 0) ↔ Fails c [] s t false
+    fails-is-0 = by looked
+      where
+        by : {z : LookAnswer} → Looked z → z .number ≡ 0 → (z .fails ≡ 0) ↔ Fails c [] s t false
+        by seen-21 h = absurd (omega (arith, h))
+        by seen-24 h = absurd (omega (arith, h))
+        by (seen-0 true d) h = ((λ e. absurd (omega (arith, e))), (λ f. apart refl (fails-one d f)))
+        by (seen-0 false d) h = ((λ e. d), (λ f. refl))
 
     look-answers : LookAnswers rows ws values list (lookCall rows ws values list)
     look-answers = cases (eqb (length values) maxLeaves)
@@ -174,9 +195,11 @@ module _ {rows ws : List ℤ} {c : Code} {Σ : List Ty} {τ : Ty} (a : AcceptedF
 
   -- ---- what stands
 
-  empty-is : (l : List Entry) → (length l ≡ 0) ↔ (l ≡ [])
-  empty-is [] = ((λ e. refl), (λ e. refl))
-  empty-is (e ∷ l) = ((λ h. absurd (omega (arith, h))), (λ h. ap length h))
+  -- no byte is shown exactly where there is no entry
+  no-bytes : (l : List Entry) → length (listText l) ≡ length l * entryBytes → (listText l ≡ []) ↔ (l ≡ [])
+  unfolding listText
+  no-bytes [] e = ((λ h. refl), (λ h. refl))
+  no-bytes (x ∷ l) e = ((λ h. absurd (let z : length (listText (x ∷ l)) ≡ 0 = ap length h in omega (arith, e, z))), (λ h. absurd (cons≢nil h)))
 
   pub stands : Stands rows ws c Σ τ
   stands = record {
@@ -200,7 +223,11 @@ module _ {rows ws : List ℤ} {c : Code} {Σ : List Ty} {τ : Ty} (a : AcceptedF
     accepted-iff-covered = accepted;
     covered-once = once;
     covers-some = list-covers-some es-fit;
-    empty-iff-quiet = let p = empty-is es in let q = tree .empty-iff-quiet in ((λ h. q .0 (p .0 h)), (λ h. p .1 (q .1 h)));
+    empty-iff-quiet = let p = no-bytes es (list-length es-fit) in let q = tree .empty-iff-quiet in ((λ h. q .0 (p .0 h)), (λ h. p .1 (q .1 h)));
+    fails-is-1 = fails-is-1;
+    fails-is-0 = fails-is-0;
+    fails-decided = tree .fails-decided;
+    failing-quiet = tree .failing-quiet;
   }
 
   -- one call leaves a rest

@@ -3,6 +3,7 @@
 -- calls' own definitions (Calls), which the code's contracts are equations with; all else is said by the calculus' relations and by what
 -- bytes say (formats). Rests on Answers and Calls.
 use mathlib.Core.Path.{_≡_}
+use mathlib.Core.Bool.{true, false}
 use mathlib.Core.Option.{none, some}
 use mathlib.Core.Logic.{_⊎_, _↔_}
 use mathlib.Core.List.{List, [], _∷_}
@@ -12,6 +13,7 @@ use lib.ListN.{length}
 use Rattle.decimal.specs.Path.{Path}
 use Rattle.tophat.specs.Syntax.{maxLeaves, Ty, Code, TaskOf, Store}
 use Rattle.tophat.specs.Typing.{CodeType}
+use Rattle.tophat.specs.Normalising.{Fails}
 use Rattle.tophat.specs.Quiet.{Quiet}
 use Rattle.tophat.specs.Handling.{Action}
 use Rattle.tophat.specs.Residual.{residual}
@@ -86,5 +88,13 @@ pub record Stands (rows ws : List ℤ) (c : Code) (Σ : List Ty) (τ : Ty) : Typ
   pub accepted-iff-covered : (event : List ℕ) → (handleCall rows ws event .number ≡ 0) ↔ ((i : ℕ) × CoversAt shown count i event)
   pub covered-once : (event : List ℕ) (i j : ℕ) → CoversAt shown count i event → CoversAt shown count j event → i ≡ j
   pub covers-some : (i : ℕ) → i < count → (event : List ℕ) × CoversAt shown count i event
-  -- it is empty exactly when the task is quiet
-  pub empty-iff-quiet : (count ≡ 0) ↔ Quiet c [] (rest .store) (rest .task)
+  -- it is empty exactly when the task is quiet (CR 1)
+  pub empty-iff-quiet : (shown ≡ []) ↔ Quiet c [] (rest .store) (rest .task)
+  -- the failing flag is 1 exactly where the rules say that the task fails, 0 exactly where they say that it does not, and they say one of
+  -- the two; a task that fails is quiet, and a quiet one need not fail
+  pub fails-is-1 : (values : List ℤ) (list : List ℕ) → lookCall rows ws values list .number ≡ 0
+      → (lookCall rows ws values list .fails ≡ 1) ↔ Fails c [] (rest .store) (rest .task) true
+  pub fails-is-0 : (values : List ℤ) (list : List ℕ) → lookCall rows ws values list .number ≡ 0
+      → (lookCall rows ws values list .fails ≡ 0) ↔ Fails c [] (rest .store) (rest .task) false
+  pub fails-decided : Fails c [] (rest .store) (rest .task) true ⊎ Fails c [] (rest .store) (rest .task) false
+  pub failing-quiet : Fails c [] (rest .store) (rest .task) true → Quiet c [] (rest .store) (rest .task)

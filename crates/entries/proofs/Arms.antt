@@ -9,7 +9,7 @@ use native.Mathlib.Omega.{arith}
 use borrow.Rule.Slice.PartMut.{putMid}
 use lib.ListN.{length, length-append}
 use Rattle.decimal.specs.Path.{Mark, first, second, Path, maxMarks}
-use Rattle.tophat.specs.Syntax.{Code, edit, enter, update, then, next, fail, and, or, xor, if, let', TaskOf, Env, Store}
+use Rattle.tophat.specs.Syntax.{Code, edit, enter, update, then, next, fail, and, or, xor, view, if, let', TaskOf, Env, Store}
 use Rattle.tophat.specs.Handling.{continue, left, right, giving, pressing, actNumber}
 use Rattle.tophat.specs.Showing.{Entry, marked, buttonIf}
 use Rattle.tophat.proofs.ComputeNormalising.{normalise, settle}
@@ -22,7 +22,7 @@ use Rattle.state.specs.Layout.{at}
 use Rattle.running.specs.Hands.{HandsOn, Under, Unhanded}
 use Rattle.running.proofs.Hands.{inside, hands}
 use Rattle.running.proofs.Handing.{sits-in, world-in}
-use Rattle.running.proofs.Forms.{on-then-before, on-next-before, on-either, on-unpicked, on-no-if, on-no-let, on-failed, on-both}
+use Rattle.running.proofs.Forms.{on-then-before, on-next-before, on-either, on-unpicked, on-no-if, on-no-let, on-both}
 use Rattle.normalising.specs.Trying.{TriedOk}
 use Rattle.normalising.proofs.Asking.{two-kinds}
 use Rattle.formats.specs.Lists.{noKinds, numbersEntry, listText, under, Fits}
@@ -60,11 +60,6 @@ module _ (rs ws : List ℕ) (i : ℕ) (env : List ℕ) (d : ℕ) (p : Path) (lis
   entries-offer l₁ n r f k c z Σ Γ τ s ρ t y w g m =
       let o = f d c z env Σ Γ τ s ρ t y w g in
       subst (Lists list l₁ n) (ap (λ x. numbersEntry p (actNumber giving) (kindsOf x)) (o .1) ∙ sym (offer-text p (o .0) (o .2)) ∙ ap (λ es. listText (under p es)) (sym (o .3))) (k .lists)
-
-  -- ---- 45
-  pub entries-fail : OfKind rs i (taskK failK) → EntriesOk rs ws i env d p list list 0
-  unfolding entries listText under
-  entries-fail q c k Σ Γ τ s ρ t y w g = on-failed rs ws d i Σ Γ (λ c t τ. Told list 0 ρ s c t) q (λ τ k g l m. lists-none list) c k τ t y g
 
   module _ (z : Unhanded rs ws i) where
     -- ---- 43: the left side's
@@ -145,17 +140,18 @@ module _ (rs ws : List ℕ) (i : ℕ) (env : List ℕ) (d : ℕ) (p : Path) (lis
         (lists-after list l₁ l₂ n m kept (wr .lists) (wr₁ .lists)))
         c k τ t y g
 
-    -- ---- no other kind is a task that does not hand on
+    -- ---- 45 and 49 show none, and no other kind is a task that does not hand on
     pub entries-none : (FromKind rs i (taskK editK) → UpToKind rs i (taskK nextK) → ⊥) → (FromKind rs i (taskK andK) → UpToKind rs i (taskK xorK) → ⊥) → EntriesOk rs ws i env d p list list 0
-    unfolding entries
+    unfolding entries listText under
     entries-none n o (edit e) k Σ Γ τ s ρ t y w g = absurd (let q = k .0 in n (omega arith) (omega arith))
     entries-none n o (enter υ) k Σ Γ τ s ρ t y w g = absurd (let q = k .0 in n (omega arith) (omega arith))
     entries-none n o (update m) k Σ Γ τ s ρ t y w g = absurd (let q = k .0 in n (omega arith) (omega arith))
     entries-none n o (then a b) k Σ Γ τ s ρ t y w g = absurd (let q = k .0 in n (omega arith) (omega arith))
     entries-none n o (next a b) k Σ Γ τ s ρ t y w g = absurd (let q = k .0 in n (omega arith) (omega arith))
-    entries-none n o (fail υ) k Σ Γ τ s ρ t y w g = entries-fail k (fail υ) k Σ Γ τ s ρ t y w g
+    entries-none n o (fail υ) k Σ Γ τ s ρ t y w g = λ m. lists-none list
     entries-none n o (and a b) k Σ Γ τ s ρ t y w g = absurd (let q = k .0 in o (omega arith) (omega arith))
     entries-none n o (or a b) k Σ Γ τ s ρ t y w g = absurd (let q = k .0 in o (omega arith) (omega arith))
     entries-none n o (xor a b) k Σ Γ τ s ρ t y w g = absurd (let q = k .0 in o (omega arith) (omega arith))
+    entries-none n o (view e) k Σ Γ τ s ρ t y w g = λ m. lists-none list
     entries-none n o (if e a b) k Σ Γ τ s ρ t y w g = on-no-if rs ws d i Σ Γ (λ c t τ. Told list 0 ρ s c t) z (k .0) (if e a b) k τ t y g
     entries-none n o (let' e b) k Σ Γ τ s ρ t y w g = on-no-let rs ws d i Σ Γ (λ c t τ. Told list 0 ρ s c t) z (k .0) (let' e b) k τ t y g

@@ -23,7 +23,7 @@ use Rattle.tophat.specs.Typing.{small-nil}
 use Rattle.tophat.specs.Normalising.{value}
 use Rattle.tophat.proofs.ComputeNormalising.{failing}
 use Rattle.tophat.proofs.ComputeEntries.{entries}
-use Rattle.tophat.proofs.EntriesQuiet.{empty-failing}
+use Rattle.tophat.proofs.EntriesQuiet.{failing-empty}
 use Rattle.tophat.proofs.Preservation.{OptionType, o-some, value-type}
 use Rattle.rows.specs.GroundNumbers.{listTooShort}
 use Rattle.rows.specs.Rows.{maxRows}
@@ -110,7 +110,7 @@ module _ (own words env work work₁ : List ℕ) (n bytes : ℕ) (room : length 
     fails-is b h = cases (eqb bytes 0)
         (λ y. let v = ready-writing x in h .0 (eqb-true bytes 0 y) c (sits (x .site)) (x .cells) [] (x .type) s [] t (x .writes .typed) (around (x .site) (v .stores) (x .writes .stored)) (v .holds))
         (λ y. h .1 (eqb-false bytes 0 y) ∙ sym (cases (failing c [] s t)
-        (λ u. let z = ap length (empty-failing c [] s t .1 u) in let e = counted in absurd (eqb-false bytes 0 y (omega (arith, z, e))))
+        (λ u. let z = ap length (failing-empty c [] s t u) in let e = counted in absurd (eqb-false bytes 0 y (omega (arith, z, e))))
         (λ u. u)))
 
   -- ground 24

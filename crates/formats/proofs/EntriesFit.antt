@@ -11,7 +11,7 @@ use Rattle.decimal.specs.Path.{Mark, maxMarks}
 use Rattle.tophat.specs.Syntax.{taskRows, maxLeaves, Ty, leaves, Code, Val, TaskOf, Env, Store}
 use Rattle.tophat.specs.Typing.{typeOf, ValueType, ValueTypes, AllSmall, small-nil, small-cons}
 use Rattle.tophat.specs.Typing.{TaskType, k-filled, k-blank, k-entered, k-shared, k-then-before, k-then-after, k-next-before, k-next-after}
-use Rattle.tophat.specs.Typing.{k-failed, k-both, k-either, k-or-left, k-or-right, k-unpicked, k-picked-left, k-picked-right, k-if-true, k-if-false, k-bound}
+use Rattle.tophat.specs.Typing.{k-failed, k-both, k-either, k-or-left, k-or-right, k-unpicked, k-picked-left, k-picked-right, k-viewed, k-if-true, k-if-false, k-bound}
 use Rattle.tophat.specs.Leaves.{padded, Leaf, noLeaf, leafKinds}
 use Rattle.tophat.specs.Handling.{Button, continue, left, right}
 use Rattle.tophat.specs.Showing.{fill, button, Entry, marked, offers, buttonIf, MarksFit}
@@ -79,6 +79,7 @@ module _ {Σ : List Ty} {s : Store} (g : AllSmall Σ) (q : ValueTypes s Σ) wher
   entries-fit m ρ (k-unpicked d e) h l f = fit-both (fit-button _ left l) (fit-button _ right l)
   entries-fit m ρ (k-picked-left d e) h l f = entries-fit m ρ d h l (f .0)
   entries-fit m ρ (k-picked-right d e) h l f = entries-fit m ρ e h l (f .1)
+  entries-fit m ρ (k-viewed d v) h l f = fit-none
   entries-fit m ρ (k-if-true b d e) h l f = entries-fit m ρ d h l (f .0)
   entries-fit m ρ (k-if-false b d e) h l f = entries-fit m ρ e h l (f .1)
   entries-fit m ρ (k-bound b v e) h l f = entries-fit m _ e (small-cons (type-leaves b g h) h) l f

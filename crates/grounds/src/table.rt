@@ -67,7 +67,7 @@ pub fn asks_of(k: u32) -> Asks
         29 => Known(ACell, Unused, Unused, OwnPlain, Nothing),
         30 => Known(ACell, APlain, Unused, OwnPlain, Nothing),
         31 => Known(APlain, ABranch, Unused, AsB, Binder),
-        40 => Known(APlain, Unused, Unused, OwnTask, Nothing),
+        40 | 49 => Known(APlain, Unused, Unused, OwnTask, Nothing),
         41 => Known(AType, Unused, Unused, OwnTask, Nothing),
         42 => Known(ACell, Unused, Unused, OwnTask, Nothing),
         43..=44 => Known(ATask, ATask, Unused, OwnTask, Binder),

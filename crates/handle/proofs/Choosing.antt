@@ -8,7 +8,7 @@ use native.Mathlib.Decide.{ℕ-discrete}
 use native.Mathlib.Omega.{arith}
 use Rattle.decimal.specs.Path.{Path}
 use Rattle.decimal.proofs.PathNumbers.{path-0}
-use Rattle.tophat.specs.Syntax.{Ty, Code, edit, enter, update, then, next, fail, and, or, xor, if, let', Env, Store}
+use Rattle.tophat.specs.Syntax.{Ty, Code, edit, enter, update, then, next, fail, and, or, xor, view, if, let', Env, Store}
 use Rattle.tophat.specs.Syntax.{TaskOf, unpicked, pickedLeft, pickedRight}
 use Rattle.tophat.specs.Typing.{CodeType}
 use Rattle.tophat.specs.Handling.{continue, left, right, Action, press}
@@ -104,7 +104,7 @@ module _ (rs ws : List ℕ) (i : ℕ) (env : List ℕ) (d : ℕ) (e : Event) (v 
           let m : e .action ≡ continueNumber = (let x = h p in let y = g p in omega (arith, l .0, l .1)) in
           chosen rs ws ws i env d false e v q [] (press continue) (path-0 (e .path) p) (is-continue (e .action) (e .leaves) k m) (λ a b τ Σ Γ s ρ z g y n w. (refl, refl))
 
--- ---- rows that take no event: 45, and what is no task
+-- ---- rows that take no event: 45, 49, and what is no task
 
 pub handle-none : (rs ws : List ℕ) (i : ℕ) (env : List ℕ) (d : ℕ) (p : Path) (x : Action) → Unhanded rs ws i → (FromKind rs i (taskK editK) → UpToKind rs i (taskK nextK) → ⊥) → (FromKind rs i (taskK andK) → UpToKind rs i (taskK xorK) → ⊥)
     → HandleOk rs ws ws i env d p x false
@@ -118,6 +118,7 @@ handle-none rs ws i env d p x v l h (fail υ) z Σ Γ τ s ρ t y w g = (refl, r
 handle-none rs ws i env d p x v l h (and a b) z Σ Γ τ s ρ t y w g = absurd (let k = z .0 in h (omega arith) (omega arith))
 handle-none rs ws i env d p x v l h (or a b) z Σ Γ τ s ρ t y w g = absurd (let k = z .0 in h (omega arith) (omega arith))
 handle-none rs ws i env d p x v l h (xor a b) z Σ Γ τ s ρ t y w g = absurd (let k = z .0 in h (omega arith) (omega arith))
+handle-none rs ws i env d p x v l h (view e) z Σ Γ τ s ρ t y w g = (refl, refl)
 handle-none rs ws i env d p x v l h (if e a b) z Σ Γ τ s ρ t y w g =
     on-no-if rs ws d i Σ Γ (λ c t τ. Handled rs ws ws i env d c false (handle c ρ s t p x)) v (z .0) (if e a b) z τ t y g
 handle-none rs ws i env d p x v l h (let' e b) z Σ Γ τ s ρ t y w g =

@@ -8,7 +8,7 @@ use Prim.Native.Nat.{ℕ, zero, suc, _+_, _≤_, _<_}
 use native.Mathlib.Nat.{eq-or-lt-of-le, le-of-suc-le-suc}
 use native.Mathlib.Omega.{arith}
 use lib.Dec.{T, eqb, eqb→eq, eqb-refl}
-use Rattle.tophat.specs.Syntax.{moves, Code, edit, enter, update, then, next, fail, and, or, xor, if, let'}
+use Rattle.tophat.specs.Syntax.{moves, Code, edit, enter, update, then, next, fail, and, or, xor, view, if, let'}
 use Rattle.rows.specs.Kinds.{eitherK, ifK, numberOf}
 use Rattle.rows.specs.Rows.{maxRows, word, opA, opB, opC, count, LowWords}
 use Rattle.state.specs.Holds.{Tree, leaf, under, fork, treeOf, Foot, Sits}
@@ -105,6 +105,7 @@ module _ (rs : List ℕ) (low : (i : ℕ) → i < maxRows → LowWords rs i) whe
   inside d i (and a b) l s = (l, inside d (opA rs i) a (in-a l (s .0) (omega arith)) (s .1), inside d (opB rs i) b (in-b l (s .0) (omega arith)) (s .2))
   inside d i (or a b) l s = (l, inside d (opA rs i) a (in-a l (s .0) (omega arith)) (s .1), inside d (opB rs i) b (in-b l (s .0) (omega arith)) (s .2))
   inside d i (xor a b) l s = (l, inside d (opA rs i) a (in-a l (s .0) (omega arith)) (s .1), inside d (opB rs i) b (in-b l (s .0) (omega arith)) (s .2))
+  inside d i (view e) l s = l
   inside d i (if e a b) l s = (l, inside d (opB rs i) a (in-b l (s .0) (omega arith)) (s .2), inside d (opC rs i) b (in-c l (s .0) (omega arith)) (s .3))
   inside d i (let' e b) l s = (l, inside (d + 1) (opB rs i) b (in-b l (s .0) (omega arith)) (s .2))
 
@@ -141,6 +142,7 @@ module _ (rs : List ℕ) where
   moves-size (and a b) = omega (arith, moves-size a, moves-size b)
   moves-size (or a b) = omega (arith, moves-size a, moves-size b)
   moves-size (xor a b) = omega (arith, moves-size a, moves-size b)
+  moves-size (view e) = omega arith
   moves-size (if e a b) = omega (arith, moves-size a, moves-size b)
   moves-size (let' e b) = omega (arith, moves-size b)
 

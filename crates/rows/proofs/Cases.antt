@@ -34,6 +34,11 @@ abbrev around : ℕ → ℕ → List Row
 around k zero = (1, 0, 0, 0) ∷ (45, 0, 0, 0) ∷ []
 around k (suc n) = around k n ++ (45, 0, 0, 0) ∷ (k, 2 * n + 2, 2 * n + 1, 0) ∷ []
 
+-- the same around a shown unit
+abbrev aroundShown : ℕ → ℕ → List Row
+aroundShown k zero = (1, 0, 0, 0) ∷ (20, 0, 0, 0) ∷ (49, 1, 0, 0) ∷ []
+aroundShown k (suc n) = aroundShown k n ++ (45, 0, 0, 0) ∷ (k, 2 * n + 3, 2 * n + 2, 0) ∷ []
+
 -- a ground, and rows that get it
 abbrev cases : List (ℕ × List Row)
 cases =
@@ -44,6 +49,10 @@ cases =
     (3, (22, 1, 7, 0) ∷ (40, 0, 0, 0) ∷ []) ∷  -- an unused operand
     (3, (2, 0, 0, 0) ∷ (10, 0, 2, 0) ∷ (42, 1, 0, 0) ∷ []) ∷  -- a truth cell that starts with 2
     (0, (3, 0, 0, 0) ∷ (10, 0, 2, 0) ∷ (42, 1, 0, 0) ∷ []) ∷  -- a number cell that starts with 2
+    (3, (22, 1, 0, 0) ∷ (50, 0, 0, 0) ∷ []) ∷  -- a kind past the table
+    (0, (22, 1, 0, 0) ∷ (49, 0, 0, 0) ∷ []) ∷  -- a shown value
+    (3, (22, 1, 0, 0) ∷ (49, 0, 1, 0) ∷ []) ∷  -- a shown value with a B
+    (4, (22, 1, 0, 0) ∷ (40, 0, 0, 0) ∷ (49, 1, 0, 0) ∷ []) ∷  -- a shown task
     (4, (22, 1, 0, 0) ∷ (40, 1, 0, 0) ∷ []) ∷  -- an operand that is the row itself
     (4, (22, 1, 0, 0) ∷ (40, 4294967295, 0, 0) ∷ []) ∷  -- a negative operand
     (4, (3, 0, 0, 0) ∷ (40, 0, 0, 0) ∷ []) ∷  -- an editor of a type
@@ -67,6 +76,8 @@ cases =
     (6, around 47 17) ∷  -- 17 marks
     (6, around 46 17) ∷  -- 17 marks
     (0, around 48 17) ∷  -- 48 is no mark
+    (0, aroundShown 47 16) ∷  -- 16 marks around a shown value and what it shows: 49 is no mark
+    (6, aroundShown 47 17) ∷  -- 17 marks around a shown value
     (0, around 43 16) ∷  -- 16 binders, of steps
     (6, around 43 17) ∷  -- 17 binders, of steps
     (6, around 44 17) ∷  -- 17 binders, of steps that wait

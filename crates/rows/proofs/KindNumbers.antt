@@ -2,19 +2,20 @@
 -- line holds of each number. Rests on Kinds, and on the crate match_laws.
 use mathlib.Core.Path.{_≡_, refl, sym, ap, subst, _∙_}
 use mathlib.Core.Bool.{Bool, true, false, _&&_, _||_, cond}
+use mathlib.Core.Logic.{⊎-elim}
 use mathlib.Core.Option.{Option, none, some}
 use mathlib.Core.List.{List, [], _∷_}
-use Prim.Native.Nat.{ℕ, suc, _+_, _<_, _≤_}
+use Prim.Native.Nat.{ℕ, suc, _+_, _-_, _<_, _≤_}
 use native.Mathlib.Omega.{arith}
 use lib.Dec.{leb, eqb}
 use borrow.Author.Tests.{eqb-true, leb-true}
 use Rattle.match_laws.proofs.Ranges.{NoneOf, membs, testAll, within, and-left, and-right}
 use Rattle.tophat.proofs.Basics.{no-some, some-is}
 use Rattle.rows.specs.Kinds.{Kind, typeK, unitK, truthK, numberK, pairK, cellK, plainK, eunitK, etruthK, enumberK, ebinderK, eopK, epairK, efstK, esndK, ederefK, eassignK}
-use Rattle.rows.specs.Kinds.{eitherK, ifK, letK, taskK, editK, enterK, updateK, thenK, nextK, failK, andK, orK, xorK}
+use Rattle.rows.specs.Kinds.{eitherK, ifK, letK, taskK, editK, enterK, updateK, thenK, nextK, failK, andK, orK, xorK, viewK}
 use Rattle.rows.specs.Kinds.{Asks, noAsks, Line, line, table, lookUp, kindOf, asksOf, numberOf, kindLimit}
 use Rattle.rows.specs.Rows.{kindAt, OfKind}
-use Rattle.rows.proofs.Basics.{no}
+use Rattle.rows.proofs.Basics.{no, le-or-lt}
 
 -- ---- a test of each line
 
@@ -78,6 +79,7 @@ number-kind (taskK failK) = refl
 number-kind (taskK andK) = refl
 number-kind (taskK orK) = refl
 number-kind (taskK xorK) = refl
+number-kind (taskK viewK) = refl
 
 -- two kinds of one number are one
 pub one-kind : (j k : Kind) → numberOf j ≡ numberOf k → j ≡ k
@@ -117,3 +119,7 @@ unknown-is (some k) h = no h
 -- in a range that no arm of a `match` takes, by one computed test of the range
 pub kind-gap : (a n : ℕ) (kss : List (List ℕ)) (w : ℕ) → testAll (λ j. membs kss j || isUnknown j) a n ≡ true → a ≤ w → w < a + n → NoneOf kss w → kindOf w ≡ none
 kind-gap a n kss w t l h g = unknown-is (kindOf w) (within isUnknown a n kss w t l h g)
+
+-- the same from a number on
+pub kind-beyond : (a : ℕ) (kss : List (List ℕ)) (w : ℕ) → testAll (λ j. membs kss j || isUnknown j) a (kindLimit - a) ≡ true → a ≤ w → NoneOf kss w → kindOf w ≡ none
+kind-beyond a kss w t l g = ⊎-elim (λ (p : kindLimit ≤ w). kind-past w p) (λ (p : w < kindLimit). kind-gap a (kindLimit - a) kss w t l (omega arith) g) (le-or-lt kindLimit w)

@@ -7,11 +7,11 @@ use Prim.Native.Nat.{ℕ, zero, suc, _+_, _-_, _<_, _≤_}
 use native.Mathlib.Omega.{arith}
 use lib.Dec.{eqb}
 use borrow.Author.Tests.{ne-eqb}
-use Rattle.tophat.specs.Syntax.{Exp, Code, edit, enter, update, then, next, fail, and, or, xor, if, let', moves}
+use Rattle.tophat.specs.Syntax.{Exp, Code, edit, enter, update, then, next, fail, and, or, xor, view, if, let', moves}
 use Rattle.rows.specs.Kinds.{thenK, orK, Sort, Kind, plainK, eitherK, taskK, numberOf}
 use Rattle.rows.specs.Rows.{word, count, movers, isKind, firstExpression}
 use Rattle.rows.specs.Trees.{r-cell, ReadsExp}
-use Rattle.rows.specs.Trees.{ReadsCode, r-edit, r-enter, r-update, r-then, r-next, r-fail, r-and, r-or, r-xor, r-if, r-let}
+use Rattle.rows.specs.Trees.{ReadsCode, r-edit, r-enter, r-update, r-then, r-next, r-fail, r-and, r-or, r-xor, r-view, r-if, r-let}
 use Rattle.rows.proofs.Exists.{Has, has-type, has-basic, has-cell, has-plain, has-task, Sorted, exists}
 use Rattle.rows.proofs.Groups.{ExpRow, plain-row, plain-by, exp-group}
 use Rattle.rows.proofs.Places.{type-low}
@@ -31,6 +31,7 @@ share (fail τ) = 0
 share (and a b) = 0
 share (or a b) = 1
 share (xor a b) = 0
+share (view x) = 0
 share (if x a b) = 0
 share (let' x b) = 0
 
@@ -48,6 +49,7 @@ adds (fail τ) = refl
 adds (and a b) = omega arith
 adds (or a b) = omega arith
 adds (xor a b) = omega arith
+adds (view x) = refl
 adds (if x a b) = omega arith
 adds (let' x b) = omega arith
 
@@ -80,6 +82,7 @@ module _ (rs : List ℕ) where
   code-share {i} (r-and k x y d e) = sym (ap shareOf k)
   code-share {i} (r-or k x y d e) = sym (ap shareOf k)
   code-share {i} (r-xor k x y d e) = sym (ap shareOf k)
+  code-share {i} (r-view k x d) = sym (ap shareOf k)
   code-share {i} (r-if k x y w d e f) = sym (ap shareOf k)
   code-share {i} (r-let k x y d e) = sym (ap shareOf k)
 

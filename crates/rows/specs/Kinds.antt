@@ -26,7 +26,7 @@ pub data EitherKind : Type 0 where
 
 -- tasks
 pub data TaskKind : Type 0 where
-  editK enterK updateK thenK nextK failK andK orK xorK : TaskKind
+  editK enterK updateK thenK nextK failK andK orK xorK viewK : TaskKind
   deriving Discrete as TaskKind-discrete
 
 pub data Kind : Type 0 where
@@ -101,6 +101,7 @@ table =
     line 46 (taskK andK) (asks aTask aTask unused (is taskS) mark) ∷
     line 47 (taskK orK) (asks aTask aTask unused (is taskS) mark) ∷
     line 48 (taskK xorK) (asks aTask aTask unused (is taskS) nothing) ∷
+    line 49 (taskK viewK) (asks aPlain unused unused (is taskS) nothing) ∷  -- CR 1
     []
 
 -- ---- its readings

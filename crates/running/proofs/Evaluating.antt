@@ -3,24 +3,24 @@
 -- says of expressions, and on the calculus' preservation of types.
 use mathlib.Core.Path.{_≡_, refl, sym, ap, _∙_, subst}
 use mathlib.Core.Bool.{Bool, true, false}
-use mathlib.Core.Logic.{inl, inr}
+use mathlib.Core.Logic.{_⊎_, inl, inr}
 use mathlib.Core.List.{List, [], _∷_}
 use Prim.Native.Nat.{ℕ, _+_}
 use native.Mathlib.Omega.{arith}
-use Rattle.tophat.specs.Syntax.{Ty, Exp, Code, edit, enter, update, then, next, fail, and, or, xor, if, let', Env, Store}
+use Rattle.tophat.specs.Syntax.{Ty, Exp, Code, edit, enter, update, then, next, fail, and, or, xor, view, if, let', Env, Store}
 use Rattle.tophat.specs.Syntax.{TaskOf, ifTrue, ifFalse}
-use Rattle.tophat.specs.Typing.{CodeType, t-edit, t-then, t-next, t-and, t-or, t-if-task, t-let-task}
+use Rattle.tophat.specs.Typing.{HasType, CodeType, t-edit, t-view, t-then, t-next, t-and, t-or, t-if-task, t-let-task}
 use Rattle.tophat.proofs.ComputeEvaluation.{isTrue, eval, evaluate}
 use Rattle.tophat.proofs.TaskEvaluationAgrees.{evaluate-good}
-use Rattle.rows.specs.Kinds.{eitherK, ifK, letK, taskK, editK, thenK, nextK, failK, andK, orK, xorK, numberOf}
+use Rattle.rows.specs.Kinds.{eitherK, ifK, letK, taskK, editK, thenK, nextK, failK, andK, orK, xorK, viewK, numberOf}
 use Rattle.rows.specs.Rows.{word, opA, opB, opC, OfKind, FromKind, BelowKind}
 use Rattle.match_laws.proofs.Ranges.{in-range}
 use Rattle.value.specs.declared.Value.{Value}
 use Rattle.value.specs.Values.{firstNumber}
 use Rattle.value.proofs.Meaning.{leaf-word, true-value}
 use Rattle.value.proofs.Operators.{differ}
-use Rattle.state.specs.Layout.{own, one, other}
-use Rattle.state.specs.Holds.{Tree, under, fork, treeOf, Cell, Sits, Row, Clear, Holds, Stores, Same, World, Ran}
+use Rattle.state.specs.Layout.{own, one, other, valueWords}
+use Rattle.state.specs.Holds.{Tree, under, fork, treeOf, Cell, SitsExp, Sits, Row, Clear, Holds, Stores, Same, World, Ran}
 use Rattle.state.specs.Words.{wordsOf, Laid}
 use Rattle.state.specs.Contracts.{EvalOk, EvaluateAt, EvaluateOk}
 use Rattle.state.proofs.Words.{value-at, laid-as}
@@ -28,6 +28,7 @@ use Rattle.state.proofs.Frames.{same-trans, same-weak, same-row, laid-same, foo
 use Rattle.state.proofs.Sites.{on-code}
 use Rattle.eval.proofs.Arms.{after, branch-value}
 use Rattle.running.specs.Hands.{Bound}
+use Rattle.running.proofs.Forms.{OfContent}
 
 -- ---- what is clear
 
@@ -100,19 +101,25 @@ module _ (rs : List ℕ) (i : ℕ) (env : List ℕ) (d : ℕ) where
   run-at : {ws ws₁ : List ℕ} {a b : ℕ} → a ≡ b → EvaluateOk rs ws ws₁ a env d → EvaluateOk rs ws ws₁ b env d
   run-at {ws} {ws₁} q h = subst (λ k. EvaluateOk rs ws ws₁ k env d) q h
 
-  -- 40
-  pub evaluate-edit : (ws ws₁ ws₂ : List ℕ) (a : ℕ) (x : Value) → OfKind rs i (taskK editK) → a ≡ opA rs i → EvalOk rs ws ws₁ a env d x → Laid ws₁ ws₂ i (own ∷ wordsOf x) → EvaluateOk rs ws ws₂ i env d
-  unfolding evaluate
-  evaluate-edit ws ws₁ ws₂ a x q ea ha l = on-code rs d i (taskK editK) (EvaluateAt rs ws ws₂ i env d) q by
-    where
-      by : (e : Exp) → Sits rs d i (edit e) → EvaluateAt rs ws ws₂ i env d (edit e)
-      by e z Σ Γ τ s ρ (t-edit y) w cl =
-          let p = eval-at ea ha e (z .1) Σ Γ τ s ρ y w in
-          record {
-            holds = laid-as (eval e ρ s .0) l (p .answer) .row;
-            stores = stores-laid (p .stores) (λ c. omega arith) l;
-            same = same-trans (same-weak (λ j c. inr c) (p .same)) (laid-same l (inl refl));
-          }
+  -- 40 and 49
+  module _ (ws ws₁ ws₂ : List ℕ) (a : ℕ) (x : Value) (ea : a ≡ opA rs i) (ha : EvalOk rs ws ws₁ a env d x) (l : Laid ws₁ ws₂ i (own ∷ wordsOf x)) where
+    -- the content is A's value, in either
+    content : {Σ Γ : List Ty} {τ : Ty} {s : Store} {ρ : Env} (e : Exp) → SitsExp rs d (opA rs i) e → (Cell rs i → ⊥) → HasType Σ Γ e τ → World rs ws env d Σ Γ s ρ
+        → Row ws₂ i (own ∷ valueWords (eval e ρ s .0)) × Stores rs ws₂ (eval e ρ s .1) × Same (λ j. (j ≡ i) ⊎ Cell rs j) ws ws₂
+    content {Σ} {Γ} {τ} {s} {ρ} e z n y w =
+        let p = eval-at ea ha e z Σ Γ τ s ρ y w in
+        (laid-as (eval e ρ s .0) l (p .answer) .row, stores-laid (p .stores) n l, same-trans (same-weak (λ j c. inr c) (p .same)) (laid-same l (inl refl)))
+
+    pub evaluate-content : OfContent rs i → EvaluateOk rs ws ws₂ i env d
+    unfolding evaluate
+    evaluate-content (inl q) = on-code rs d i (taskK editK) (EvaluateAt rs ws ws₂ i env d) q by
+      where
+        by : (e : Exp) → Sits rs d i (edit e) → EvaluateAt rs ws ws₂ i env d (edit e)
+        by e z Σ Γ τ s ρ (t-edit y) w cl = let r = content e (z .1) (λ c. omega arith) y w in record { holds = r .0; stores = r .1; same = r .2 }
+    evaluate-content (inr q) = on-code rs d i (taskK viewK) (EvaluateAt rs ws ws₂ i env d) q by
+      where
+        by : (e : Exp) → Sits rs d i (view e) → EvaluateAt rs ws ws₂ i env d (view e)
+        by e z Σ Γ τ s ρ (t-view y) w cl = let r = content e (z .1) (λ c. omega arith) y w in record { holds = r .0; stores = r .1; same = r .2 }
 
   -- 43 and 44
   module _ (ws ws₁ ws₂ : List ℕ) (a : ℕ) (ea : a ≡ opA rs i) (ha : EvaluateOk rs ws ws₁ a env d) (l : Laid ws₁ ws₂ i (own ∷ [])) where
@@ -225,10 +232,10 @@ module _ (rs : List ℕ) (i : ℕ) (env : List ℕ) (d : ℕ) where
     laid-only : (c : Code) (t : TaskOf c) (s : Store) → (Cell rs i → ⊥) → Holds rs ws₁ i c t → Stores rs ws s → Ran rs ws ws₁ i c t s
     laid-only c t s n h st = record { holds = h; stores = stores-laid st n l; same = laid-same l (inl (foot-self rs i (treeOf c))) }
 
-    pub evaluate-tag : (OfKind rs i (eitherK ifK) → ⊥) → (OfKind rs i (eitherK letK) → ⊥) → (OfKind rs i (taskK editK) → ⊥) → (FromKind rs i (taskK thenK) → BelowKind rs i (taskK failK) → ⊥) → (FromKind rs i (taskK andK) → BelowKind rs i (taskK xorK) → ⊥)
+    pub evaluate-tag : (OfKind rs i (eitherK ifK) → ⊥) → (OfKind rs i (eitherK letK) → ⊥) → (OfContent rs i → ⊥) → (FromKind rs i (taskK thenK) → BelowKind rs i (taskK failK) → ⊥) → (FromKind rs i (taskK andK) → BelowKind rs i (taskK xorK) → ⊥)
         → EvaluateOk rs ws ws₁ i env d
     unfolding evaluate
-    evaluate-tag x₂ x₃ x₀ x₄ x₆ (edit e) z Σ Γ τ s ρ y w cl = absurd (x₀ (z .0))
+    evaluate-tag x₂ x₃ x₀ x₄ x₆ (edit e) z Σ Γ τ s ρ y w cl = absurd (x₀ (inl (z .0)))
     evaluate-tag x₂ x₃ x₀ x₄ x₆ (enter υ) z Σ Γ τ s ρ y w cl = laid-only (enter υ) _ s (λ c. let q = z .0 in omega arith) (l .row) (w .stores)
     evaluate-tag x₂ x₃ x₀ x₄ x₆ (update k) z Σ Γ τ s ρ y w cl = laid-only (update k) _ s (λ c. let q = z .0 in omega arith) (l .row) (w .stores)
     evaluate-tag x₂ x₃ x₀ x₄ x₆ (then a b) z Σ Γ τ s ρ y w cl = absurd (let q = z .0 in x₄ (omega arith) (omega arith))
@@ -239,5 +246,6 @@ module _ (rs : List ℕ) (i : ℕ) (env : List ℕ) (d : ℕ) where
     evaluate-tag x₂ x₃ x₀ x₄ x₆ (xor a b) z Σ Γ τ s ρ y w cl =
         let o = kids-xor rs d i a b z in
         laid-only (xor a b) _ s (o .cellI) (l .row, clear-kept (clear-first cl) (keeps-laid (o .offA) l), clear-kept (clear-second cl) (keeps-laid (o .offB) l)) (w .stores)
+    evaluate-tag x₂ x₃ x₀ x₄ x₆ (view e) z Σ Γ τ s ρ y w cl = absurd (x₀ (inr (z .0)))
     evaluate-tag x₂ x₃ x₀ x₄ x₆ (if e a b) z Σ Γ τ s ρ y w cl = absurd (x₂ (z .0))
     evaluate-tag x₂ x₃ x₀ x₄ x₆ (let' e b) z Σ Γ τ s ρ y w cl = absurd (x₃ (z .0))

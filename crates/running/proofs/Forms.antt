@@ -4,16 +4,24 @@ use mathlib.Core.Path.{_≡_, sym, subst}
 use mathlib.Core.List.{List, [], _∷_}
 use Prim.Native.Nat.{ℕ, _≤_}
 use native.Mathlib.Omega.{arith}
-use Rattle.tophat.specs.Syntax.{maxLeaves, Ty, pair, leaves, Exp, Code, edit, enter, update, then, next, fail, and, or, xor, if, let', Val}
+use types.Run.{OneOf}
+use Rattle.tophat.specs.Syntax.{maxLeaves, Ty, pair, leaves, Exp, Code, edit, enter, update, then, next, fail, and, or, xor, view, if, let', Val}
 use Rattle.tophat.specs.Syntax.{TaskOf, filled, blank, entered, shared, before, after, failed, both, either, orLeft, orRight, unpicked, pickedLeft, pickedRight, ifTrue, ifFalse, bound}
 use Rattle.tophat.specs.Typing.{At, HasType, CodeType, ValueType}
-use Rattle.tophat.specs.Typing.{TaskType, k-filled, k-blank, k-entered, k-shared, k-then-before, k-next-before, k-failed, k-both, k-either, k-unpicked}
-use Rattle.rows.specs.Kinds.{eitherK, ifK, letK, taskK, editK, enterK, updateK, thenK, nextK, failK, andK, orK, xorK}
+use Rattle.tophat.specs.Typing.{TaskType, k-filled, k-blank, k-entered, k-shared, k-then-before, k-next-before, k-failed, k-both, k-either, k-unpicked, k-viewed}
+use Rattle.rows.specs.Kinds.{eitherK, ifK, letK, taskK, editK, enterK, updateK, thenK, nextK, failK, andK, orK, xorK, viewK, numberOf}
 use Rattle.rows.specs.Rows.{word, OfKind}
 use Rattle.state.specs.Layout.{at, own, one, valueWords}
 use Rattle.state.specs.Holds.{Sits, Row, Holds}
 use Rattle.state.proofs.Sites.{on-code}
 use Rattle.running.specs.Hands.{Unhanded, HandsOn, if-true, if-false, let-bound, then-after, next-after, or-left, or-right, xor-left, xor-right}
+
+-- row i is of one of the kinds whose row holds the value of A from the start: 40 or 49
+abbrev pub contentKinds : List ℕ
+contentKinds = numberOf (taskK editK) ∷ numberOf (taskK viewK) ∷ []
+
+abbrev pub OfContent : List ℕ → ℕ → Type 0
+OfContent rs i = OneOf contentKinds (word rs i 0)
 
 module _ (rs ws : List ℕ) (d i : ℕ) (Σ Γ : List Ty) (P : (c : Code) → TaskOf c → Ty → Type 0) where
   -- what is shown: P of each typed task that row i holds
@@ -34,6 +42,14 @@ module _ (rs ws : List ℕ) (d i : ℕ) (Σ Γ : List Ty) (P : (c : Code) → Ta
     where
       by : (e : Exp) → Sits rs d i (edit e) → Shown (edit e)
       by e z τ (filled v) (k-filled y k) h = f e v τ z h y k
+
+  -- 49
+  pub on-viewed : OfKind rs i (taskK viewK) → ((e : Exp) (v : Val) (τ : Ty) → Sits rs d i (view e) → Row ws i (own ∷ valueWords v) → HasType Σ Γ e τ → ValueType v τ → P (view e) (filled v) τ)
+      → (c : Code) → Sits rs d i c → Shown c
+  on-viewed q f = on-code rs d i (taskK viewK) Shown q by
+    where
+      by : (e : Exp) → Sits rs d i (view e) → Shown (view e)
+      by e z τ (filled v) (k-viewed y k) h = f e v τ z h y k
 
   -- 41
   pub on-blank : OfKind rs i (taskK enterK) → (at ws i 0 ≡ one → ⊥) → ((τ : Ty) → Sits rs d i (enter τ) → Row ws i (own ∷ []) → leaves τ ≤ maxLeaves → P (enter τ) blank τ) → (c : Code) → Sits rs d i c → Shown c

@@ -2,17 +2,18 @@
 -- values.
 use mathlib.Core.Path.{_≡_, refl, sym, ap, ap₂, _∙_, subst}
 use mathlib.Core.Bool.{true, false}
+use mathlib.Core.Logic.{inl, inr}
 use mathlib.Core.Option.{Option, none, some}
 use mathlib.Core.List.{List}
 use Prim.Native.Nat.{ℕ, _+_, _≤_}
-use Rattle.tophat.specs.Syntax.{maxLeaves, Ty, pair, leaves, Code, edit, enter, update, then, next, fail, and, or, xor, if, let', Val, Store}
+use Rattle.tophat.specs.Syntax.{maxLeaves, Ty, pair, leaves, Code, edit, enter, update, then, next, fail, and, or, xor, view, if, let', Val, Store}
 use Rattle.tophat.specs.Syntax.{TaskOf}
 use Rattle.tophat.specs.Normalising.{pairOf, firstOf, value}
 use Rattle.tophat.proofs.EvaluationAgrees.{look-up}
 use Rattle.tophat.proofs.Leaves.{type-of}
 use Rattle.tophat.proofs.Preservation.{OptionType, o-none, o-some, value-type}
 use Rattle.tophat.proofs.TypeLeaves.{at-leaves, type-leaves}
-use Rattle.rows.specs.Kinds.{taskK, editK, enterK, updateK, andK, orK}
+use Rattle.rows.specs.Kinds.{taskK, enterK, updateK, andK, orK}
 use Rattle.rows.specs.Rows.{word, OfKind}
 use Rattle.value.specs.declared.Value.{Value}
 use Rattle.value.specs.declared.Found.{Found}
@@ -24,7 +25,7 @@ use Rattle.state.specs.Layout.{at, one}
 use Rattle.state.specs.Words.{valueAt}
 use Rattle.state.specs.Contracts.{ValueOk}
 use Rattle.state.proofs.Words.{value-at}
-use Rattle.running.proofs.Forms.{on-filled, on-blank, on-entered, on-shared, on-then-before, on-next-before, on-both, on-either, on-unpicked, on-no-if, on-no-let}
+use Rattle.running.proofs.Forms.{OfContent, on-filled, on-viewed, on-blank, on-entered, on-shared, on-then-before, on-next-before, on-both, on-either, on-unpicked, on-no-if, on-no-let}
 use Rattle.running.specs.Hands.{Unhanded}
 
 -- ---- values found or not
@@ -63,9 +64,11 @@ module _ (rs ws : List ℕ) (i : ℕ) where
   abbrev Is : Found → Store → (c : Code) → TaskOf c → Ty → Type 0
   Is r s c t τ = r ≡ asFound (value c t s)
 
-  pub value-filled : (v : Value) → OfKind rs i (taskK editK) → v ≡ valueAt ws i → ValueOk rs ws i (someFound v)
+  -- 40 and 49
+  pub value-content : (v : Value) → OfContent rs i → v ≡ valueAt ws i → ValueOk rs ws i (someFound v)
   unfolding value asFound
-  value-filled v q e d c z Σ Γ τ s t y st gs gb h w = on-filled rs ws d i Σ Γ (Is (someFound v) s) q (λ x v τ z r y k. ap someFound (e ∙ value-at r k (type-leaves y gs gb))) c z τ t y h
+  value-content v (inl q) e d c z Σ Γ τ s t y st gs gb h w = on-filled rs ws d i Σ Γ (Is (someFound v) s) q (λ x v τ z r y k. ap someFound (e ∙ value-at r k (type-leaves y gs gb))) c z τ t y h
+  value-content v (inr q) e d c z Σ Γ τ s t y st gs gb h w = on-viewed rs ws d i Σ Γ (Is (someFound v) s) q (λ x v τ z r y k. ap someFound (e ∙ value-at r k (type-leaves y gs gb))) c z τ t y h
 
   pub value-entered : (v : Value) → OfKind rs i (taskK enterK) → at ws i 0 ≡ one → v ≡ valueAt ws i → ValueOk rs ws i (someFound v)
   unfolding value asFound
@@ -117,9 +120,9 @@ module _ (rs ws : List ℕ) (i : ℕ) where
           c z τ t n h
 
   -- any other row that does not hand on
-  pub value-none : Unhanded rs ws i → (OfKind rs i (taskK editK) → ⊥) → (OfKind rs i (taskK enterK) → ⊥) → (OfKind rs i (taskK updateK) → ⊥) → (OfKind rs i (taskK andK) → ⊥) → (OfKind rs i (taskK orK) → ⊥) → ValueOk rs ws i noneFound
+  pub value-none : Unhanded rs ws i → (OfContent rs i → ⊥) → (OfKind rs i (taskK enterK) → ⊥) → (OfKind rs i (taskK updateK) → ⊥) → (OfKind rs i (taskK andK) → ⊥) → (OfKind rs i (taskK orK) → ⊥) → ValueOk rs ws i noneFound
   unfolding value asFound
-  value-none u x₀ x₁ x₂ x₆ x₇ d (edit e) z Σ Γ τ s t y st gs gb h w = absurd (x₀ (z .0))
+  value-none u x₀ x₁ x₂ x₆ x₇ d (edit e) z Σ Γ τ s t y st gs gb h w = absurd (x₀ (inl (z .0)))
   value-none u x₀ x₁ x₂ x₆ x₇ d (enter υ) z Σ Γ τ s t y st gs gb h w = absurd (x₁ (z .0))
   value-none u x₀ x₁ x₂ x₆ x₇ d (update k) z Σ Γ τ s t y st gs gb h w = absurd (x₂ (z .0))
   value-none u x₀ x₁ x₂ x₆ x₇ d (then a b) z Σ Γ τ s t y st gs gb h w = on-then-before rs ws d i Σ Γ (Is noneFound s) u (z .0) (λ a b t τ υ z h y e. refl) (then a b) z τ t y h
@@ -128,5 +131,6 @@ module _ (rs ws : List ℕ) (i : ℕ) where
   value-none u x₀ x₁ x₂ x₆ x₇ d (and a b) z Σ Γ τ s t y st gs gb h w = absurd (x₆ (z .0))
   value-none u x₀ x₁ x₂ x₆ x₇ d (or a b) z Σ Γ τ s t y st gs gb h w = absurd (x₇ (z .0))
   value-none u x₀ x₁ x₂ x₆ x₇ d (xor a b) z Σ Γ τ s t y st gs gb h w = on-unpicked rs ws d i Σ Γ (Is noneFound s) u (z .0) (λ a b τ z h y e. refl) (xor a b) z τ t y h
+  value-none u x₀ x₁ x₂ x₆ x₇ d (view e) z Σ Γ τ s t y st gs gb h w = absurd (x₀ (inr (z .0)))
   value-none u x₀ x₁ x₂ x₆ x₇ d (if e a b) z Σ Γ τ s t y st gs gb h w = on-no-if rs ws d i Σ Γ (Is noneFound s) u (z .0) (if e a b) z τ t y h
   value-none u x₀ x₁ x₂ x₆ x₇ d (let' e b) z Σ Γ τ s t y st gs gb h w = on-no-let rs ws d i Σ Γ (Is noneFound s) u (z .0) (let' e b) z τ t y h

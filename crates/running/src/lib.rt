@@ -108,7 +108,7 @@ pub fn value(rows: &[u32; ROWS_WORDS], state: &[u32; STATE_SIZE], row: usize) ->
     }
     let kind = get(rows, row, 0);
     match kind {
-        40 => some(read_value(state, row)),
+        40 | 49 => some(read_value(state, row)),
         41 => {
             if read(state, row, 0) == ONE {
                 return some(read_value(state, row));
@@ -165,7 +165,7 @@ pub fn evaluate(
             let deeper = bind(state, row, &mut inner, depth);
             evaluate(rows, state, operand(rows, row, 2), &inner, deeper);
         }
-        40 => {
+        40 | 49 => {
             let x = eval(rows, state, operand(rows, row, 1), env, depth);
             put_value(state, row, OWN, x);
         }

@@ -5,3 +5,4 @@ pub mod ScreenLaws
 pub mod Bounds
 mod Sessions
 mod Cases
+mod ShownCases

@@ -5,7 +5,7 @@ use mathlib.Core.Logic.{inl, inr, ⊎-elim}
 use mathlib.Core.List.{List, []}
 use Prim.Native.Nat.{ℕ, _+_, _≤_}
 use native.Mathlib.Omega.{arith}
-use Rattle.tophat.specs.Syntax.{edit, enter, update, then, next, fail, and, or, xor, if, let'}
+use Rattle.tophat.specs.Syntax.{edit, enter, update, then, next, fail, and, or, xor, view, if, let'}
 use Rattle.rows.specs.Kinds.{eitherK, ifK, letK, taskK, thenK, failK, xorK, numberOf}
 use Rattle.rows.specs.Rows.{word, OfKind, FromKind, UpToKind}
 use Rattle.state.specs.Holds.{Tree, leaf, under, fork, treeOf, Foot, Off, Split, Row, Clear, Same}
@@ -60,6 +60,7 @@ module _ (rs : List ℕ) (i : ℕ) where
   clear-fork {ws} {ws₁} {ws₂} k q m n o ea eb ha hb p d (and a b) s = cleared-fork rs i 1 (treeOf a) 2 (treeOf b) (s .3) (at-operand rs ws ws₁ ea ha d a (s .1)) (at-operand rs ws₁ ws₂ eb hb d b (s .2)) p
   clear-fork {ws} {ws₁} {ws₂} k q m n o ea eb ha hb p d (or a b) s = cleared-fork rs i 1 (treeOf a) 2 (treeOf b) (s .3) (at-operand rs ws ws₁ ea ha d a (s .1)) (at-operand rs ws₁ ws₂ eb hb d b (s .2)) p
   clear-fork {ws} {ws₁} {ws₂} k q m n o ea eb ha hb p d (xor a b) s = cleared-fork rs i 1 (treeOf a) 2 (treeOf b) (s .3) (at-operand rs ws ws₁ ea ha d a (s .1)) (at-operand rs ws₁ ws₂ eb hb d b (s .2)) p
+  clear-fork {ws} {ws₁} {ws₂} k q m n o ea eb ha hb p d (view e) s = absurd (let z = s .0 in omega arith)
   clear-fork {ws} {ws₁} {ws₂} k q m n o ea eb ha hb p d (if e a b) s = absurd (let z = s .0 in omega arith)
   clear-fork {ws} {ws₁} {ws₂} k q m n o ea eb ha hb p d (let' e b) s = absurd (let z = s .0 in omega arith)
 
@@ -86,5 +87,6 @@ module _ (rs : List ℕ) (i : ℕ) where
   clear-leaf x y z p d (and a b) s = let q = s .0 in absurd (z (omega arith) (omega arith) (λ w. omega arith))
   clear-leaf x y z p d (or a b) s = let q = s .0 in absurd (z (omega arith) (omega arith) (λ w. omega arith))
   clear-leaf x y z p d (xor a b) s = let q = s .0 in absurd (z (omega arith) (omega arith) (λ w. omega arith))
+  clear-leaf x y z p d (view e) s = cleared-leaf rs i p
   clear-leaf x y z p d (if e a b) s = absurd (x (s .0))
   clear-leaf x y z p d (let' e b) s = absurd (y (s .0))

@@ -13,10 +13,10 @@ use lib.ListN.{length, getD, take, length-append, List·getD-append}
 use lib.Seq.{take-all, take-suc, getD-append-seam}
 use borrow.Author.Tests.{eqb-true, eq-eqb}
 use Rattle.match_laws.proofs.Ranges.{and-left, and-right}
-use Rattle.tophat.specs.Syntax.{maxLeaves, Ty, unit, truth, number, leaves, Code, edit, enter, update, then, next, fail, and, or, xor, if, let', Val, vunit, Store, TaskOf}
-use Rattle.tophat.specs.Typing.{CodeType, t-edit, t-enter, t-update, t-then, t-next, t-fail, t-and, t-or, t-xor, t-if-task, t-let-task, ValueType, v-unit, ValueTypes, v-nil, v-cons, AllSmall, small-nil, small-cons}
+use Rattle.tophat.specs.Syntax.{maxLeaves, Ty, unit, truth, number, leaves, Code, edit, enter, update, then, next, fail, and, or, xor, view, if, let', Val, vunit, Store, TaskOf}
+use Rattle.tophat.specs.Typing.{CodeType, t-edit, t-enter, t-update, t-then, t-next, t-fail, t-and, t-or, t-xor, t-view, t-if-task, t-let-task, ValueType, v-unit, ValueTypes, v-nil, v-cons, AllSmall, small-nil, small-cons}
 use Rattle.tophat.specs.Typing.{TaskType, k-filled, k-blank, k-entered, k-shared, k-then-before, k-then-after, k-next-before, k-next-after, k-failed, k-both, k-either, k-or-left, k-or-right}
-use Rattle.tophat.specs.Typing.{k-unpicked, k-picked-left, k-picked-right, k-if-true, k-if-false, k-bound}
+use Rattle.tophat.specs.Typing.{k-unpicked, k-picked-left, k-picked-right, k-viewed, k-if-true, k-if-false, k-bound}
 use Rattle.tophat.proofs.Basics.{no-some, All, all-none, all-some, all-is}
 use Rattle.tophat.proofs.TypingAgrees.{infer-is, infer-task-is, bind-all}
 use Rattle.tophat.proofs.TypeLeaves.{type-leaves, task-type-leaves}
@@ -93,6 +93,7 @@ module _ (rs ws : List ℕ) {Σ : List Ty} where
       (all-some (k-unpicked d e))
       (bind-all (read-all (opA rs i) d) λ t k. all-some (k-picked-left k e))
       (bind-all (read-all (opB rs i) e) λ u m. all-some (k-picked-right d m))
+  read-all i (t-view d) = tag-all ws i (let q = infer-is d in rw q (bind-all (value-all ws i _) λ v k. all-some (k-viewed d k))) all-none all-none
   read-all i (t-if-task x d e) = tag-all ws i
       all-none
       (bind-all (read-all (opB rs i) d) λ t k. all-some (k-if-true x k e))
@@ -138,6 +139,7 @@ module _ (rs ws : List ℕ) {Σ : List Ty} where
     holds-read i (xor a b) (k-unpicked d e) h p = let k = tag (p .0) in rw k
     holds-read i (xor a b) (k-picked-left d e) h p = let k = tag (p .0) in let q = holds-read (opA rs i) a d h (p .1) in rw (k, q)
     holds-read i (xor a b) (k-picked-right d e) h p = let k = tag (p .0) in let q = holds-read (opB rs i) b e h (p .2) in rw (k, q)
+    holds-read i (view e) (k-viewed d v) h p = let k = tag p in let q = infer-is d in let r = value-read p v (type-leaves d g h) in rw (k, q, r)
     holds-read i (if x a b) (k-if-true z d e) h p = let k = tag (p .0) in let q = holds-read (opB rs i) a d h (p .1) in rw (k, q)
     holds-read i (if x a b) (k-if-false z d e) h p = let k = tag (p .0) in let q = holds-read (opC rs i) b e h (p .2) in rw (k, q)
     holds-read i (let' x b) (k-bound d v e) h p =

@@ -7,9 +7,9 @@ use Prim.Native.Nat.{ℕ}
 use native.Mathlib.Omega.{arith}
 use lib.IntN.{ℤ}
 use Rattle.tophat.specs.Syntax.{Ty, Op, Exp, eunit, etruth, enumber, ebinder, eop, eif, epair, efst, esnd, ederef, eassign, elet}
-use Rattle.tophat.specs.Syntax.{Code, edit, enter, update, then, next, fail, and, or, xor, if, let'}
+use Rattle.tophat.specs.Syntax.{Code, edit, enter, update, then, next, fail, and, or, xor, view, if, let'}
 use Rattle.rows.specs.Kinds.{Kind, typeK, cellK, plainK, eunitK, etruthK, enumberK, ebinderK, eopK, epairK, efstK, esndK, ederefK, eassignK}
-use Rattle.rows.specs.Kinds.{eitherK, ifK, letK, taskK, editK, enterK, updateK, thenK, nextK, failK, andK, orK, xorK}
+use Rattle.rows.specs.Kinds.{eitherK, ifK, letK, taskK, editK, enterK, updateK, thenK, nextK, failK, andK, orK, xorK, viewK}
 use Rattle.rows.specs.Rows.{OfKind, FromKind, UpToKind}
 use Rattle.rows.proofs.KindNumbers.{one-kind}
 use Rattle.state.specs.Holds.{SitsExp, Sits}
@@ -81,6 +81,7 @@ OnCode Q (taskK failK) = (τ : Ty) → Q (fail τ)
 OnCode Q (taskK andK) = (a b : Code) → Q (and a b)
 OnCode Q (taskK orK) = (a b : Code) → Q (or a b)
 OnCode Q (taskK xorK) = (a b : Code) → Q (xor a b)
+OnCode Q (taskK viewK) = (e : Exp) → Q (view e)
 OnCode Q (eitherK ifK) = (e : Exp) (a b : Code) → Q (if e a b)
 OnCode Q (eitherK letK) = (e : Exp) (b : Code) → Q (let' e b)
 OnCode Q (typeK k) = Unit {0}
@@ -101,20 +102,6 @@ module _ (rs : List ℕ) (d i : ℕ) (k : Kind) (P : Code → Type 0) (q : OfKin
   on-code (and a b) s = code-as (taskK andK) (s .0) a b s
   on-code (or a b) s = code-as (taskK orK) (s .0) a b s
   on-code (xor a b) s = code-as (taskK xorK) (s .0) a b s
+  on-code (view e) s = code-as (taskK viewK) (s .0) e s
   on-code (if e a b) s = code-as (eitherK ifK) (s .0) e a b s
   on-code (let' e b) s = code-as (eitherK letK) (s .0) e b s
-
--- no kind of a task
-module _ (rs : List ℕ) (d i : ℕ) (P : Code → Type 0) where
-  pub on-no-code : (OfKind rs i (eitherK ifK) → ⊥) → (OfKind rs i (eitherK letK) → ⊥) → (FromKind rs i (taskK editK) → UpToKind rs i (taskK xorK) → ⊥) → (c : Code) → Sits rs d i c → P c
-  on-no-code x y z (edit e) s = absurd (z (omega (arith, s .0)) (omega (arith, s .0)))
-  on-no-code x y z (enter τ) s = absurd (z (omega (arith, s .0)) (omega (arith, s .0)))
-  on-no-code x y z (update k) s = absurd (z (omega (arith, s .0)) (omega (arith, s .0)))
-  on-no-code x y z (then a b) s = absurd (z (omega (arith, s .0)) (omega (arith, s .0)))
-  on-no-code x y z (next a b) s = absurd (z (omega (arith, s .0)) (omega (arith, s .0)))
-  on-no-code x y z (fail τ) s = absurd (z (omega (arith, s)) (omega (arith, s)))
-  on-no-code x y z (and a b) s = absurd (z (omega (arith, s .0)) (omega (arith, s .0)))
-  on-no-code x y z (or a b) s = absurd (z (omega (arith, s .0)) (omega (arith, s .0)))
-  on-no-code x y z (xor a b) s = absurd (z (omega (arith, s .0)) (omega (arith, s .0)))
-  on-no-code x y z (if e a b) s = absurd (x (s .0))
-  on-no-code x y z (let' e b) s = absurd (y (s .0))

@@ -5,7 +5,7 @@ use native.Mathlib.Omega.{arith}
 use lib.ListN.{getD}
 use Rattle.tophat.specs.Syntax.{maxLeaves, Ty, leaves, Code, Val, vunit, TaskOf, Store}
 use Rattle.tophat.specs.Typing.{ValueType, v-unit, ValueTypes, v-nil, v-cons, TaskType, k-filled, k-blank, k-entered, k-shared, k-then-before, k-then-after, k-next-before, k-next-after, AllSmall, small-cons}
-use Rattle.tophat.specs.Typing.{k-failed, k-both, k-either, k-or-left, k-or-right, k-unpicked, k-picked-left, k-picked-right, k-if-true, k-if-false, k-bound}
+use Rattle.tophat.specs.Typing.{k-failed, k-both, k-either, k-or-left, k-or-right, k-unpicked, k-picked-left, k-picked-right, k-viewed, k-if-true, k-if-false, k-bound}
 use Rattle.tophat.proofs.TypeLeaves.{type-leaves, task-type-leaves}
 use Rattle.state.specs.Layout.{valueWords}
 use Rattle.state.proofs.Words.{length-bits}
@@ -32,6 +32,7 @@ fits-typed (k-or-right d e) g h = fits-typed e g h
 fits-typed (k-unpicked d e) g h = tt
 fits-typed (k-picked-left d e) g h = fits-typed d g h
 fits-typed (k-picked-right d e) g h = fits-typed e g h
+fits-typed (k-viewed d v) g h = short v (type-leaves d g h)
 fits-typed (k-if-true b d e) g h = fits-typed d g h
 fits-typed (k-if-false b d e) g h = fits-typed e g h
 fits-typed (k-bound b v e) g h = let l = type-leaves b g h in (short v l, fits-typed e g (small-cons l h))

@@ -6,7 +6,7 @@ use Prim.Native.Nat.{ℕ, suc, _+_, _*_, _≤_, _<_}
 use native.Mathlib.Omega.{arith}
 use lib.ListN.{length, set, length-set, length-append}
 use lib.Seq.{getD-set-same, append-snoc}
-use Rattle.tophat.specs.Syntax.{Code, edit, enter, update, then, next, fail, and, or, xor, if, let', Val}
+use Rattle.tophat.specs.Syntax.{Code, edit, enter, update, then, next, fail, and, or, xor, view, if, let', Val}
 use Rattle.tophat.specs.Syntax.{TaskOf, filled, blank, entered, shared, before, after, failed, both, either, orLeft, orRight, unpicked, pickedLeft, pickedRight, ifTrue, ifFalse, bound}
 use Rattle.rows.specs.Kinds.{cellK}
 use Rattle.rows.specs.Rows.{word, opA, opB, opC, FromKind}
@@ -60,6 +60,7 @@ Fits (or a b) (orRight u) = Fits b u
 Fits (xor a b) unpicked = Unit {0}
 Fits (xor a b) (pickedLeft t) = Fits a t
 Fits (xor a b) (pickedRight u) = Fits b u
+Fits (view e) (filled v) = Short v
 Fits (if e a b) (ifTrue t) = Fits a t
 Fits (if e a b) (ifFalse u) = Fits b u
 Fits (let' e b) (bound v u) = Short v × Fits b u
@@ -185,6 +186,7 @@ module _ (rs : List ℕ) (n : ℕ) (within : Within rs n) where
   write-task d i (xor a b) unpicked s f = λ ws e c. neither rs n i (low d i (xor a b) s) (own ∷ []) (omega arith) 1 2 a b (s .3) ws e c
   write-task d i (xor a b) (pickedLeft t) s f = λ ws e c. left rs n i (low d i (xor a b) s) (one ∷ []) (omega arith) 1 2 a b (s .3) ws e c t (write-task d (opA rs i) a t (s .1) f)
   write-task d i (xor a b) (pickedRight u) s f = λ ws e c. right rs n i (low d i (xor a b) s) (other ∷ []) (omega arith) 1 2 a b (s .3) ws e c u (write-task d (opB rs i) b u (s .2) f)
+  write-task d i (view e) (filled v) s f = alone rs n i (low d i (view e) s) (own ∷ valueWords v) f
   write-task d i (if x a b) (ifTrue t) s f = λ ws e c. left rs n i (low d i (if x a b) s) (one ∷ []) (omega arith) 2 3 a b (s .4) ws e c t (write-task d (opB rs i) a t (s .2) f)
   write-task d i (if x a b) (ifFalse u) s f = λ ws e c. right rs n i (low d i (if x a b) s) (other ∷ []) (omega arith) 2 3 a b (s .4) ws e c u (write-task d (opC rs i) b u (s .3) f)
   write-task d i (let' x b) (bound v u) s f = below rs n i (low d i (let' x b) s) (one ∷ valueWords v) (f .0) 2 b u (s .3) (write-task (d + 1) (opB rs i) b u (s .2) (f .1))

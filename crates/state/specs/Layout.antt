@@ -5,7 +5,7 @@ use mathlib.Core.Bool.{cond}
 use mathlib.Core.List.{List, [], _∷_}
 use Prim.Native.Nat.{ℕ, zero, suc, _+_, _*_, _-_}
 use lib.ListN.{getD, set, replicate}
-use Rattle.tophat.specs.Syntax.{Code, edit, enter, update, then, next, fail, and, or, xor, if, let', Val, vunit, Store}
+use Rattle.tophat.specs.Syntax.{Code, edit, enter, update, then, next, fail, and, or, xor, view, if, let', Val, vunit, Store}
 use Rattle.tophat.specs.Syntax.{TaskOf, filled, blank, entered, before, after, both, either, orLeft, orRight, unpicked, pickedLeft, pickedRight, ifTrue, ifFalse, bound}
 use Rattle.tophat.specs.Typing.{typeOf}
 use Rattle.shape.specs.Shape.{asShape}
@@ -68,6 +68,7 @@ writeTask rs i (or a b) (orRight u) ws = writeTask rs (opB rs i) b u (tagged ws 
 writeTask rs i (xor a b) unpicked ws = tagged ws i own
 writeTask rs i (xor a b) (pickedLeft t) ws = writeTask rs (opA rs i) a t (tagged ws i one)
 writeTask rs i (xor a b) (pickedRight u) ws = writeTask rs (opB rs i) b u (tagged ws i other)
+writeTask rs i (view e) (filled v) ws = valued ws i own v
 writeTask rs i (if e a b) (ifTrue t) ws = writeTask rs (opB rs i) a t (tagged ws i one)
 writeTask rs i (if e a b) (ifFalse u) ws = writeTask rs (opC rs i) b u (tagged ws i other)
 writeTask rs i (let' e b) (bound v u) ws = writeTask rs (opB rs i) b u (valued ws i one v)

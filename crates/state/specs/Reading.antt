@@ -5,7 +5,7 @@ use mathlib.Core.Option.{Option, none, some, bind}
 use mathlib.Core.List.{List, [], _∷_, _++_}
 use Prim.Native.Nat.{ℕ, zero, suc, _-_}
 use lib.Dec.{eqb}
-use Rattle.tophat.specs.Syntax.{Ty, Code, edit, enter, update, then, next, fail, and, or, xor, if, let', Val, vunit, Store}
+use Rattle.tophat.specs.Syntax.{Ty, Code, edit, enter, update, then, next, fail, and, or, xor, view, if, let', Val, vunit, Store}
 use Rattle.tophat.specs.Syntax.{TaskOf, filled, blank, entered, shared, before, after, failed, both, either, orLeft, orRight, unpicked, pickedLeft, pickedRight, ifTrue, ifFalse, bound}
 use Rattle.tophat.proofs.ComputeTyping.{infer, inferTask}
 use Rattle.value.specs.Fits.{valueIn}
@@ -47,6 +47,7 @@ readTask rs ws Σ Γ i (xor a b) = byTag ws i
     (some unpicked)
     (bind (readTask rs ws Σ Γ (opA rs i) a) λ t. some (pickedLeft t))
     (bind (readTask rs ws Σ Γ (opB rs i) b) λ u. some (pickedRight u))
+readTask rs ws Σ Γ i (view e) = byTag ws i (bind (infer Σ Γ e) λ τ. bind (readValue ws i τ) λ v. some (filled v)) none none
 readTask rs ws Σ Γ i (if e a b) = byTag ws i
     none
     (bind (readTask rs ws Σ Γ (opB rs i) a) λ t. some (ifTrue t))

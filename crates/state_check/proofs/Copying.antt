@@ -16,7 +16,7 @@ use Rattle.shape.specs.Shape.{asShape, maybeShape}
 use Rattle.rows.specs.Kinds.{kindOf}
 use Rattle.rows.specs.Rows.{word, opA, opB, opC}
 use Rattle.rows.specs.Enclosing.{maxBinders}
-use Rattle.rows.specs.Trees.{ReadsCode, r-edit, r-enter, r-update, r-then, r-next, r-fail, r-and, r-or, r-xor, r-if, r-let}
+use Rattle.rows.specs.Trees.{ReadsCode, r-edit, r-enter, r-update, r-then, r-next, r-fail, r-and, r-or, r-xor, r-view, r-if, r-let}
 use Rattle.rows.specs.Fits.{FitsCode}
 use Rattle.typing.specs.RowTypes.{typeOf}
 use Rattle.typing.specs.BinderShapes.{BinderShapes}
@@ -193,6 +193,9 @@ module _ (rs ws y y₁ : List ℕ) (i : ℕ) (env : List ℕ) (d : ℕ) (r : Boo
         (λ e. below-of pickedLeft e (child (opA rs i) st x g (f .0) (q .1)) (λ _ p. clear-a a b (q .3) p cl) (λ _ t p c. let z = left a b (q .3) p cl c in record { holds = z .0; same = z .1 }))
         (λ e. below-of pickedRight e (child (opB rs i) st l h (f .1) (q .2)) (λ _ p. clear-b a b (q .3) p cl) (λ _ t p c. let z = right a b (q .3) p cl c in record { holds = z .0; same = z .1 }))
         (part-as (q .0) s)
+    at-code (r-view {a = e} k x g) st cl s = tags
+        (λ t. filled-of (infer Σ Γ e) (at-depth (opA rs i) st (exp-good rs n Σ (sh .known) (sh .small) g (let m = st .low in omega arith) env Γ (st .around) (st .fits))) t (λ τ w z p. got-some z (record { holds = p .row; same = p .same })))
+        (λ _. none-held) (λ _. none-held) (part-as (st .sits .0) s)
     at-code (r-if {b = a} {c = b} k x l m z g h) st cl s = let f = st .fits in let q = st .sits in tags
         (λ _. none-held)
         (λ e. below-of ifTrue e (child (opB rs i) st l g (f .1) (q .2)) (λ _ p. clear-a a b (q .4) p cl) (λ _ t p c. let z = left a b (q .4) p cl c in record { holds = z .0; same = z .1 }))

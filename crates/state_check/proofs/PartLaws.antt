@@ -3,19 +3,18 @@ use mathlib.Core.Path.{_≡_, refl, sym, ap, subst, _∙_}
 use mathlib.Core.Bool.{Bool, true, false}
 use mathlib.Core.Option.{some}
 use mathlib.Core.List.{List, [], _∷_}
-use mathlib.Core.Logic.{⊎-elim}
-use Prim.Native.Nat.{ℕ, _-_, _<_, _≤_}
+use Prim.Native.Nat.{ℕ, _<_, _≤_}
 use native.Mathlib.Omega.{arith}
 use lib.Dec.{eqb}
 use types.Run.{OneOf}
 use borrow.Author.Tests.{eq-eqb, ne-eqb}
 use Rattle.match_laws.proofs.Ranges.{AllOf, one-of, NoneOf, in-gap, within}
 use Rattle.shape.proofs.Puts.{by-test}
-use Rattle.rows.specs.Kinds.{Kind, typeK, cellK, plainK, eitherK, ifK, letK, taskK, editK, enterK, updateK, thenK, nextK, failK, andK, orK, xorK, kindOf, numberOf, kindLimit}
+use Rattle.rows.specs.Kinds.{Kind, typeK, cellK, plainK, eitherK, ifK, letK, taskK, editK, enterK, updateK, thenK, nextK, failK, andK, orK, xorK, viewK, kindOf, numberOf}
 use Rattle.rows.specs.Rows.{word, opA, opB, opC}
 use Rattle.rows.specs.Enclosing.{maxBinders}
-use Rattle.rows.proofs.Basics.{no, le-or-lt}
-use Rattle.rows.proofs.KindNumbers.{number-kind, by-kind, kind-past}
+use Rattle.rows.proofs.Basics.{no}
+use Rattle.rows.proofs.KindNumbers.{number-kind, by-kind, kind-beyond}
 use Rattle.state.specs.Layout.{own, one, other}
 use Rattle.state.specs.Contracts.{Fine}
 use Rattle.state.proofs.Calls.{fine-at}
@@ -42,7 +41,7 @@ module _ (x : ℕ) (p q r : Part) where
 
 -- their numbers, the last first
 abbrev pub armKeys : List (List ℕ)
-armKeys = (48 ∷ []) ∷ (47 ∷ []) ∷ (46 ∷ []) ∷ (42 ∷ 45 ∷ []) ∷ (41 ∷ []) ∷ (40 ∷ []) ∷ (31 ∷ []) ∷ (25 ∷ []) ∷ []
+armKeys = (48 ∷ []) ∷ (47 ∷ []) ∷ (46 ∷ []) ∷ (42 ∷ 45 ∷ []) ∷ (41 ∷ []) ∷ (40 ∷ 49 ∷ []) ∷ (31 ∷ []) ∷ (25 ∷ []) ∷ []
 
 abbrev isBad : Part → Bool
 isBad Bad = true
@@ -71,7 +70,7 @@ module _ (x a b c : ℕ) where
   unfolding kindOf partFrom
   part-step {p} k l h g e = in-gap (Is p) armKeys (numberOf (taskK editK)) 5 (tt, (tt, (tt, (e, (e, tt))))) l h g
 
-  -- a number of no arm, by one computed test of the numbers below 40, and of those from 45 to the last kind
+  -- a number of no arm, by one computed test of the numbers below 40, and one of those from 45 on
   test : ℕ → Bool
   test k = isBad (partFrom k x a b c)
 
@@ -80,10 +79,8 @@ module _ (x a b c : ℕ) where
   part-low k h g = bad-is (partFrom k x a b c) (within test 0 (numberOf (taskK editK)) armKeys k refl (omega arith) (omega arith) g)
 
   pub part-high : (k : ℕ) → numberOf (taskK failK) ≤ k → NoneOf armKeys k → Bad ≡ partFrom k x a b c
-  unfolding kindOf partFrom test
-  part-high k h g = ⊎-elim (λ (l : kindLimit ≤ k). sym (ap (λ o. partBy o x a b c) (kind-past k l)))
-      (λ (l : k < kindLimit). bad-is (partFrom k x a b c) (within test (numberOf (taskK failK)) (kindLimit - numberOf (taskK failK)) armKeys k refl h (omega arith) g))
-      (le-or-lt kindLimit k)
+  unfolding kindOf partFrom
+  part-high k h g = sym (ap (λ o. partBy o x a b c) (kind-beyond (numberOf (taskK failK)) armKeys k refl h g))
 
   -- ---- lower rows
 
@@ -109,6 +106,7 @@ module _ (x a b c : ℕ) where
     kind-lower (taskK andK) low = let l = low (omega arith) in by (Two a b) Bad Bad (l .0, l .1) tt tt
     kind-lower (taskK orK) low = let l = low (omega arith) in by (Two a b) (Below a) (Below b) (l .0, l .1) (l .0) (l .1)
     kind-lower (taskK xorK) low = let l = low (omega arith) in by Alone (Below a) (Below b) tt (l .0) (l .1)
+    kind-lower (taskK viewK) low = let l = low (omega arith) in by (Filled a) Bad Bad (l .0) tt tt
     kind-lower (typeK k) low = tt
     kind-lower cellK low = tt
     kind-lower (plainK k) low = tt

@@ -1,10 +1,10 @@
--- A state row by what reading it does: 6 ways for the 19 forms of tasks, by the row's kind and its tag. Rests on crate state.
+-- A state row by what reading it does: 6 ways for the 20 forms of tasks, by the row's kind and its tag. Rests on crate state.
 use mathlib.Core.Bool.{cond}
 use mathlib.Core.Option.{Option, none, some}
 use mathlib.Core.List.{List}
 use Prim.Native.Nat.{ℕ, _<_}
 use lib.Dec.{eqb}
-use Rattle.rows.specs.Kinds.{Kind, typeK, cellK, plainK, eitherK, ifK, letK, taskK, editK, enterK, updateK, thenK, nextK, failK, andK, orK, xorK, kindOf}
+use Rattle.rows.specs.Kinds.{Kind, typeK, cellK, plainK, eitherK, ifK, letK, taskK, editK, enterK, updateK, thenK, nextK, failK, andK, orK, xorK, viewK, kindOf}
 use Rattle.rows.specs.Rows.{word, opA, opB, opC}
 use Rattle.state.specs.Layout.{own, one, other}
 use Rattle.state_check.specs.declared.Part.{Part}
@@ -27,6 +27,7 @@ partBy (some (taskK failK)) x a b c = taggedPart x Alone Bad Bad
 partBy (some (taskK andK)) x a b c = taggedPart x (Two a b) Bad Bad
 partBy (some (taskK orK)) x a b c = taggedPart x (Two a b) (Below a) (Below b)
 partBy (some (taskK xorK)) x a b c = taggedPart x Alone (Below a) (Below b)
+partBy (some (taskK viewK)) x a b c = taggedPart x (Filled a) Bad Bad
 partBy (some (typeK k)) x a b c = Bad
 partBy (some cellK) x a b c = Bad
 partBy (some (plainK k)) x a b c = Bad

@@ -63,7 +63,7 @@ fn part_from(kind: u32, tag: u32, a: usize, b: usize, c: usize) -> Part
     match kind {
         25 => by_tag(tag, Part::Bad, Part::Below(b), Part::Below(c)),
         31 => by_tag(tag, Part::Bad, Part::Bound(a, b), Part::Bad),
-        40 => by_tag(tag, Part::Filled(a), Part::Bad, Part::Bad),
+        40 | 49 => by_tag(tag, Part::Filled(a), Part::Bad, Part::Bad),
         41 => by_tag(tag, Part::Alone, Part::Filled(a), Part::Bad),
         42 | 45 => by_tag(tag, Part::Alone, Part::Bad, Part::Bad),
         46 => by_tag(tag, Part::Two(a, b), Part::Bad, Part::Bad),

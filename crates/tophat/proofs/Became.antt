@@ -4,7 +4,7 @@ use mathlib.Core.Path.{_≡_, refl}
 use mathlib.Core.List.{List, _∷_}
 use Prim.Native.Nat.{ℕ, _≤_}
 use native.Mathlib.Omega.{arith}
-use Rattle.tophat.specs.Syntax.{moves, Ty, Exp, Code, edit, enter, update, then, next, fail, and, or, xor, if, let', Val, Env, Store}
+use Rattle.tophat.specs.Syntax.{moves, Ty, Exp, Code, edit, enter, update, then, next, fail, and, or, xor, view, if, let', Val, Env, Store}
 use Rattle.tophat.specs.Syntax.{TaskOf, filled, before, after, both, either, orLeft, orRight, unpicked, pickedLeft, pickedRight, ifTrue, ifFalse, bound}
 use Rattle.tophat.specs.Typing.{CodeType, t-then, t-next, t-or, t-xor, t-if-task, t-let-task, ValueTypes, v-cons}
 use Rattle.tophat.specs.Typing.{TaskType, k-then-after, k-next-after, k-or-left, k-or-right, k-picked-left, k-picked-right, k-if-true, k-if-false, k-bound}
@@ -47,6 +47,7 @@ pub data Formed : (c : Code) → Env → TaskOf c → Type 0 where
   of-and : {ρ : Env} {a b : Code} {t : TaskOf a} {u : TaskOf b} → Formed a ρ t → Formed b ρ u → Formed (and a b) ρ (both t u)
   of-or : {ρ : Env} {a b : Code} {t : TaskOf a} {u : TaskOf b} → Formed a ρ t → Formed b ρ u → Formed (or a b) ρ (either t u)
   of-xor : {ρ : Env} {a b : Code} → ((t : TaskOf a) → Formed a ρ t) → ((u : TaskOf b) → Formed b ρ u) → Formed (xor a b) ρ unpicked
+  of-view : {ρ : Env} {e : Exp} {v : Val} → Formed (view e) ρ (filled v)
 
 pub formed : (c : Code) (ρ : Env) (t : TaskOf c) → Formed c ρ t
 formed (edit e) ρ (filled v) = of-edit
@@ -64,6 +65,7 @@ formed (or a b) ρ (orRight u) = of-became b-or-right (formed b ρ u)
 formed (xor a b) ρ unpicked = of-xor (λ t. formed a ρ t) (λ u. formed b ρ u)
 formed (xor a b) ρ (pickedLeft t) = of-became b-xor-left (formed a ρ t)
 formed (xor a b) ρ (pickedRight u) = of-became b-xor-right (formed b ρ u)
+formed (view e) ρ (filled v) = of-view
 formed (if e a b) ρ (ifTrue t) = of-became b-if-true (formed a ρ t)
 formed (if e a b) ρ (ifFalse u) = of-became b-if-false (formed b ρ u)
 formed (let' e b) ρ (bound v u) = of-became b-let (formed b (v ∷ ρ) u)

@@ -1,4 +1,4 @@
--- 01's proved cases, P1 to P12, and one for 01's numbers, as one computed check: what the definitions give for each flow and its
+-- 01's proved cases, P1 to P12, one for 01's numbers, and CR 1's, as one computed check: what the definitions give for each flow and its
 -- touches is what 01 says. What is computed has its numbers from the calculus' tables; what 01 says has them as 01 writes them, and is
 -- in 01's order. Rests on the Compute files.
 use mathlib.Core.Path.{_≡_, refl}
@@ -11,7 +11,7 @@ use native.Mathlib.Decide.{decLe}
 use Rattle.word.specs.Word.{wrap, residue}
 use Rattle.decimal.specs.Path.{Mark, first, second, Path}
 use Rattle.tophat.specs.Syntax.{leaves, moves, Ty, unit, truth, number, pair, sum, product, lessEqual, equal, Exp, enumber, ebinder, eop, eassign}
-use Rattle.tophat.specs.Syntax.{Code, edit, enter, update, then, next, fail, and, or, xor, if, let', TaskOf, Val, vnumber, Store}
+use Rattle.tophat.specs.Syntax.{Code, edit, enter, update, then, next, fail, and, or, xor, view, if, let', TaskOf, Val, vnumber, Store}
 use Rattle.tophat.specs.Normalising.{value, pairOf}
 use Rattle.tophat.specs.Handling.{continue, left, right, giving, pressing, actNumber, Action, give, press}
 use Rattle.tophat.specs.Leaves.{leavesOf, padded, leafNumber, leafKinds, valueOf, meetsLeaf, meets, given}
@@ -243,8 +243,50 @@ buttons = record {
   kept = [];
 }
 
+-- CR 1: both of a shown 5 and a fail: no entry, and not failing; a value given at the shown part is refused
+abbrev pub quiet-both : Case
+quiet-both = record {
+  flow = and (view (num 5)) (fail number);
+  cells = [];
+  events = (first ∷ [], give (single (pos 1))) ∷ [];
+  type = some (pair number number);
+  shown =
+      screen 0 1 0 0 (single (pos 0)) []
+      ∷ screen 9 0 0 0 (single (pos 0)) []
+      ∷ [];
+  kept = [];
+}
+
+-- CR 1: a shown 1, Continue to fail: no entry, and not failing; Continue is refused
+abbrev pub quiet-next : Case
+quiet-next = record {
+  flow = next (view (num 1)) (fail number);
+  cells = [];
+  events = ([], press continue) ∷ [];
+  type = some number;
+  shown =
+      screen 0 1 0 0 (single (pos 0)) []
+      ∷ screen 9 0 0 0 (single (pos 0)) []
+      ∷ [];
+  kept = [];
+}
+
+-- CR 1: a shown 5, step to its double, shown: the step goes on at once, the value stands and takes no touch
+abbrev pub shown-on : Case
+shown-on = record {
+  flow = then (view (num 5)) (view (eop product (ebinder 0) (num 2)));
+  cells = [];
+  events = ([], give (single (pos 1))) ∷ [];
+  type = some number;
+  shown =
+      screen 0 2 0 1 (single (pos 10)) []
+      ∷ screen 9 0 0 1 (single (pos 10)) []
+      ∷ [];
+  kept = [];
+}
+
 unfoldable pub cases : List Case
-cases = p1-p4 ∷ p5 ∷ p6 ∷ p7 ∷ p8 ∷ p9 ∷ p10 ∷ p11 ∷ p12 ∷ buttons ∷ []
+cases = p1-p4 ∷ p5 ∷ p6 ∷ p7 ∷ p8 ∷ p9 ∷ p10 ∷ p11 ∷ p12 ∷ buttons ∷ quiet-both ∷ quiet-next ∷ shown-on ∷ []
 
 -- what is computed is what 01 says
 pub cases-hold : map computed cases ≡ map expected cases

@@ -4,7 +4,7 @@ use mathlib.Core.Option.{Option, none, some}
 use mathlib.Core.List.{List, [], _∷_, _++_}
 use lib.ListN.{getD}
 use Rattle.decimal.specs.Path.{first, second}
-use Rattle.tophat.specs.Syntax.{Code, edit, enter, update, then, next, fail, and, or, xor, if, let', Val, vunit, Env, Store}
+use Rattle.tophat.specs.Syntax.{Code, edit, enter, update, then, next, fail, and, or, xor, view, if, let', Val, vunit, Env, Store}
 use Rattle.tophat.specs.Syntax.{TaskOf, filled, before, after, both, either, orLeft, orRight, unpicked, pickedLeft, pickedRight, ifTrue, ifFalse, bound}
 use Rattle.tophat.specs.Normalising.{value}
 use Rattle.tophat.specs.Handling.{continue, left, right}
@@ -33,6 +33,7 @@ entries (or a b) ρ s (orRight u) = entries b ρ s u
 entries (xor a b) ρ s unpicked = buttonIf (not (branchFails a ρ s)) left ++ buttonIf (not (branchFails b ρ s)) right
 entries (xor a b) ρ s (pickedLeft t) = entries a ρ s t
 entries (xor a b) ρ s (pickedRight u) = entries b ρ s u
+entries (view e) ρ s t = []
 entries (if e a b) ρ s (ifTrue t) = entries a ρ s t
 entries (if e a b) ρ s (ifFalse u) = entries b ρ s u
 entries (let' e b) ρ s (bound v u) = entries b (v ∷ ρ) s u

@@ -8,7 +8,7 @@ use lib.ListN.{getD, set}
 use Rattle.word.specs.Word.{wrap, eqZ}
 use Rattle.tophat.specs.Syntax.{Op, sum, difference, product, less, lessEqual, equal, andOp, orOp}
 use Rattle.tophat.specs.Syntax.{Exp, eunit, etruth, enumber, ebinder, eop, eif, epair, efst, esnd, ederef, eassign, elet}
-use Rattle.tophat.specs.Syntax.{Code, edit, enter, update, then, next, fail, and, or, xor, if, let', Val, vunit, vtruth, vnumber, vpair, Env, Store}
+use Rattle.tophat.specs.Syntax.{Code, edit, enter, update, then, next, fail, and, or, xor, view, if, let', Val, vunit, vtruth, vnumber, vpair, Env, Store}
 use Rattle.tophat.specs.Syntax.{TaskOf, filled, blank, shared, before, failed, both, either, unpicked, ifTrue, ifFalse, bound}
 
 -- the first leaf of a value, a truth as 0 or 1
@@ -85,6 +85,7 @@ evaluate (or a b) ρ s =
     let (u, s₂) = evaluate b ρ s₁ in
     (either t u, s₂)
 evaluate (xor a b) ρ s = (unpicked, s)
+evaluate (view e) ρ s = let (v, s₁) = eval e ρ s in (filled v, s₁)
 evaluate (if e a b) ρ s =
     let (v, s₁) = eval e ρ s in
     branch (isTrue v) (λ s. let (t, s₂) = evaluate a ρ s in (ifTrue t, s₂)) (λ s. let (u, s₂) = evaluate b ρ s in (ifFalse u, s₂)) s₁

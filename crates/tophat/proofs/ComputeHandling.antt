@@ -6,7 +6,7 @@ use mathlib.Core.List.{List, [], _∷_}
 use lib.IntN.{ℤ}
 use lib.ListN.{getD, set}
 use Rattle.decimal.specs.Path.{first, second, Path}
-use Rattle.tophat.specs.Syntax.{Code, edit, enter, update, then, next, fail, and, or, xor, if, let', Val, vunit, Env, Store}
+use Rattle.tophat.specs.Syntax.{Code, edit, enter, update, then, next, fail, and, or, xor, view, if, let', Val, vunit, Env, Store}
 use Rattle.tophat.specs.Syntax.{TaskOf, filled, entered, shared, before, after, both, either, orLeft, orRight, unpicked, pickedLeft, pickedRight, ifTrue, ifFalse, bound}
 use Rattle.tophat.specs.Typing.{typeOf}
 use Rattle.tophat.specs.Leaves.{given}
@@ -80,6 +80,7 @@ handle (xor a b) ρ s unpicked p x =
     (λ _. let (u, s₁, n) = settle b ρ s in unlessFailing (failing b ρ s₁ u) pickedRight u s₁)
 handle (xor a b) ρ s (pickedLeft t) p x = mapTask pickedLeft (handle a ρ s t p x)
 handle (xor a b) ρ s (pickedRight u) p x = mapTask pickedRight (handle b ρ s u p x)
+handle (view e) ρ s t p x = none
 handle (if e a b) ρ s (ifTrue t) p x = mapTask ifTrue (handle a ρ s t p x)
 handle (if e a b) ρ s (ifFalse u) p x = mapTask ifFalse (handle b ρ s u p x)
 handle (let' e b) ρ s (bound v u) p x = mapTask (bound v) (handle b (v ∷ ρ) s u p x)

@@ -11,10 +11,10 @@ use Rattle.tophat.specs.Typing.{k-unpicked}
 use Rattle.tophat.specs.Normalising.{value, RightFails}
 use Rattle.tophat.specs.Showing.{i-became}
 use Rattle.tophat.specs.Showing.{Entry, Shows, i-edit, i-enter, i-update, i-then, i-next-none, i-next, i-fail, i-and, i-or}
-use Rattle.tophat.specs.Showing.{i-xor}
+use Rattle.tophat.specs.Showing.{i-xor, i-view}
 use Rattle.tophat.proofs.ComputeNormalising.{rightFails}
 use Rattle.tophat.proofs.ComputeEntries.{continueIf, entries}
-use Rattle.tophat.proofs.Became.{alike, Formed, of-became, of-edit, of-enter, of-update, of-then, of-next, of-fail, of-and, of-or, of-xor, formed, inner}
+use Rattle.tophat.proofs.Became.{alike, Formed, of-became, of-edit, of-enter, of-update, of-then, of-next, of-fail, of-and, of-or, of-xor, of-view, formed, inner}
 use Rattle.tophat.proofs.EvaluationAgrees.{look-up, at-getD}
 use Rattle.tophat.proofs.Preservation.{option-is, value-type}
 use Rattle.tophat.proofs.NormalisingSound.{right-sound, branch-sound}
@@ -34,6 +34,7 @@ shows-is i-fail = refl
 shows-is (i-and d e) = let p = shows-is d in let q = shows-is e in rw (p, q)
 shows-is (i-or d e) = let p = shows-is d in let q = shows-is e in rw (p, q)
 shows-is (i-xor k l) = let p = branch-is k in let q = branch-is l in rw (p, q)
+shows-is i-view = refl
 shows-is (i-became {s = s} {u = u} b d) = alike b .shows s u ∙ shows-is d
 
 -- a task shows one list
@@ -63,6 +64,7 @@ module _ {Σ : List Ty} where
   shown (of-and f f₁) s (k-both d e l) g h = i-and (shown f s d g h) (shown f₁ s e g h)
   shown (of-or f f₁) s (k-either d e) g h = i-or (shown f s d g h) (shown f₁ s e g h)
   shown (of-xor {ρ = ρ} {a = a} {b = b} f f₁) s (k-unpicked d e) g h = i-xor (branch-sound a ρ s d g h) (branch-sound b ρ s e g h)
+  shown of-view s d g h = i-view
 
   -- what `entries` answers for a typed task is derived
   pub shows-sound : (c : Code) {Γ : List Ty} {τ : Ty} (ρ : Env) (s : Store) (t : TaskOf c) → TaskType Σ Γ c t τ → ValueTypes ρ Γ → ValueTypes s Σ → Shows c ρ s t (entries c ρ s t)

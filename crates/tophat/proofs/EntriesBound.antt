@@ -7,7 +7,7 @@ use Prim.Native.Nat.{suc, _+_, _≤_}
 use native.Mathlib.Omega.{arith}
 use lib.ListN.{length, length-append}
 use Rattle.decimal.specs.Path.{Mark, first, second}
-use Rattle.tophat.specs.Syntax.{taskRows, Code, edit, enter, update, then, next, fail, and, or, xor, if, let', Val, Env, Store}
+use Rattle.tophat.specs.Syntax.{taskRows, Code, edit, enter, update, then, next, fail, and, or, xor, view, if, let', Val, Env, Store}
 use Rattle.tophat.specs.Syntax.{TaskOf, filled, before, after, both, either, orLeft, orRight, unpicked, pickedLeft, pickedRight, ifTrue, ifFalse, bound}
 use Rattle.tophat.specs.Normalising.{value}
 use Rattle.tophat.specs.Handling.{Button, continue, left, right}
@@ -26,6 +26,7 @@ some-row (fail τ) = omega arith
 some-row (and a b) = omega arith
 some-row (or a b) = omega arith
 some-row (xor a b) = omega arith
+some-row (view e) = omega arith
 some-row (if e a b) = omega arith
 some-row (let' e b) = omega arith
 
@@ -91,6 +92,7 @@ entries-bound (xor a b) ρ s unpicked =
     omega arith
 entries-bound (xor a b) ρ s (pickedLeft t) = let h = entries-bound a ρ s t in omega arith
 entries-bound (xor a b) ρ s (pickedRight u) = let h = entries-bound b ρ s u in omega arith
+entries-bound (view e) ρ s (filled v) = omega arith
 entries-bound (if e a b) ρ s (ifTrue t) = let h = entries-bound a ρ s t in omega arith
 entries-bound (if e a b) ρ s (ifFalse u) = let h = entries-bound b ρ s u in omega arith
 entries-bound (let' e b) ρ s (bound v u) = let h = entries-bound b (v ∷ ρ) s u in omega arith

@@ -15,7 +15,7 @@ use Rattle.tophat.specs.Showing.{Entry, Covers}
 use Rattle.tophat.proofs.Basics.{no-some}
 use Rattle.tophat.proofs.ComputeHandling.{mapTask, atEditor, atMark, handle}
 use Rattle.tophat.proofs.ComputeEntries.{entries}
-use Rattle.tophat.proofs.Became.{alike, Formed, of-became, of-edit, of-enter, of-update, of-then, of-next, of-fail, of-and, of-or, of-xor, formed}
+use Rattle.tophat.proofs.Became.{alike, Formed, of-became, of-edit, of-enter, of-update, of-then, of-next, of-fail, of-and, of-or, of-xor, of-view, formed}
 use Rattle.tophat.proofs.Lights.{Covered, Lights, unless-open, editor-lights, none-lights, marks-light, sides-light, next-lights, map-lights, map-none}
 
 no-continue : {c : Code} {ρ : Env} {t : TaskOf c} → Formed c ρ t → (s : Store) {v : Val} → value c t s ≡ some v → handle c ρ s t [] (press continue) ≡ none
@@ -30,6 +30,7 @@ no-continue of-fail s h = refl
 no-continue (of-and d e) s h = refl
 no-continue (of-or d e) s h = refl
 no-continue (of-xor d e) s h = no-some h
+no-continue of-view s h = refl
 
 -- where a task has a value, it takes no Continue
 pub valued-no-continue : (c : Code) (ρ : Env) (s : Store) (t : TaskOf c) {v : Val} → value c t s ≡ some v → handle c ρ s t [] (press continue) ≡ none
@@ -50,6 +51,7 @@ light of-fail s = none-lights
 light (of-and {t = t} {u = u} d e) s = marks-light (map-lights (λ t. both t u) (light d s)) (map-lights (λ u. both t u) (light e s))
 light (of-or {t = t} {u = u} d e) s = marks-light (map-lights (λ t. either t u) (light d s)) (map-lights (λ u. either t u) (light e s))
 light (of-xor d e) s = sides-light (unless-open _ pickedLeft _ _) (unless-open _ pickedRight _ _)
+light of-view s = none-lights
 
 -- what a task shows is what it takes
 entries-light : (c : Code) (ρ : Env) (s : Store) (t : TaskOf c) → Lights (entries c ρ s t) (λ p x. handle c ρ s t p x)

@@ -1,74 +1,153 @@
--- A task shows nothing exactly when it fails. No typing is needed. Rests on ComputeEntries and FailingKept.
-use mathlib.Core.Path.{_≡_, refl, sym, ap₂, _∙_}
-use mathlib.Core.Bool.{Bool, true, false, not, _&&_, true≢false, false≢true}
+-- A task shows nothing exactly when it is quiet, and a task that fails shows nothing. Where A is quiet, a 44 is quiet exactly when no
+-- handling rule derives a step for Continue. Rests on EntriesAgree, HandlingComplete and FailingKept.
+use mathlib.Core.Path.{_≡_, refl, sym, ap₂, subst, _∙_}
+use mathlib.Core.Bool.{Bool, true, false, not, _&&_}
 use mathlib.Core.Logic.{_↔_}
 use mathlib.Core.Option.{Option, none, some}
 use mathlib.Core.List.{List, [], _∷_, _++_, cons≢nil}
+use Prim.Native.Nat.{ℕ}
 use Rattle.decimal.specs.Path.{Mark, first, second}
-use Rattle.tophat.specs.Syntax.{Code, Val, Env, Store}
-use Rattle.tophat.specs.Syntax.{TaskOf}
-use Rattle.tophat.specs.Normalising.{value}
-use Rattle.tophat.specs.Handling.{Button, left, right}
+use Rattle.tophat.specs.Syntax.{Ty, Code, next, xor, Val, Env, Store}
+use Rattle.tophat.specs.Syntax.{TaskOf, before, unpicked}
+use Rattle.tophat.specs.Typing.{At, here, there, ValueTypes, v-cons}
+use Rattle.tophat.specs.Typing.{TaskType, k-then-before, k-next-before, k-both, k-either, k-unpicked}
+use Rattle.tophat.specs.Normalising.{value, BranchFails, RightFails, r-evaluated, f-xor}
+use Rattle.tophat.specs.Quiet.{Quiet, q-fail, q-view, q-and, q-or, q-then, q-next-none, q-next-fails, q-xor, q-became}
+use Rattle.tophat.specs.Handling.{Button, continue, left, right, press, Handles, h-next}
 use Rattle.tophat.specs.Showing.{Entry, marked, offers, buttonIf}
+use Rattle.tophat.proofs.Basics.{apart, no-some}
 use Rattle.tophat.proofs.ComputeNormalising.{failing, normalise, settle, rightFails, branchFails}
+use Rattle.tophat.proofs.ComputeHandling.{handle}
 use Rattle.tophat.proofs.ComputeEntries.{continueIf, entries}
-use Rattle.tophat.proofs.Became.{alike, Formed, of-became, of-edit, of-enter, of-update, of-then, of-next, of-fail, of-and, of-or, of-xor, formed}
+use Rattle.tophat.proofs.Became.{alike, Formed, of-became, of-edit, of-enter, of-update, of-then, of-next, of-fail, of-and, of-or, of-xor, of-view, formed, inner}
 use Rattle.tophat.proofs.FailingKept.{value-lives}
+use Rattle.tophat.proofs.Preservation.{option-is, value-type}
+use Rattle.tophat.proofs.NormalisingSound.{right-sound, branch-sound}
+use Rattle.tophat.proofs.NormalisingComplete.{fails-is, right-is}
+use Rattle.tophat.proofs.HandlingComplete.{handles-is}
+use Rattle.tophat.proofs.EntriesCover.{taken-covered}
 
--- nothing is in the list
-unfoldable none-in : List Entry → Bool
-none-in [] = true
-none-in (e ∷ es) = false
+-- ---- lists without an entry
 
-none-in-both : (es gs : List Entry) → none-in (es ++ gs) ≡ none-in es && none-in gs
-unfolding none-in
-none-in-both [] gs = refl
-none-in-both (e ∷ es) gs = refl
+nil-parts : {X : Type 0} (xs : List X) {ys : List X} → xs ++ ys ≡ [] → (xs ≡ []) × (ys ≡ [])
+nil-parts [] e = (refl, e)
+nil-parts (x ∷ xs) e = absurd (cons≢nil e)
 
-none-marked : (m : Mark) (es : List Entry) → none-in (marked m es) ≡ none-in es
-unfolding none-in marked
-none-marked m [] = refl
-none-marked m (e ∷ es) = refl
+marked-nil : (m : Mark) (es : List Entry) → (marked m es ≡ []) ↔ (es ≡ [])
+unfolding marked
+marked-nil m [] = (λ e. refl, λ e. refl)
+marked-nil m (x ∷ es) = (λ e. absurd (cons≢nil e), λ e. absurd (cons≢nil e))
 
-none-lit : (x : Bool) (b : Button) → none-in (buttonIf (not x) b) ≡ x
-unfolding none-in buttonIf
-none-lit true b = refl
-none-lit false b = refl
+button-nil : (x : Bool) (b : Button) → (buttonIf (not x) b ≡ []) ↔ (x ≡ true)
+unfolding buttonIf
+button-nil true b = (λ e. refl, λ e. refl)
+button-nil false b = (λ e. absurd (cons≢nil e), λ e. apart e refl)
 
-marked-both : (es gs : List Entry) {x y : Bool} → none-in es ≡ x → none-in gs ≡ y → none-in (marked first es ++ marked second gs) ≡ x && y
-marked-both es gs h k = none-in-both (marked first es) (marked second gs) ∙ ap₂ _&&_ (none-marked first es ∙ h) (none-marked second gs ∙ k)
+-- of a 46 or 47, and of the two buttons of a 48
+nil-marks : {es gs : List Entry} → es ≡ [] → gs ≡ [] → marked first es ++ marked second gs ≡ []
+nil-marks {es} {gs} p q = ap₂ _++_ (marked-nil first es .1 p) (marked-nil second gs .1 q)
 
-lit-both : (x y : Bool) → none-in (buttonIf (not x) left ++ buttonIf (not y) right) ≡ x && y
-lit-both x y = none-in-both (buttonIf (not x) left) (buttonIf (not y) right) ∙ ap₂ _&&_ (none-lit x left) (none-lit y right)
+marks-nil : (es gs : List Entry) → marked first es ++ marked second gs ≡ [] → (es ≡ []) × (gs ≡ [])
+marks-nil es gs e = let (p, q) = nil-parts (marked first es) e in (marked-nil first es .0 p, marked-nil second gs .0 q)
 
--- Continue adds to A's entries only where A has a value, and so does not fail
-with-continue : (es : List Entry) (x : Bool) (o : Option Val) (F : Val → Bool) → none-in es ≡ x → ((v : Val) → o ≡ some v → x ≡ false) → none-in (es ++ continueIf o F) ≡ x
-unfolding continueIf none-in
-with-continue es true none F h k = none-in-both es [] ∙ rw h
-with-continue es true (some v) F h k = absurd (true≢false (k v refl))
-with-continue es false o F h k = none-in-both es (continueIf o F) ∙ rw h
+nil-continue : (o : Option Val) (F : Val → Bool) → ((v : Val) → o ≡ some v → F v ≡ true) → continueIf o F ≡ []
+unfolding continueIf
+nil-continue none F h = refl
+nil-continue (some v) F h = button-nil (F v) continue .1 (h v refl)
 
-none-shown : {c : Code} {ρ : Env} {t : TaskOf c} → Formed c ρ t → (s : Store) → none-in (entries c ρ s t) ≡ failing c ρ s t
-unfolding entries failing none-in offers settle normalise
-none-shown (of-became {u = u} b d) s = let e = alike b .shows s u in let f = alike b .fails s u in rw (e, f) (none-shown d s)
-none-shown of-edit s = refl
-none-shown of-enter s = refl
-none-shown of-update s = refl
-none-shown (of-then d f) s = none-shown d s
-none-shown (of-next {ρ = ρ} {a = a} {b = b} {t = t} d f) s = with-continue (entries a ρ s t) _ (value a t s) (λ v. rightFails b (v ∷ ρ) s) (none-shown d s) (λ v h. value-lives a ρ s t v h)
-none-shown of-fail s = refl
-none-shown (of-and {ρ = ρ} {a = a} {b = b} {t = t} {u = u} d e) s = marked-both (entries a ρ s t) (entries b ρ s u) (none-shown d s) (none-shown e s)
-none-shown (of-or {ρ = ρ} {a = a} {b = b} {t = t} {u = u} d e) s = marked-both (entries a ρ s t) (entries b ρ s u) (none-shown d s) (none-shown e s)
-none-shown (of-xor {ρ = ρ} {a = a} {b = b} d e) s = lit-both (branchFails a ρ s) (branchFails b ρ s)
+both-true : (x y : Bool) → x && y ≡ true → (x ≡ true) × (y ≡ true)
+both-true true y e = (refl, e)
+both-true false y e = apart e refl
 
-none-in-is : (es : List Entry) → (es ≡ []) ↔ (none-in es ≡ true)
-unfolding none-in
-none-in-is [] = (λ h. refl, λ h. refl)
-none-in-is (e ∷ es) = (λ h. absurd (cons≢nil h), λ h. absurd (false≢true h))
+-- ---- a task that fails shows nothing
 
--- a task shows nothing exactly when it fails
-pub empty-failing : (c : Code) (ρ : Env) (s : Store) (t : TaskOf c) → (entries c ρ s t ≡ []) ↔ (failing c ρ s t ≡ true)
-empty-failing c ρ s t =
-    let e = none-shown (formed c ρ t) s in
-    let k = none-in-is (entries c ρ s t) in
-    (λ h. sym e ∙ k .0 h, λ h. k .1 (e ∙ h))
+none-shown : {c : Code} {ρ : Env} {t : TaskOf c} → Formed c ρ t → (s : Store) → failing c ρ s t ≡ true → entries c ρ s t ≡ []
+unfolding entries failing settle normalise
+none-shown (of-became {u = u} b d) s h = alike b .shows s u ∙ none-shown d s (sym (alike b .fails s u) ∙ h)
+none-shown of-edit s h = apart h refl
+none-shown of-enter s h = apart h refl
+none-shown of-update s h = apart h refl
+none-shown (of-then d f) s h = none-shown d s h
+none-shown (of-next {ρ = ρ} {a = a} {b = b} {t = t} d f) s h =
+    ap₂ _++_ (none-shown d s h) (nil-continue (value a t s) (λ v. rightFails b (v ∷ ρ) s) (λ v e. apart h (value-lives a ρ s t v e)))
+none-shown of-fail s h = refl
+none-shown (of-and {ρ = ρ} {a = a} {b = b} {t = t} {u = u} d e) s h = let (p, q) = both-true (failing a ρ s t) (failing b ρ s u) h in nil-marks (none-shown d s p) (none-shown e s q)
+none-shown (of-or {ρ = ρ} {a = a} {b = b} {t = t} {u = u} d e) s h = let (p, q) = both-true (failing a ρ s t) (failing b ρ s u) h in nil-marks (none-shown d s p) (none-shown e s q)
+none-shown (of-xor {ρ = ρ} {a = a} {b = b} d e) s h =
+    let (p, q) = both-true (branchFails a ρ s) (branchFails b ρ s) h in
+    ap₂ _++_ (button-nil (branchFails a ρ s) left .1 p) (button-nil (branchFails b ρ s) right .1 q)
+none-shown of-view s h = refl
+
+pub failing-empty : (c : Code) (ρ : Env) (s : Store) (t : TaskOf c) → failing c ρ s t ≡ true → entries c ρ s t ≡ []
+failing-empty c ρ s t = none-shown (formed c ρ t) s
+
+-- ---- a quiet task shows nothing
+
+pub quiet-empty : {c : Code} {ρ : Env} {s : Store} {t : TaskOf c} → Quiet c ρ s t → entries c ρ s t ≡ []
+unfolding entries continueIf
+quiet-empty q-fail = refl
+quiet-empty q-view = refl
+quiet-empty (q-and d e) = nil-marks (quiet-empty d) (quiet-empty e)
+quiet-empty (q-or d e) = nil-marks (quiet-empty d) (quiet-empty e)
+quiet-empty (q-then d) = quiet-empty d
+quiet-empty (q-next-none d h) = ap₂ _++_ (quiet-empty d) (nil-continue _ _ (λ v e. no-some (sym h ∙ e)))
+quiet-empty (q-next-fails d h r) = ap₂ _++_ (quiet-empty d) (rw h (button-nil _ continue .1 (right-is r)))
+quiet-empty (q-xor {ρ = ρ} {s = s} {a = a} {b = b} f) = failing-empty (xor a b) ρ s unpicked (fails-is f)
+quiet-empty (q-became {s = s} {u = u} b d) = alike b .shows s u ∙ quiet-empty d
+
+-- ---- a typed task that shows nothing is quiet
+
+-- a 44 with quiet A whose Continue is not takable, by the value of A
+next-quiet : {a b : Code} {ρ : Env} {s : Store} {t : TaskOf a} (o : Option Val) → value a t s ≡ o → Quiet a ρ s t → ((v : Val) → o ≡ some v → RightFails b (v ∷ ρ) s true)
+    → Quiet (next a b) ρ s (before t)
+next-quiet none e q k = q-next-none q e
+next-quiet (some v) e q k = q-next-fails q e (k v refl)
+
+-- no Continue is shown only where B fails under A's value
+continue-nil : (o : Option Val) (F : Val → Bool) → continueIf o F ≡ [] → (v : Val) → o ≡ some v → F v ≡ true
+unfolding continueIf
+continue-nil none F h v e = no-some e
+continue-nil (some w) F h v e = subst (λ o. continueIf o F ≡ [] → F v ≡ true) (sym e) (button-nil (F v) continue .0) h
+
+-- where no rule takes Continue under A's value, B fails
+tried : {a b : Code} {ρ : Env} {s : Store} {t : TaskOf a} (v : Val) → value a t s ≡ some v → (x : Bool) → RightFails b (v ∷ ρ) s x
+    → ((u : TaskOf (next a b)) (s₁ : Store) → Handles (next a b) ρ s (before t) [] (press continue) u s₁ → ⊥) → RightFails b (v ∷ ρ) s true
+tried v z true r n = r
+tried v z false (r-evaluated d f) n = absurd (n _ _ (h-next z d f))
+
+nothing-at : {X P : Type 0} {xs : List X} {i : ℕ} {x : X} → xs ≡ [] → At xs i x → P
+nothing-at e here = absurd (cons≢nil e)
+nothing-at e (there d) = absurd (cons≢nil e)
+
+module _ {Σ : List Ty} where
+  quiet-of : {c : Code} {ρ : Env} {t : TaskOf c} {Γ : List Ty} {τ : Ty} → Formed c ρ t → (s : Store) → TaskType Σ Γ c t τ → ValueTypes ρ Γ → ValueTypes s Σ → entries c ρ s t ≡ [] → Quiet c ρ s t
+  unfolding entries offers
+  quiet-of (of-became {u = u} b d) s k g h n = let i = inner b u k in q-became b (quiet-of d s (i .task) (i .env g) h (sym (alike b .shows s u) ∙ n))
+  quiet-of of-edit s k g h n = absurd (cons≢nil n)
+  quiet-of of-enter s k g h n = absurd (cons≢nil n)
+  quiet-of of-update s k g h n = absurd (cons≢nil n)
+  quiet-of (of-then d f) s (k-then-before k e) g h n = q-then (quiet-of d s k g h n)
+  quiet-of (of-next {ρ = ρ} {a = a} {b = b} {t = t} d f) s (k-next-before k e) g h n =
+      let (p, q) = nil-parts (entries a ρ s t) n in
+      next-quiet (value a t s) refl (quiet-of d s k g h p)
+      (λ v z. subst (λ x. RightFails b (v ∷ ρ) s x) (continue-nil (value a t s) (λ v. rightFails b (v ∷ ρ) s) q v z) (right-sound b (v ∷ ρ) s e (v-cons (option-is (value-type k h) z) g) h))
+  quiet-of of-fail s k g h n = q-fail
+  quiet-of (of-and {ρ = ρ} {a = a} {b = b} {t = t} {u = u} d e) s (k-both k m l) g h n = let (p, q) = marks-nil (entries a ρ s t) (entries b ρ s u) n in q-and (quiet-of d s k g h p) (quiet-of e s m g h q)
+  quiet-of (of-or {ρ = ρ} {a = a} {b = b} {t = t} {u = u} d e) s (k-either k m) g h n = let (p, q) = marks-nil (entries a ρ s t) (entries b ρ s u) n in q-or (quiet-of d s k g h p) (quiet-of e s m g h q)
+  quiet-of (of-xor {ρ = ρ} {a = a} {b = b} d e) s (k-unpicked k m) g h n =
+      let (p, q) = nil-parts (buttonIf (not (branchFails a ρ s)) left) n in
+      let x = subst (λ x. BranchFails a ρ s x) (button-nil (branchFails a ρ s) left .0 p) (branch-sound a ρ s k g h) in
+      let y = subst (λ y. BranchFails b ρ s y) (button-nil (branchFails b ρ s) right .0 q) (branch-sound b ρ s m g h) in
+      q-xor (f-xor x y refl)
+  quiet-of of-view s k g h n = q-view
+
+  pub empty-quiet : (c : Code) {Γ : List Ty} {τ : Ty} (ρ : Env) (s : Store) (t : TaskOf c) → TaskType Σ Γ c t τ → ValueTypes ρ Γ → ValueTypes s Σ → entries c ρ s t ≡ [] → Quiet c ρ s t
+  empty-quiet c ρ s t = quiet-of (formed c ρ t) s
+
+  -- CR 1's words on a 44: where A is quiet, it is quiet exactly when Continue is not takable, by any rule
+  pub next-quiet-is : (a b : Code) {Γ : List Ty} {τ : Ty} (ρ : Env) (s : Store) (t : TaskOf a) → TaskType Σ Γ (next a b) (before t) τ → ValueTypes ρ Γ → ValueTypes s Σ → Quiet a ρ s t
+      → Quiet (next a b) ρ s (before t) ↔ ((u : TaskOf (next a b)) (s₁ : Store) → Handles (next a b) ρ s (before t) [] (press continue) u s₁ → ⊥)
+  next-quiet-is a b ρ s t (k-next-before k e) g h q = (
+    λ d u s₁ r. let (i, f, p, z) = taken-covered (next a b) ρ s (before t) (handles-is r) in nothing-at (quiet-empty d) p,
+    λ n. next-quiet (value a t s) refl q (λ v z. tried v z (rightFails b (v ∷ ρ) s) (right-sound b (v ∷ ρ) s e (v-cons (option-is (value-type k h) z) g) h) n),
+  )

@@ -32,7 +32,7 @@ use Rattle.tophat.proofs.HandlingComplete.{handles-is, handles-one, ref
 use Rattle.tophat.proofs.HandlingSound.{GoodHandling, handles-sound}
 use Rattle.tophat.proofs.Lights.{Covered}
 use Rattle.tophat.proofs.EntriesCover.{covered-taken, taken-covered, covered-once}
-use Rattle.tophat.proofs.EntriesQuiet.{empty-failing}
+use Rattle.tophat.proofs.EntriesQuiet.{failing-empty, quiet-empty, empty-quiet}
 use Rattle.tophat.proofs.EntriesAgree.{shows-is, shows-sound}
 
 module _ {Σ : List Ty} {c : Code} {τ : Ty} {t : TaskOf c} {s : Store} (r : Rest Σ c τ t s) where
@@ -59,10 +59,8 @@ module _ {Σ : List Ty} {c : Code} {τ : Ty} {t : TaskOf c} {s : Store} (r : Res
   fails : Fails c [] s t (failing c [] s t)
   fails = fails-sound c [] s t (r .task) v-nil (r .store)
 
-  empty-quiet : (entries c [] s t ≡ []) ↔ Quiet c [] s t
-  empty-quiet =
-      let e = empty-failing c [] s t in
-      (λ h. subst (λ x. Fails c [] s t x) (e .0 h) fails, λ d. e .1 (fails-is d))
+  empty-iff-quiet : (entries c [] s t ≡ []) ↔ Quiet c [] s t
+  empty-iff-quiet = (empty-quiet c [] s t (r .task) v-nil (r .store), quiet-empty)
 
   fails-decided : Fails c [] s t true ⊎ Fails c [] s t false
   fails-decided =
@@ -82,9 +80,9 @@ module _ {Σ : List Ty} {c : Code} {τ : Ty} {t : TaskOf c} {s : Store} (r : Res
     sole = λ es d. shows-is d;
     accepted-iff-covered = accepted-covered;
     covered-once = λ i j e f p x d k g h. covered-once c [] s t d k g h;
-    empty-iff-quiet = empty-quiet;
+    empty-iff-quiet = empty-iff-quiet;
     fails-decided = fails-decided;
-    failing-quiet = λ d. d;
+    failing-quiet = λ d. empty-iff-quiet .0 (failing-empty c [] s t (fails-is d));
   }
 
   taken-rest : (p : Path) (x : Action) (o : Option (TaskOf c × Store)) → handle c [] s t p x ≡ o → All (GoodHandling Σ [] τ c [] s t p x) o → (t₁ : TaskOf c) × (s₁ : Store) × Leaves c t s (touch p x) t₁ s₁ × Rest Σ c τ t₁ s₁

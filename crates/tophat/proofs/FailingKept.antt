@@ -12,7 +12,7 @@ use Rattle.tophat.specs.Normalising.{pairOf, firstOf, value}
 use Rattle.tophat.proofs.Basics.{apart, by-truth, no-some}
 use Rattle.tophat.proofs.ComputeEvaluation.{evaluate}
 use Rattle.tophat.proofs.ComputeNormalising.{unlessStill, strides, goOn, goOnWith, chooseRight, chooseLeft, failing, stride, normalise, settle}
-use Rattle.tophat.proofs.Became.{alike, Formed, of-became, of-edit, of-enter, of-update, of-then, of-next, of-fail, of-and, of-or, of-xor, formed}
+use Rattle.tophat.proofs.Became.{alike, Formed, of-became, of-edit, of-enter, of-update, of-then, of-next, of-fail, of-and, of-or, of-xor, of-view, formed}
 use Rattle.tophat.proofs.Progress.{flag-is}
 
 and-left : (x y : Bool) → x && y ≡ true → x ≡ true
@@ -49,6 +49,7 @@ lives of-fail s v h = no-some h
 lives (of-and d e) s v h = paired _ _ _ _ (λ w k. lives d s w k) h
 lives (of-or d e) s v h = chosen _ _ _ _ (λ w k. lives d s w k) (λ w k. lives e s w k) h
 lives (of-xor d e) s v h = no-some h
+lives of-view s v h = refl
 
 -- a task with a value does not fail
 pub value-lives : (c : Code) (ρ : Env) (s : Store) (t : TaskOf c) (v : Val) → value c t s ≡ some v → failing c ρ s t ≡ false
@@ -86,6 +87,7 @@ still (of-or {ρ = ρ} {a = a} {b = b} {t = t} {u = u} d e) s h =
     let m = flag-is a ρ s t .0 k .1 in
     rw (i, m, j, k, l)
 still (of-xor d e) s h = refl
+still of-view s h = refl
 
 -- a task that fails does not move
 pub failing-still : (c : Code) (ρ : Env) (s : Store) (t : TaskOf c) → failing c ρ s t ≡ true → stride c ρ s t .2 ≡ false
@@ -150,6 +152,7 @@ goes (of-and {ρ = ρ} {a = a} {b = b} {t = t} {u = u} d e) s h = two a b ρ (st
 goes (of-or {ρ = ρ} {a = a} {b = b} {t = t} {u = u} d e) s h =
     choose-left a b ρ (value a (stride a ρ s t .0) (stride a ρ s t .1)) (stride a ρ s t .0) (stride a ρ s t .1) (stride a ρ s t .2) u refl (λ k. goes d s k) (λ k. goes e (stride a ρ s t .1) k) h
 goes (of-xor d e) s h = apart h refl
+goes of-view s h = refl
 
 -- a stride that moved leaves a task that does not fail, in the store that it leaves
 pub moved-lives : (c : Code) (ρ : Env) (s : Store) (t : TaskOf c) → stride c ρ s t .2 ≡ true → failing c ρ (stride c ρ s t .1) (stride c ρ s t .0) ≡ false

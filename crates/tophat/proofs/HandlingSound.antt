@@ -20,7 +20,7 @@ use Rattle.tophat.specs.Handling.{h-first-and, h-second-and, h-first-or,
 use Rattle.tophat.proofs.Basics.{All, all-none, all-some}
 use Rattle.tophat.proofs.ComputeNormalising.{settle}
 use Rattle.tophat.proofs.ComputeHandling.{mapTask, thenSome, atEditor, atMark, atSides, atContinue, unlessFailing, handle}
-use Rattle.tophat.proofs.Became.{alike, Formed, of-became, of-edit, of-enter, of-update, of-then, of-next, of-fail, of-and, of-or, of-xor, formed, inner}
+use Rattle.tophat.proofs.Became.{alike, Formed, of-became, of-edit, of-enter, of-update, of-then, of-next, of-fail, of-and, of-or, of-xor, of-view, formed, inner}
 use Rattle.tophat.proofs.EvaluationAgrees.{look-up, put}
 use Rattle.tophat.proofs.TaskEvaluationAgrees.{evaluate-good}
 use Rattle.tophat.proofs.Preservation.{task-code, option-is, value-type}
@@ -131,6 +131,7 @@ module _ {Σ : List Ty} where
       sides-all (GoodHandling Σ Γ τ (xor a b) ρ s unpicked) p x _ _
       (unless-all _ pickedLeft _ _ (λ z. record { derived = h-pick-left (k .derived) (m .derived) (rw z at i); task = k-picked-left (m .task) e; store = m .store }))
       (unless-all _ pickedRight _ _ (λ z. record { derived = h-pick-right (l .derived) (n .derived) (rw z at j); task = k-picked-right d (n .task); store = n .store }))
+  good of-view s p x d g h = all-none
 
   -- what `handle` answers for a typed task is derived, and keeps types
   pub handles-sound : (c : Code) {Γ : List Ty} {τ : Ty} (ρ : Env) (s : Store) (t : TaskOf c) (p : Path) (x : Action) → TaskType Σ Γ c t τ → ValueTypes ρ Γ → ValueTypes s Σ → All (GoodHandling Σ Γ τ c ρ s t p x) (handle c ρ s t p x)

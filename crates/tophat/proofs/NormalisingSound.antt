@@ -15,12 +15,12 @@ use Rattle.tophat.specs.Typing.{k-unpicked}
 use Rattle.tophat.specs.Evaluation.{EvaluatesTask}
 use Rattle.tophat.specs.Normalising.{f-became, s-became}
 use Rattle.tophat.specs.Normalising.{value, Fails, f-edit, f-enter, f-update, f-then, f-next, f-fail, f-and, f-or}
-use Rattle.tophat.specs.Normalising.{f-xor, RightFails, r-evaluated, BranchFails, b-normalised}
+use Rattle.tophat.specs.Normalising.{f-xor, f-view, RightFails, r-evaluated, BranchFails, b-normalised}
 use Rattle.tophat.specs.Normalising.{Strides, s-edit, s-fill, s-update, s-fail, s-then-stay, s-then-fail, s-then-cont, s-next, s-and, s-or-left, s-or-right, s-or-none}
-use Rattle.tophat.specs.Normalising.{s-xor, Normalises, n-done, n-repeat}
+use Rattle.tophat.specs.Normalising.{s-xor, s-view, Normalises, n-done, n-repeat}
 use Rattle.tophat.proofs.ComputeEvaluation.{evaluate}
 use Rattle.tophat.proofs.ComputeNormalising.{remaining, unlessStill, strides, goOn, goOnWith, chooseRight, chooseLeft, failing, stride, normalise, settle, rightFails, branchFails}
-use Rattle.tophat.proofs.Became.{alike, Formed, of-became, of-edit, of-enter, of-update, of-then, of-next, of-fail, of-and, of-or, of-xor, formed, inner}
+use Rattle.tophat.proofs.Became.{alike, Formed, of-became, of-edit, of-enter, of-update, of-then, of-next, of-fail, of-and, of-or, of-xor, of-view, formed, inner}
 use Rattle.tophat.proofs.TaskEvaluationAgrees.{evaluate-good}
 use Rattle.tophat.proofs.Preservation.{option-is, value-type, KeptBy, stride-kept}
 use Rattle.tophat.proofs.Progress.{remaining-moves, Progress, progress}
@@ -137,6 +137,7 @@ module _ {Σ : List Ty} where
             refl;
         strides = s-xor;
       }
+  sound of-view s k g h = record { fails = f-view; strides = s-view }
 
   -- whether a typed task fails is derived
   pub fails-sound : (c : Code) {Γ : List Ty} {τ : Ty} (ρ : Env) (s : Store) (t : TaskOf c) → TaskType Σ Γ c t τ → ValueTypes ρ Γ → ValueTypes s Σ → Fails c ρ s t (failing c ρ s t)

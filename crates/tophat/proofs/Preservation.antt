@@ -7,14 +7,14 @@ use mathlib.Core.List.{List, [], _∷_}
 use Prim.Native.Nat.{ℕ}
 use native.Mathlib.Omega.{arith}
 use Rattle.tophat.specs.Syntax.{Ty, pair, Exp, Code, then, or, Val, Env, Store, TaskOf}
-use Rattle.tophat.specs.Typing.{HasType, CodeType, t-edit, t-enter, t-update, t-then, t-next, t-fail, t-and, t-or, t-xor}
+use Rattle.tophat.specs.Typing.{HasType, CodeType, t-edit, t-enter, t-update, t-then, t-next, t-fail, t-and, t-or, t-xor, t-view}
 use Rattle.tophat.specs.Typing.{ValueType, v-pair, ValueTypes, v-cons}
 use Rattle.tophat.specs.Typing.{TaskType, k-filled, k-blank, k-entered, k-shared, k-then-before, k-then-after, k-next-before, k-failed, k-both, k-either, k-or-left, k-or-right}
-use Rattle.tophat.specs.Typing.{k-unpicked}
+use Rattle.tophat.specs.Typing.{k-unpicked, k-viewed}
 use Rattle.tophat.specs.Evaluation.{Evaluates, EvaluatesTask}
 use Rattle.tophat.specs.Normalising.{pairOf, firstOf, value, Strides, Normalises, n-done, n-repeat}
 use Rattle.tophat.proofs.ComputeNormalising.{goOn, goOnWith, chooseRight, chooseLeft, stride}
-use Rattle.tophat.proofs.Became.{alike, Formed, of-became, of-edit, of-enter, of-update, of-then, of-next, of-fail, of-and, of-or, of-xor, formed, inner}
+use Rattle.tophat.proofs.Became.{alike, Formed, of-became, of-edit, of-enter, of-update, of-then, of-next, of-fail, of-and, of-or, of-xor, of-view, formed, inner}
 use Rattle.tophat.proofs.EvaluationAgrees.{look-up, eval-good, eval-is}
 use Rattle.tophat.proofs.TaskEvaluationAgrees.{evaluate-good, evaluate-is}
 use Rattle.tophat.proofs.NormalisingComplete.{strides-as}
@@ -31,6 +31,7 @@ code-typed of-fail (k-failed l) = t-fail l
 code-typed (of-and d e) (k-both k m l) = t-and (code-typed d k) (code-typed e m) l
 code-typed (of-or d e) (k-either k m) = t-or (code-typed d k) (code-typed e m)
 code-typed (of-xor d e) (k-unpicked k m) = t-xor k m
+code-typed of-view (k-viewed e v) = t-view e
 
 -- the code of a typed running task is typed
 pub task-code : {Σ Γ : List Ty} {c : Code} {t : TaskOf c} {τ : Ty} → TaskType Σ Γ c t τ → CodeType Σ Γ c τ
@@ -69,6 +70,7 @@ value-typed of-fail k h = o-none
 value-typed (of-and d e) (k-both k m l) h = pair-type (value-typed d k h) (value-typed e m h)
 value-typed (of-or d e) (k-either k m) h = first-type (value-typed d k h) (value-typed e m h)
 value-typed (of-xor d e) k h = o-none
+value-typed of-view (k-viewed e v) h = o-some v
 
 -- a typed task's value is of its type
 pub value-type : {Σ Γ : List Ty} {c : Code} {t : TaskOf c} {τ : Ty} {s : Store} → TaskType Σ Γ c t τ → ValueTypes s Σ → OptionType (value c t s) τ
@@ -131,6 +133,7 @@ kept (of-and d e) (k-both k m l) s g h =
     record { task = k-both (p .task) (q .task) l; store = q .store }
 kept (of-or d e) (k-either k m) s g h = let p = kept d k s g h in left-kept _ _ _ _ (p .task) m (p .store) (kept e m _ g (p .store))
 kept (of-xor d e) k s g h = record { task = k; store = h }
+kept of-view k s g h = record { task = k; store = h }
 
 -- a stride keeps types
 pub stride-kept : {Σ Γ : List Ty} {c : Code} {t : TaskOf c} {τ : Ty} → TaskType Σ Γ c t τ → (ρ : Env) (s : Store) → ValueTypes ρ Γ → ValueTypes s Σ → KeptBy Σ Γ c τ (stride c ρ s t)

@@ -12,7 +12,7 @@ use Rattle.tophat.specs.Syntax.{TaskOf, before, both, either}
 use Rattle.tophat.specs.Normalising.{value}
 use Rattle.tophat.proofs.Basics.{apart}
 use Rattle.tophat.proofs.ComputeNormalising.{unlessStill, strides, goOn, goOnWith, chooseRight, chooseLeft, stride, normalise, remaining}
-use Rattle.tophat.proofs.Became.{alike, Formed, of-became, of-edit, of-enter, of-update, of-then, of-next, of-fail, of-and, of-or, of-xor, formed}
+use Rattle.tophat.proofs.Became.{alike, Formed, of-became, of-edit, of-enter, of-update, of-then, of-next, of-fail, of-and, of-or, of-xor, of-view, formed}
 
 held : {c : Code} {ρ : Env} {t : TaskOf c} → Formed c ρ t → remaining c t ≤ moves c
 unfolding remaining moves
@@ -26,6 +26,7 @@ held of-fail = omega arith
 held (of-and d e) = let h = held d in let k = held e in omega arith
 held (of-or d e) = let h = held d in let k = held e in omega arith
 held (of-xor d e) = omega arith
+held of-view = omega arith
 
 -- no more can still move than the code has
 pub remaining-moves : (c : Code) (t : TaskOf c) → remaining c t ≤ moves c
@@ -110,6 +111,7 @@ goes of-fail s = inl (record { flag = refl; task = refl; store = refl })
 goes (of-and {ρ = ρ} {a = a} {b = b} {t = t} {u = u} d e) s = join a b (and a b) both 0 (λ t u. omega arith) t u s (stride a ρ s t) (stride b ρ (stride a ρ s t .1) u) (goes d s) (goes e (stride a ρ s t .1))
 goes (of-or {ρ = ρ} {a = a} {b = b} {t = t} {u = u} d e) s = choose-left a b t u s (stride a ρ s t) (value a (stride a ρ s t .0) (stride a ρ s t .1)) (λ s u. stride b ρ s u) (λ u s. value b u s) (goes d s) (λ s. goes e s)
 goes (of-xor d e) s = inl (record { flag = refl; task = refl; store = refl })
+goes of-view s = inl (record { flag = refl; task = refl; store = refl })
 
 -- every stride changes nothing, and says so, or moves and leaves fewer that can
 pub progress : (c : Code) (ρ : Env) (s : Store) (t : TaskOf c) → Progress c t s (stride c ρ s t)

@@ -4,10 +4,10 @@ use mathlib.Core.Path.{_≡_, refl}
 use mathlib.Core.Bool.{true, false}
 use mathlib.Core.List.{List}
 use Rattle.tophat.specs.Syntax.{Ty, truth, Exp, Code, if, Val, Env, Store, TaskOf, ifTrue, ifFalse}
-use Rattle.tophat.specs.Typing.{HasType, CodeType, t-edit, t-enter, t-update, t-then, t-next, t-fail, t-and, t-or, t-xor, t-if-task, t-let-task}
+use Rattle.tophat.specs.Typing.{HasType, CodeType, t-edit, t-enter, t-update, t-then, t-next, t-fail, t-and, t-or, t-xor, t-view, t-if-task, t-let-task}
 use Rattle.tophat.specs.Typing.{ValueType, v-truth, ValueTypes, v-cons}
-use Rattle.tophat.specs.Typing.{TaskType, k-filled, k-blank, k-shared, k-then-before, k-next-before, k-failed, k-both, k-either, k-unpicked, k-if-true, k-if-false, k-bound}
-use Rattle.tophat.specs.Evaluation.{Evaluates, EvaluatesTask, e-edit, e-enter, e-update, e-then, e-next, e-fail, e-and, e-or, e-xor, e-if-true-task, e-if-false-task, e-let-task}
+use Rattle.tophat.specs.Typing.{TaskType, k-filled, k-blank, k-shared, k-then-before, k-next-before, k-failed, k-both, k-either, k-unpicked, k-viewed, k-if-true, k-if-false, k-bound}
+use Rattle.tophat.specs.Evaluation.{Evaluates, EvaluatesTask, e-edit, e-enter, e-update, e-then, e-next, e-fail, e-and, e-or, e-xor, e-view, e-if-true-task, e-if-false-task, e-let-task}
 use Rattle.tophat.proofs.ComputeEvaluation.{leaf, isTrue, branch, evaluate}
 use Rattle.tophat.proofs.EvaluationAgrees.{eval-good, eval-is}
 
@@ -43,6 +43,7 @@ evaluate-good (t-or d e) ρ s g h =
     let q = evaluate-good e ρ _ g (p .store) in
     record { derived = e-or (p .derived) (q .derived); task = k-either (p .task) (q .task); store = q .store }
 evaluate-good (t-xor d e) ρ s g h = record { derived = e-xor; task = k-unpicked d e; store = h }
+evaluate-good (t-view d) ρ s g h = let p = eval-good d ρ s g h in record { derived = e-view (p .derived); task = k-viewed d (p .typed); store = p .kept }
 evaluate-good (t-if-task x d e) ρ s g h =
     let p = eval-good x ρ s g h in
     if-good x d e (p .derived) (p .typed) (evaluate-good d ρ _ g (p .kept)) (evaluate-good e ρ _ g (p .kept))
@@ -63,6 +64,7 @@ evaluate-is e-fail = refl
 evaluate-is (e-and d d₁) = let p = evaluate-is d in let q = evaluate-is d₁ in rw (p, q)
 evaluate-is (e-or d d₁) = let p = evaluate-is d in let q = evaluate-is d₁ in rw (p, q)
 evaluate-is e-xor = refl
+evaluate-is (e-view d) = let p = eval-is d in rw p
 evaluate-is (e-if-true-task x d) = let p = eval-is x in let q = evaluate-is d in rw (p, q)
 evaluate-is (e-if-false-task x d) = let p = eval-is x in let q = evaluate-is d in rw (p, q)
 evaluate-is (e-let-task x d) = let p = eval-is x in let q = evaluate-is d in rw (p, q)

@@ -9,7 +9,7 @@ use lib.ListN.{set}
 use Rattle.word.specs.Word.{wrap, eqZ}
 use Rattle.tophat.specs.Syntax.{Ty, Op, sum, difference, product, less, lessEqual, equal, andOp, orOp, Env, Store}
 use Rattle.tophat.specs.Syntax.{Exp, eunit, etruth, enumber, ebinder, eop, eif, epair, efst, esnd, ederef, eassign, elet}
-use Rattle.tophat.specs.Syntax.{Code, edit, enter, update, then, next, fail, and, or, xor, if, let', Val, vunit, vtruth, vnumber, vpair}
+use Rattle.tophat.specs.Syntax.{Code, edit, enter, update, then, next, fail, and, or, xor, view, if, let', Val, vunit, vtruth, vnumber, vpair}
 use Rattle.tophat.specs.Syntax.{TaskOf, filled, blank, shared, before, failed, both, either, unpicked, ifTrue, ifFalse, bound}
 use Rattle.tophat.specs.Typing.{At}
 
@@ -65,6 +65,8 @@ pub data EvaluatesTask : (c : Code) → Env → Store → TaskOf c → Store →
   e-or : {ρ : Env} {s s₁ s₂ : Store} {a b : Code} {t : TaskOf a} {u : TaskOf b}
       → EvaluatesTask a ρ s t s₁ → EvaluatesTask b ρ s₁ u s₂ → EvaluatesTask (or a b) ρ s (either t u) s₂
   e-xor : {ρ : Env} {s : Store} {a b : Code} → EvaluatesTask (xor a b) ρ s unpicked s
+  e-view : {ρ : Env} {s s₁ : Store} {e : Exp} {v : Val}
+      → Evaluates ρ s e v s₁ → EvaluatesTask (view e) ρ s (filled v) s₁
   e-if-true-task : {ρ : Env} {s s₁ s₂ : Store} {e : Exp} {a b : Code} {t : TaskOf a}
       → Evaluates ρ s e (vtruth true) s₁ → EvaluatesTask a ρ s₁ t s₂ → EvaluatesTask (if e a b) ρ s (ifTrue t) s₂
   e-if-false-task : {ρ : Env} {s s₁ s₂ : Store} {e : Exp} {a b : Code} {u : TaskOf b}

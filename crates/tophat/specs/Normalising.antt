@@ -7,7 +7,7 @@ use mathlib.Core.Option.{Option, none, some}
 use mathlib.Core.List.{_∷_}
 use Prim.Native.Nat.{ℕ, suc}
 use lib.ListN.{getD}
-use Rattle.tophat.specs.Syntax.{Ty, Exp, Code, edit, enter, update, then, next, fail, and, or, xor, if, let', Val, vunit, vpair, Env, Store}
+use Rattle.tophat.specs.Syntax.{Ty, Exp, Code, edit, enter, update, then, next, fail, and, or, xor, view, if, let', Val, vunit, vpair, Env, Store}
 use Rattle.tophat.specs.Syntax.{TaskOf, filled, blank, entered, before, after, both, either, orLeft, orRight, unpicked, pickedLeft, pickedRight, ifTrue, ifFalse, bound}
 use Rattle.tophat.specs.Evaluation.{EvaluatesTask}
 
@@ -40,6 +40,7 @@ value (or a b) (orRight u) s = value b u s
 value (xor a b) unpicked s = none
 value (xor a b) (pickedLeft t) s = value a t s
 value (xor a b) (pickedRight u) s = value b u s
+value (view e) (filled v) s = some v
 value (if e a b) (ifTrue t) s = value a t s
 value (if e a b) (ifFalse u) s = value b u s
 value (let' e b) (bound v u) s = value b u s
@@ -74,6 +75,7 @@ mutual
     -- 01: "48 if both branches, each normalised from the present store, fail"
     f-xor : {ρ : Env} {s : Store} {a b : Code} {x y z : Bool}
         → BranchFails a ρ s x → BranchFails b ρ s y → x && y ≡ z → Fails (xor a b) ρ s unpicked z
+    f-view : {ρ : Env} {s : Store} {e : Exp} {t : TaskOf (view e)} → Fails (view e) ρ s t false
     f-became : {ρ ρ₁ : Env} {s : Store} {c c₁ : Code} {K : TaskOf c₁ → TaskOf c} {t : TaskOf c} {u : TaskOf c₁} {x : Bool}
         → Became c ρ c₁ ρ₁ K → K u ≡ t → Fails c₁ ρ₁ s u x → Fails c ρ s t x
 
@@ -114,6 +116,7 @@ mutual
         → Strides a ρ s t t₁ s₁ → value a t₁ s₁ ≡ none → Strides b ρ s₁ u u₁ s₂ → value b u₁ s₂ ≡ none
         → Strides (or a b) ρ s (either t u) (either t₁ u₁) s₂
     s-xor : {ρ : Env} {s : Store} {a b : Code} → Strides (xor a b) ρ s unpicked unpicked s
+    s-view : {ρ : Env} {s : Store} {e : Exp} {t : TaskOf (view e)} → Strides (view e) ρ s t t s
     s-became : {ρ ρ₁ : Env} {s s₁ : Store} {c c₁ : Code} {K : TaskOf c₁ → TaskOf c} {t t₁ : TaskOf c} {u u₁ : TaskOf c₁}
         → Became c ρ c₁ ρ₁ K → K u ≡ t → K u₁ ≡ t₁ → Strides c₁ ρ₁ s u u₁ s₁ → Strides c ρ s t t₁ s₁
 

@@ -7,7 +7,7 @@ use mathlib.Core.List.{List, [], _∷_, _++_}
 use Prim.Native.Nat.{ℕ, suc, _<_}
 use lib.IntN.{ℤ}
 use Rattle.decimal.specs.Path.{Mark, first, second, Path, maxMarks}
-use Rattle.tophat.specs.Syntax.{Ty, Exp, Code, edit, enter, update, then, next, fail, and, or, xor, if, let', Val, Env, Store}
+use Rattle.tophat.specs.Syntax.{Ty, Exp, Code, edit, enter, update, then, next, fail, and, or, xor, view, if, let', Val, Env, Store}
 use Rattle.tophat.specs.Syntax.{TaskOf, filled, before, both, either, unpicked}
 use Rattle.tophat.specs.Typing.{At, ValueType}
 use Rattle.tophat.specs.Normalising.{value, Became, RightFails, BranchFails}
@@ -64,6 +64,7 @@ pub data Shows : (c : Code) → Env → Store → TaskOf c → List Entry → Ty
   -- Left and Right are shown where that branch, normalised from the present store, does not fail
   i-xor : {ρ : Env} {s : Store} {a b : Code} {x y : Bool}
       → BranchFails a ρ s x → BranchFails b ρ s y → Shows (xor a b) ρ s unpicked (buttonIf (not x) left ++ buttonIf (not y) right)
+  i-view : {ρ : Env} {s : Store} {e : Exp} {t : TaskOf (view e)} → Shows (view e) ρ s t []
   i-became : {ρ ρ₁ : Env} {s : Store} {c c₁ : Code} {K : TaskOf c₁ → TaskOf c} {u : TaskOf c₁} {es : List Entry}
       → Became c ρ c₁ ρ₁ K → Shows c₁ ρ₁ s u es → Shows c ρ s (K u) es
 
@@ -79,5 +80,6 @@ MarksFit m (fail τ) = Unit {0}
 MarksFit m (and a b) = (m < maxMarks) × MarksFit (suc m) a × MarksFit (suc m) b
 MarksFit m (or a b) = (m < maxMarks) × MarksFit (suc m) a × MarksFit (suc m) b
 MarksFit m (xor a b) = MarksFit m a × MarksFit m b
+MarksFit m (view a) = Unit {0}
 MarksFit m (if e a b) = MarksFit m a × MarksFit m b
 MarksFit m (let' e b) = MarksFit m b

@@ -41,7 +41,7 @@ pub data Exp : Type 0 where
   eassign : ℕ → Exp → Exp  -- 30
   elet : Exp → Exp → Exp  -- 31
 
--- tasks as a sheet has them (the paper's pretasks): kinds 40 to 48, and 25 and 31 of tasks
+-- tasks as a sheet has them (the paper's pretasks): kinds 40 to 49, and 25 and 31 of tasks
 pub data Code : Type 0 where
   edit : Exp → Code  -- 40, filled editor □
   enter : Ty → Code  -- 41, empty editor ⊠
@@ -52,6 +52,7 @@ pub data Code : Type 0 where
   and : Code → Code → Code  -- 46, both ⋈
   or : Code → Code → Code  -- 47, internal choice ◆
   xor : Code → Code → Code  -- 48, external choice ◇
+  view : Exp → Code  -- 49, a shown value (CR 1)
   if : Exp → Code → Code → Code  -- 25
   let' : Exp → Code → Code  -- 31
 
@@ -71,7 +72,7 @@ Store = List Val
 
 -- Running tasks (01, "A task of a row is").
 
--- 40: the present content
+-- 40 and 49: the present content
 pub data EditT : Type 0 where
   filled : Val → EditT
 
@@ -129,6 +130,7 @@ TaskOf (fail τ) = FailT
 TaskOf (and a b) = AndT (TaskOf a) (TaskOf b)
 TaskOf (or a b) = OrT (TaskOf a) (TaskOf b)
 TaskOf (xor a b) = XorT (TaskOf a) (TaskOf b)
+TaskOf (view e) = EditT
 TaskOf (if e a b) = IfT (TaskOf a) (TaskOf b)
 TaskOf (let' e b) = LetT (TaskOf b)
 
@@ -143,6 +145,7 @@ moves (fail τ) = 0
 moves (and a b) = moves a + moves b
 moves (or a b) = 1 + moves a + moves b
 moves (xor a b) = moves a + moves b
+moves (view e) = 0
 moves (if e a b) = moves a + moves b
 moves (let' e b) = moves b
 
@@ -157,5 +160,6 @@ taskRows (fail τ) = 1
 taskRows (and a b) = 1 + taskRows a + taskRows b
 taskRows (or a b) = 1 + taskRows a + taskRows b
 taskRows (xor a b) = 1 + taskRows a + taskRows b
+taskRows (view e) = 1
 taskRows (if e a b) = 1 + taskRows a + taskRows b
 taskRows (let' e b) = 1 + taskRows b

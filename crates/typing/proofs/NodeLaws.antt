@@ -11,9 +11,9 @@ use types.Run.{OneOf}
 use borrow.Author.Tests.{ltb-true}
 use Rattle.match_laws.proofs.Ranges.{AllOf, one-of, Each, in-range, NoneOf, in-gap}
 use Rattle.rows.specs.Kinds.{Kind, typeK, unitK, truthK, numberK, pairK, cellK, plainK, eunitK, etruthK, enumberK, ebinderK, eopK, epairK, efstK, esndK, ederefK, eassignK}
-use Rattle.rows.specs.Kinds.{eitherK, ifK, letK, taskK, editK, enterK, updateK, thenK, nextK, failK, andK, orK, xorK, kindOf, numberOf, kindLimit}
+use Rattle.rows.specs.Kinds.{eitherK, ifK, letK, taskK, editK, enterK, updateK, thenK, nextK, failK, andK, orK, xorK, viewK, kindOf, numberOf}
 use Rattle.rows.specs.Rows.{word, opA, opB, opC}
-use Rattle.rows.proofs.KindNumbers.{kind-gap, kind-past}
+use Rattle.rows.proofs.KindNumbers.{kind-gap, kind-beyond}
 use Rattle.typing.specs.Nodes.{lower1, lower2, lower3, nodeBy, nodeFrom, nodeOf, Below}
 use Rattle.typing.specs.declared.Node.{Node}
 use Rattle.typing.specs.declared.Node.the-variants.{Op, If, Pair, First, Second, Through, Assign, Bind, Same, Bad}
@@ -23,7 +23,7 @@ use Rattle.typing.specs.declared.Node.the-variants.{Op, If, Pair, First,
 -- the numbers of its arms, the last first
 abbrev pub armKeys : List (List ℕ)
 armKeys =
-    (31 ∷ []) ∷ (30 ∷ []) ∷ (10 ∷ 29 ∷ 45 ∷ []) ∷ (28 ∷ []) ∷ (27 ∷ []) ∷ (4 ∷ 26 ∷ 46 ∷ []) ∷ (25 ∷ []) ∷ (24 ∷ []) ∷ (23 ∷ []) ∷
+    (31 ∷ []) ∷ (30 ∷ []) ∷ (10 ∷ 29 ∷ 45 ∷ 49 ∷ []) ∷ (28 ∷ []) ∷ (27 ∷ []) ∷ (4 ∷ 26 ∷ 46 ∷ []) ∷ (25 ∷ []) ∷ (24 ∷ []) ∷ (23 ∷ []) ∷
     (3 ∷ 22 ∷ []) ∷ (2 ∷ 21 ∷ []) ∷ (1 ∷ 20 ∷ []) ∷ []
 
 module _ (i a b c : ℕ) where
@@ -44,8 +44,9 @@ module _ (i a b c : ℕ) where
   unfolding kindOf
   node-none k l g = sym (ap (λ κ. nodeBy κ i a b c) (kind-gap 0 (numberOf (taskK editK)) armKeys k refl (omega arith) (omega arith) g))
 
-  pub node-past : (k : ℕ) → kindLimit ≤ k → Bad ≡ nodeFrom k i a b c
-  node-past k h = sym (ap (λ κ. nodeBy κ i a b c) (kind-past k h))
+  pub node-past : (k : ℕ) → suc (numberOf (taskK xorK)) ≤ k → NoneOf armKeys k → Bad ≡ nodeFrom k i a b c
+  unfolding kindOf
+  node-past k h g = sym (ap (λ κ. nodeBy κ i a b c) (kind-beyond (suc (numberOf (taskK xorK))) armKeys k refl h g))
 
 -- ---- the rows that a node names are lower
 
@@ -90,6 +91,7 @@ node-below (some (taskK failK)) i a b c = lower1-below i a (Through a) (λ p. p)
 node-below (some (taskK andK)) i a b c = lower2-below i a b (Pair a b) (λ p q. (p, q))
 node-below (some (taskK orK)) i a b c = lower2-below i a b (Same a b) (λ p q. (p, q))
 node-below (some (taskK xorK)) i a b c = lower2-below i a b (Same a b) (λ p q. (p, q))
+node-below (some (taskK viewK)) i a b c = lower1-below i a (Through a) (λ p. p)
 
 pub node-is : (rs : List ℕ) (i k a b c : ℕ) (x : Node) → k ≡ word rs i 0 → a ≡ opA rs i → b ≡ opB rs i → c ≡ opC rs i → x ≡ nodeFrom k i a b c → (x ≡ nodeOf rs i) × Below x i
 unfolding nodeOf

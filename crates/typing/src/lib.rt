@@ -160,7 +160,7 @@ fn node_from(k: u32, i: usize, a: u32, b: u32, c: u32) -> Node
         4 | 26 | 46 => named2(i, p, q, Node::Pair(p, q)),
         27 => named1(i, p, Node::First(p)),
         28 => named1(i, p, Node::Second(p)),
-        10 | 29 | 45 => named1(i, p, Node::Through(p)),
+        10 | 29 | 45 | 49 => named1(i, p, Node::Through(p)),
         40..=42 => named1(i, p, Node::Through(p)),
         30 => named2(i, p, q, Node::Assign(p, q)),
         31 => named2(i, p, q, Node::Bind(p, q)),
@@ -250,7 +250,7 @@ pub fn is_task(rows: &[u32; ROWS_WORDS], row: usize) -> bool
             }
             false
         }
-        40..=48 => true,
+        40..=49 => true,
         _ => false,
     }
 }

@@ -10,6 +10,7 @@ use crate::ground::{answer, Ground};
 #[derive(Clone, Copy, Debug, PartialEq, Eq)]
 pub struct Looked<'l> {
     pub has_value: bool,
+    /// Whether the flow fails. Then it has no entries; one without entries, a quiet one, need not fail.
     pub failing: bool,
     /// The part of the list memory that holds entries, 27 bytes each.
     pub entries: &'l [u8],
@@ -30,7 +31,8 @@ pub fn start(rows: &[i32], state: &mut [i32]) -> Result<u32, Ground> {
     answer(number).map(|()| strides)
 }
 
-/// Shows a rest: its value in `value`, of 4 words, and its entries in the front of `list`. Grounds 20 to 24.
+/// Shows a rest: its value in `value`, of 4 words, and its entries in the front of `list`. A quiet flow needs no list
+/// memory. Grounds 20 to 24.
 pub fn look<'l>(rows: &[i32], state: &[i32], value: &mut [i32], list: &'l mut [u8]) -> Result<Looked<'l>, Ground> {
     let (mut valued, mut fails, mut bytes) = (0, 0, 0);
     // SAFETY: as in `load`; the single numbers are locals.

@@ -80,6 +80,7 @@ impl<'f> Rest<'f> {
 pub struct Screen {
     /// The leaves of its value, unused ones 0, if it has one.
     pub value: Option<[i32; VALUE_WORDS]>,
+    /// Whether the flow fails. A screen without entries need not.
     pub failing: bool,
     list: [u8; list_bytes(MAX_ROWS)],
     bytes: usize,

@@ -79,7 +79,10 @@ impl<'r> Draft<'r> {
             // Pairs of as many leaves as go, as a value or as parts.
             let of = (1..self.limits.leaves).fold(Type::Number, |of, _| Type::pair(of, Type::Truth));
             match self.random.chance(50) {
-                true => Code::Filled(self.plain(&of, 12)),
+                true => {
+                    let content = self.plain(&of, 12);
+                    self.holding(content)
+                }
                 false => self.nested_marks(&of, self.limits.leaves),
             }
         };

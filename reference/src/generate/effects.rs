@@ -14,21 +14,22 @@ impl Draft<'_> {
                 let among = if self.random.chance(50) { &Operator::ALL[6..] } else { &Operator::ALL[..] };
                 let operator = *self.random.pick(among).expect("operators");
                 let operands = if operator.number() >= 7 { Type::Truth } else { Type::Number };
-                let left = self.effect(cell, &operands);
-                Code::Filled(Plain::Operation(operator, Box::new(left), Box::new(self.effect(cell, &operands))))
+                let (left, right) = (self.effect(cell, &operands), self.effect(cell, &operands));
+                self.holding(Plain::Operation(operator, Box::new(left), Box::new(right)))
             }
             2 => {
-                let left = self.effect(cell, &Type::Number);
-                Code::Filled(Plain::Pair(Box::new(left), Box::new(self.effect(cell, &Type::Number))))
+                let (first, second) = (self.effect(cell, &Type::Number), self.effect(cell, &Type::Number));
+                self.holding(Plain::Pair(Box::new(first), Box::new(second)))
             }
             3 => self.marked(|draft| {
-                let left = Code::Filled(draft.effect(cell, &Type::Number));
-                Code::Both(Box::new(left), Box::new(Code::Filled(draft.effect(cell, &Type::Number))))
+                let (left, right) = (draft.effect(cell, &Type::Number), draft.effect(cell, &Type::Number));
+                Code::Both(Box::new(draft.holding(left)), Box::new(draft.holding(right)))
             }),
             4 => {
                 let then = self.effect(cell, &Type::Number);
                 let otherwise = self.effect(cell, &Type::Number);
-                Code::Filled(Plain::Condition(Box::new(self.guard()), Box::new(then), Box::new(otherwise)))
+                let guard = self.guard();
+                self.holding(Plain::Condition(Box::new(guard), Box::new(then), Box::new(otherwise)))
             }
             // A choice whose branches write before they ask, or a step to it.
             5 => self.picking(cell, of),

@@ -64,7 +64,7 @@ fn break_rows(random: &mut Random, rows: &mut Vec<Row>) {
     let at = random.below(rows.len());
     let place = random.below(3);
     match random.below(16) {
-        0 => rows[at].kind = *random.pick(&[0, 5, 9, 11, 19, 32, 39, 49, 50, 99, -1]).expect("kinds"),
+        0 => rows[at].kind = *random.pick(&[0, 5, 9, 11, 19, 32, 39, 50, 60, 99, -1]).expect("kinds"),
         1 => break_unused(random, &mut rows[at]),
         2 | 13 => break_listed(random, rows),
         3 => rows[at].operands[place] = random.between(-1, rows.len() as i32),
@@ -90,7 +90,7 @@ fn break_rows(random: &mut Random, rows: &mut Vec<Row>) {
         }
         10 => break_binder(random, rows),
         11 | 12 | 14 => share_leaf(random, rows),
-        _ => rows[at].kind = random.between(20, 48),
+        _ => rows[at].kind = random.between(20, 49),
     }
     rows.truncate(LINES + 1);
 }

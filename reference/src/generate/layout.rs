@@ -172,6 +172,10 @@ impl Layout<'_> {
             Code::Both(left, right) => self.tasks(drafted, 46, left, right),
             Code::Choice(left, right) => self.tasks(drafted, 47, left, right),
             Code::Pick(left, right) => self.tasks(drafted, 48, left, right),
+            Code::View(content) => {
+                let content = self.plain(drafted, content);
+                self.row(49, content, 0, 0)
+            }
             Code::Condition(condition, then, otherwise) => {
                 let condition = self.plain(drafted, condition);
                 let (then, otherwise) = self.two(|rows| rows.code(drafted, then), |rows| rows.code(drafted, otherwise));

@@ -110,7 +110,8 @@ impl Draft<'_> {
     /// Bindings and steps over each other, or a chain of internal steps only.
     fn nested_binders(&mut self, of: &Type, levels: usize, steps_only: bool) -> Code {
         if levels == 0 {
-            return Code::Filled(self.plain(of, 5));
+            let content = self.plain(of, 5);
+            return self.holding(content);
         }
         let form = if steps_only { 5 } else { self.random.below(10) };
         if form < 4 {
@@ -122,7 +123,8 @@ impl Draft<'_> {
         }
         let bound = self.some_type(1);
         let going = if form < 8 { Going::ByItself } else { Going::AtContinue };
-        let left = Code::Filled(self.plain(&bound, 2));
+        let content = self.plain(&bound, 2);
+        let left = self.holding(content);
         let right = self.under(bound, |draft| draft.nested_binders(of, levels - 1, steps_only));
         let step = Code::Step(going, Box::new(left), Box::new(right));
         if form == 7 {

@@ -90,6 +90,10 @@ impl States<'_> {
             }
             Code::Pick(left, right) if self.moves() => self.became(context, Origin::Picked, left, right),
             Code::Pick(left, right) => Task::Pick(left, right),
+            Code::View(content) => {
+                let of = self.typing.plain(context, content).expect("typed");
+                Task::View(value(self.random, &of))
+            }
             Code::Condition(_, then, otherwise) => self.became(context, Origin::Decided, then, otherwise),
             Code::Bind(bound, body) => {
                 let of = self.typing.plain(context, bound).expect("typed");

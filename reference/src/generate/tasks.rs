@@ -39,7 +39,10 @@ impl Draft<'_> {
         ]);
         let (some, rest) = self.split(fuel);
         match (form, of) {
-            (Form::Filled, _) => Code::Filled(self.plain(of, fuel - 1)),
+            (Form::Filled, _) => {
+                let content = self.plain(of, fuel - 1);
+                self.holding(content)
+            }
             (Form::Editor, _) => self.editor(of),
             (Form::Step(going), _) => {
                 let leaves = if self.random.chance(80) { 1 } else { self.limits.leaves };
@@ -109,19 +112,33 @@ impl Draft<'_> {
         }
     }
 
-    /// An editor, seldom a fail.
+    /// An editor or a shown value, seldom a fail.
     pub fn editor(&mut self, of: &Type) -> Code {
         let cell = self.some_cell(of);
         match (self.random.below(12), cell) {
             (0, _) => Code::Fail(of.clone()),
             (1..=4, Some(cell)) => Code::Shared(cell),
             (5..=8, _) => Code::Empty(of.clone()),
-            _ => Code::Filled(self.plain(of, 1)),
+            _ => {
+                let content = self.plain(of, 1);
+                self.holding(content)
+            }
         }
     }
 
-    /// A filled editor of a constant number.
+    /// A constant number, filled or shown.
     pub fn constant(&mut self) -> Code {
-        Code::Filled(Plain::Number(self.random.between(-1, 3)))
+        let content = Plain::Number(self.random.between(-1, 3));
+        self.holding(content)
+    }
+
+    /// A task that holds this content: a filled editor, or a shown value (CR 1), so often that of the
+    /// leaves of drafts, 40 to 42, 45 and 49, about one of six is shown.
+    pub fn holding(&mut self, content: Plain) -> Code {
+        if self.random.chance(40) {
+            Code::View(content)
+        } else {
+            Code::Filled(content)
+        }
     }
 }

@@ -41,11 +41,7 @@ fn near(random: &mut Random, mut path: String, action: Action, mut leaves: Leave
     match random.below(6) {
         0 => path.push(if random.chance(50) { '1' } else { '2' }),
         1 => drop(path.pop()),
-        2 if !path.is_empty() => {
-            let at = random.below(path.len());
-            let other = if &path[at..=at] == "1" { "2" } else { "1" };
-            path.replace_range(at..=at, other);
-        }
+        2 if !path.is_empty() => exchange(random, &mut path),
         2 | 3 => {
             action = random.between(1, 4);
             if action != 1 {
@@ -66,9 +62,23 @@ fn near(random: &mut Random, mut path: String, action: Action, mut leaves: Leave
     event::write(&path, action, leaves)
 }
 
-/// Continue, Left or Right where something is shown, often to be refused.
+/// Exchanges a mark of the path, if it has one.
+fn exchange(random: &mut Random, path: &mut String) {
+    if !path.is_empty() {
+        let at = random.below(path.len());
+        let other = if &path[at..=at] == "1" { "2" } else { "1" };
+        path.replace_range(at..=at, other);
+    }
+}
+
+/// Continue, Left or Right where something is shown, or beside it: a quiet part has no entry that
+/// leads there. Often to be refused.
 fn pressing(random: &mut Random, entries: &[Entry]) -> Vec<u8> {
-    let path = random.pick(entries).map_or(String::new(), |entry| String::from_utf8_lossy(&entry.path).into_owned());
+    let entry = random.pick(entries);
+    let mut path = entry.map_or(String::new(), |entry| String::from_utf8_lossy(&entry.path).into_owned());
+    if random.chance(30) {
+        exchange(random, &mut path);
+    }
     event::write(&path, random.weighed(&[(3, 2), (1, 3), (1, 4)]), [0; LEAVES])
 }
 

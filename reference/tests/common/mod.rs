@@ -24,6 +24,12 @@ impl Sheet {
         self.row(40, number, 0, 0)
     }
 
+    /// A shown value, a number (CR 1).
+    pub fn shown(&mut self, number: i32) -> i32 {
+        let number = self.row(22, number, 0, 0);
+        self.row(49, number, 0, 0)
+    }
+
     /// An empty editor of a number. Row 0 must be the type number.
     pub fn empty(&mut self) -> i32 {
         self.row(41, 0, 0, 0)

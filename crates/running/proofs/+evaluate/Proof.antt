@@ -1,10 +1,12 @@
 -- `running::evaluate` meets its contract, an arm by the law of its kind; its measure is the row, which falls. Assumes nothing.
-use Rattle.running.proofs.Evaluating.{evaluate-edit, evaluate-step, evaluate-two, evaluate-true, evaluate-false, evaluate-let, evaluate-tag}
+use Rattle.running.proofs.Evaluating.{evaluate-content, evaluate-step, evaluate-two, evaluate-true, evaluate-false, evaluate-let, evaluate-tag}
+use Rattle.running.proofs.Forms.{contentKinds}
 use Rattle.eval.proofs.Arms.{call-a, call-b, call-c}
 use Rattle.state.proofs.Calls.{low-b, fine-at}
 use borrow.Author.Needs.{needs}
 use native.Mathlib.Omega.{arith}
-use mathlib.Core.Path.{sym, _∙_}
+use mathlib.Core.Path.{sym, _∙_, subst}
+use types.Run.{OneOf}
 use mathlib.Core.Logic.{⊎-elim}
 use Prim.Native.Nat.{ℕ, _<_}
 use borrow.Fn.Kinds.{In}
@@ -112,7 +114,7 @@ pub +evaluate-spec : {M : Type 1} → statement M
     let match-at = c .before .before in
     let get = match-at .before in
     let start = get .before in
-    call-a (start .pre) (get .get .result) (c .operand6 .result) (get .get .ensures) (c .operand6 .ensures) (omega (arith, match-at .match .keys3))
+    call-a (start .pre) (get .get .result) (c .operand6 .result) (get .get .ensures) (c .operand6 .ensures) (⊎-elim (λ e. omega (arith, e)) (λ e. omega (arith, e)) (match-at .match .keys3))
     .1)
     (λ c κs.
     let start = c .before .before .before .before .before .before in
@@ -176,9 +178,9 @@ pub +evaluate-spec : {M : Type 1} → statement M
     let match-at = operand6 .before .before in
     let get = match-at .before in
     let start = get .before in
-    evaluate-edit (start .args .rows .now) (start .args .row) (start .args .env .now) (start .args .depth) (start .args .state .now)
-    (eval3 .eval3 .last .1 .0) (c .put-value2 .last .0) (operand6 .operand6 .result) (eval3 .eval3 .result)
-    (sym (get .get .ensures) ∙ match-at .match .keys3) (operand6 .operand6 .ensures) (eval3 .eval3 .ensures) (c .put-value2 .ensures))
+    evaluate-content (start .args .rows .now) (start .args .row) (start .args .env .now) (start .args .depth) (start .args .state .now)
+    (eval3 .eval3 .last .1 .0) (c .put-value2 .last .0) (operand6 .operand6 .result) (eval3 .eval3 .result) (operand6 .operand6 .ensures)
+    (eval3 .eval3 .ensures) (c .put-value2 .ensures) (subst (OneOf contentKinds) (get .get .ensures) (match-at .match .keys3)))
     (λ c.
     let evaluate4 = c .before .before in
     let operand7 = evaluate4 .before in
@@ -212,6 +214,6 @@ pub +evaluate-spec : {M : Type 1} → statement M
     let k = get .get .ensures in
     evaluate-tag (start .args .rows .now) (start .args .row) (start .args .env .now) (start .args .depth) (start .args .state .now)
     (c .put-tag5 .last .0) (c .put-tag5 .ensures) (λ e. match-at .match .rest .0 .0 .1 (k ∙ e)) (λ e. match-at .match .rest .0 .1 (k ∙ e))
-    (λ e. match-at .match .rest .1 (k ∙ e))
+    (λ e. match-at .match .rest .1 (subst (OneOf contentKinds) (sym k) e))
     (λ p q. ⊎-elim (λ z. omega (arith, k, z .taken)) (⊎-elim (λ z. omega (arith, k, z .1 .left)) (λ z. omega (arith, k, z .1 .left))) (if2 .if2 .came))
     (λ p q. ⊎-elim (λ z. omega (arith, k, z .taken)) (⊎-elim (λ z. omega (arith, k, z .2 .taken)) (λ z. omega (arith, k, z .3 .left))) (if2 .if2 .came)))

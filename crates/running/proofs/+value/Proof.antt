@@ -1,13 +1,15 @@
 -- `running::value` meets its contract: at a row that hands on by the law of all such rows, else an arm by the law of its form; its
 -- measure is the row, which falls. Assumes nothing.
 use Rattle.running.proofs.Handing.{low-part, fine-part, value-hands}
-use Rattle.running.proofs.Values.{value-filled, value-entered, value-blank, value-shared, value-both, value-first, value-else, value-none}
+use Rattle.running.proofs.Values.{value-content, value-entered, value-blank, value-shared, value-both, value-first, value-else, value-none}
+use Rattle.running.proofs.Forms.{contentKinds}
 use Rattle.eval.proofs.Arms.{call-a, call-b}
 use Rattle.state.specs.Contracts.{ValueOk}
 use Rattle.state.proofs.Calls.{low-a}
 use borrow.Author.Needs.{needs}
 use native.Mathlib.Omega.{arith}
 use mathlib.Core.Path.{sym, _∙_, subst}
+use types.Run.{OneOf}
 use Prim.Native.Nat.{ℕ, _<_}
 use borrow.Fn.Kinds.{In}
 use borrow.Fn.PlainCycle.{Measures, is, falls, and}
@@ -139,7 +141,7 @@ pub +value-spec : {M : Type 1} → statement M
     let get = match-at .before in
     let start = get .before .before .before in
     subst (ValueOk (start .args .rows .now) (start .args .state .now) (start .args .row)) (sym (c .some .ensures))
-    (value-filled (start .args .rows .now) (start .args .state .now) (start .args .row) (read-value .read-value .result) (sym (get .get .ensures) ∙ match-at .match .keys1) (read-value .read-value .ensures)))
+    (value-content (start .args .rows .now) (start .args .state .now) (start .args .row) (read-value .read-value .result) (subst (OneOf contentKinds) (get .get .ensures) (match-at .match .keys1)) (read-value .read-value .ensures)))
     (λ c.
     let if2 = c .before in
     let read = if2 .before in
@@ -188,4 +190,4 @@ pub +value-spec : {M : Type 1} → statement M
     let handed-on = if1 .before in
     let start = handed-on .before in
     subst (ValueOk (start .args .rows .now) (start .args .state .now) (start .args .row)) (sym (c .none2 .ensures))
-    (value-none (start .args .rows .now) (start .args .state .now) (start .args .row) (handed-on .handed-on .ensures .none (if1 .if1 .left)) (λ e. match-at .match .rest .0 .0 .0 .0 .1 (get .get .ensures ∙ e)) (λ e. match-at .match .rest .0 .0 .0 .1 (get .get .ensures ∙ e)) (λ e. match-at .match .rest .0 .0 .1 (get .get .ensures ∙ e)) (λ e. match-at .match .rest .0 .1 (get .get .ensures ∙ e)) (λ e. match-at .match .rest .1 (get .get .ensures ∙ e))))
+    (value-none (start .args .rows .now) (start .args .state .now) (start .args .row) (handed-on .handed-on .ensures .none (if1 .if1 .left)) (λ e. match-at .match .rest .0 .0 .0 .0 .1 (subst (OneOf contentKinds) (sym (get .get .ensures)) e)) (λ e. match-at .match .rest .0 .0 .0 .1 (get .get .ensures ∙ e)) (λ e. match-at .match .rest .0 .0 .1 (get .get .ensures ∙ e)) (λ e. match-at .match .rest .0 .1 (get .get .ensures ∙ e)) (λ e. match-at .match .rest .1 (get .get .ensures ∙ e))))

@@ -14,7 +14,7 @@ part-from-spec = tie.close (tie.spec
     (λ c κs. search needs) (λ c κs. search needs) (λ c κs. search needs) (λ c κs. search needs)
     (λ c. let q = c .before .before .args in let e = c .by-tag .ensures in part-one (q .tag) (q .a) (q .b) (q .c) (25 ∷ []) (q .kind) (e, tt) (c .before .match .keys1))
     (λ c. let q = c .before .before .args in let e = c .by-tag2 .ensures in part-one (q .tag) (q .a) (q .b) (q .c) (31 ∷ []) (q .kind) (e, tt) (c .before .match .keys2))
-    (λ c. let q = c .before .before .args in let e = c .by-tag3 .ensures in part-one (q .tag) (q .a) (q .b) (q .c) (40 ∷ []) (q .kind) (e, tt) (c .before .match .keys3))
+    (λ c. let q = c .before .before .args in let e = c .by-tag3 .ensures in part-one (q .tag) (q .a) (q .b) (q .c) (40 ∷ 49 ∷ []) (q .kind) (e, (e, tt)) (c .before .match .keys3))
     (λ c. let q = c .before .before .args in let e = c .by-tag4 .ensures in part-one (q .tag) (q .a) (q .b) (q .c) (41 ∷ []) (q .kind) (e, tt) (c .before .match .keys4))
     (λ c. let q = c .before .before .args in let e = c .by-tag5 .ensures in part-one (q .tag) (q .a) (q .b) (q .c) (42 ∷ 45 ∷ []) (q .kind) (e, (e, tt)) (c .before .match .keys5))
     (λ c. let q = c .before .before .args in let e = c .by-tag6 .ensures in part-one (q .tag) (q .a) (q .b) (q .c) (46 ∷ []) (q .kind) (e, tt) (c .before .match .keys6))

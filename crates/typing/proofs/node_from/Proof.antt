@@ -43,7 +43,7 @@ node-from-spec =
     node-one (q .i) (q .a) (q .b) (q .c) (28 ∷ []) (q .k) (e, tt) (c .before .match .keys9))
     (λ c. let q = c .before .before .args in
     let e = c .named13 .ensures in
-    node-one (q .i) (q .a) (q .b) (q .c) (10 ∷ 29 ∷ 45 ∷ []) (q .k) (e, (e, (e, tt))) (c .before .match .keys10))
+    node-one (q .i) (q .a) (q .b) (q .c) (10 ∷ 29 ∷ 45 ∷ 49 ∷ []) (q .k) (e, (e, (e, (e, tt)))) (c .before .match .keys10))
     (λ c. let q = c .before .before .args in
     let e = c .named23 .ensures in
     node-one (q .i) (q .a) (q .b) (q .c) (30 ∷ []) (q .k) (e, tt) (c .before .match .keys11))
@@ -73,6 +73,6 @@ node-from-spec =
     node-choice (q .i) (q .a) (q .b) (q .c) (q .k) (if3 .if3 .left) (if4 .if4 .taken) (match-at .match .rest) (c .named26 .ensures))
     (λ c. let q = c .before .before .args in node-none (q .i) (q .a) (q .b) (q .c) (q .k) (c .if1 .taken) (c .before .match .rest))
     (λ c.
-    let start = c .before .before .before .before .before in
-    let q = start .args in
-    node-past (q .i) (q .a) (q .b) (q .c) (q .k) (c .if4 .left)))
+    let match-at = c .before .before .before .before in
+    let q = match-at .before .args in
+    node-past (q .i) (q .a) (q .b) (q .c) (q .k) (c .if4 .left) (match-at .match .rest)))

@@ -4,15 +4,15 @@ use mathlib.Core.Bool.{true, _||_}
 use mathlib.Core.List.{List, [], _∷_}
 use Prim.Native.Nat.{ℕ, _+_, _<_, _≤_}
 use native.Mathlib.Omega.{arith}
-use Rattle.match_laws.proofs.Ranges.{Each, Unless, NoneOf, membs, testAll, in-gap}
+use Rattle.match_laws.proofs.Ranges.{one-of, Each, Unless, NoneOf, membs, testAll, in-gap}
 use Rattle.rows.specs.Kinds.{kindOf, Asks, noAsks, asksOf}
-use Rattle.rows.proofs.KindNumbers.{isUnknown, kind-gap, kind-past, no-asks}
+use Rattle.rows.proofs.KindNumbers.{isUnknown, kind-gap, kind-beyond, no-asks}
 use Rattle.grounds.proofs.table.asks_of.Statement.{statement}
 use Rattle.grounds.proofs.table.asks_of.Tie as tie
 
 -- the arms of one number, the last first
 abbrev keys : List (List ℕ)
-keys = (48 ∷ []) ∷ (45 ∷ []) ∷ (42 ∷ []) ∷ (41 ∷ []) ∷ (40 ∷ []) ∷ (31 ∷ []) ∷ (30 ∷ []) ∷ (29 ∷ []) ∷ (26 ∷ []) ∷ (25 ∷ []) ∷ (24 ∷ []) ∷ (21 ∷ []) ∷ (20 ∷ []) ∷ (10 ∷ []) ∷ (4 ∷ []) ∷ (1 ∷ []) ∷ []
+keys = (48 ∷ []) ∷ (45 ∷ []) ∷ (42 ∷ []) ∷ (41 ∷ []) ∷ (40 ∷ 49 ∷ []) ∷ (31 ∷ []) ∷ (30 ∷ []) ∷ (29 ∷ []) ∷ (26 ∷ []) ∷ (25 ∷ []) ∷ (24 ∷ []) ∷ (21 ∷ []) ∷ (20 ∷ []) ∷ (10 ∷ []) ∷ (4 ∷ []) ∷ (1 ∷ []) ∷ []
 
 at-key : {k n : ℕ} → k ≡ n → asksOf n ≡ asksOf k
 at-key h = sym (ap asksOf h)
@@ -24,7 +24,8 @@ gap : (a n k : ℕ) → testAll (λ j. membs keys j || isUnknown j) a n ≡ true
 gap a n k t l h g = sym (no-asks k (kind-gap a n keys k t l h g))
 
 beyond : (k : ℕ) → 48 ≤ k → NoneOf keys k → noAsks ≡ asksOf k
-beyond k l g = sym (no-asks k (kind-past k (omega (arith, g .1))))
+unfolding kindOf
+beyond k l g = sym (no-asks k (kind-beyond 48 keys k refl l g))
 
 pub asks-of-spec : {M : Type 1} → statement M
 unfolding kindOf asksOf
@@ -40,7 +41,7 @@ asks-of-spec = tie.close (tie.spec
     (λ c. at-key (c .match .keys9))
     (λ c. at-key (c .match .keys10))
     (λ c. at-key (c .match .keys11))
-    (λ c. at-key (c .match .keys12))
+    (λ c. one-of (λ k. asksOf 40 ≡ asksOf k) (40 ∷ 49 ∷ []) (refl, (refl, tt)) (c .match .keys12))
     (λ c. at-key (c .match .keys13))
     (λ c. at-key (c .match .keys14))
     (λ c. at-key (c .match .keys15))
