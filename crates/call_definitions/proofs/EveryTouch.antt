@@ -23,11 +23,18 @@
 -- equations with these; nothing else here speaks of the engine: the rules are tophat's relations, and what bytes say is formats'. That start
 -- of an accepted flow answers 0, and with which task, store and strides, is in StartAnswered; that every accepted sheet loads to such a
 -- flow, of one code and one type, is in Flows. Rests on Standing and StartAnswered.
-use mathlib.Core.Logic.{_⊎_, ⊎-elim}
+use mathlib.Core.Path.{_≡_, refl, ap}
+use mathlib.Core.Logic.{_⊎_, ⊎-elim, _↔_}
 use mathlib.Core.List.{List, [], _∷_}
+use Prim.Native.Nat.{ℕ, _*_, _<_}
+use native.Mathlib.Omega.{arith}
 use lib.IntN.{ℤ}
+use lib.ListN.{length}
 use Rattle.tophat.specs.Syntax.{Ty, Code}
+use Rattle.tophat.specs.Quiet.{Quiet}
+use Rattle.formats.specs.Touches.{entryBytes}
 use Rattle.call_definitions.specs.Answers.{AcceptedFlow, IsRest}
+use Rattle.call_definitions.specs.Calls.{handleCall}
 use Rattle.call_definitions.specs.Touches.{Call, run, Started, Stands}
 use Rattle.call_definitions.proofs.Standing.{stands, call-rest}
 use Rattle.call_definitions.proofs.StartAnswered.{started-is-rest}
@@ -41,3 +48,20 @@ module _ {rows : List ℤ} {c : Code} {Σ : List Ty} {τ : Ty} (a : AcceptedFlow
 
   pub every-run : {ws : List ℤ} → Started rows ws ⊎ IsRest rows ws c Σ τ → (ks : List Call) → Stands rows (run rows ws ks) c Σ τ
   every-run h ks = stands a (run-rest (⊎-elim (started-is-rest a) (λ r. r) h) ks)
+
+-- so a screen is quiet exactly when no event at all is accepted there: what `Quiet` says in the calculus' terms is what a touch meets
+pub quiet-takes-none : {rows ws : List ℤ} {c : Code} {Σ : List Ty} {τ : Ty} (z : Stands rows ws c Σ τ)
+    → Quiet c [] (z .rest .store) (z .rest .task) ↔ ((event : List ℕ) → handleCall rows ws event .number ≡ 0 → ⊥)
+quiet-takes-none z = (
+  λ q event h.
+      let (i, k) = z .accepted-iff-covered event .0 h in
+      let e = z .entries .whole in
+      let n = ap length (z .empty-iff-quiet .1 q) in
+      omega (arith, k .0, e, n),
+  λ f. z .empty-iff-quiet .0 (none-in (z .shown) (z .count) (z .entries .whole) (λ l. let (event, k) = z .covers-some 0 l in f event (z .accepted-iff-covered event .1 (0, k)))),
+)
+  where
+    -- bytes of k entries, of which there is no first
+    none-in : (shown : List ℕ) (k : ℕ) → length shown ≡ k * entryBytes → (0 < k → ⊥) → shown ≡ []
+    none-in [] k e f = refl
+    none-in (x ∷ xs) k e f = absurd (f (omega (arith, e)))
