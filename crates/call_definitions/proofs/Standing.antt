@@ -19,7 +19,7 @@ use Rattle.tophat.specs.Normalising.{Fails}
 use Rattle.tophat.specs.Handling.{Action}
 use Rattle.tophat.specs.Showing.{Entry}
 use Rattle.tophat.specs.Runs.{Accepts, Refuses, Stands as TreeStands}
-use Rattle.tophat.proofs.Basics.{apart, no-some}
+use Rattle.tophat.proofs.Basics.{no-some}
 use Rattle.tophat.proofs.NormalisingComplete.{fails-one}
 use Rattle.tophat.proofs.EntriesAgree.{shows-is}
 use Rattle.tophat.proofs.Bound.{normalises-bound}
@@ -34,7 +34,7 @@ use Rattle.formats.proofs.CoversRead.{event-of}
 use Rattle.rows.proofs.Basics.{no, le-or-lt}
 use Rattle.rows.proofs.CellsAt.{cells-small}
 use Rattle.rows.specs.GroundNumbers.{notHandled, wrongMemory, listTooShort}
-use Rattle.call_definitions.specs.Memory.{CallAnswer, refusal, LookAnswer, lookRefusal}
+use Rattle.call_definitions.specs.Memory.{CallAnswer, refusal, LookAnswer, lookRefusal, flag}
 use Rattle.call_definitions.specs.Answers.{AcceptedFlow, IsRest, LookAnswers, look-shut, shut-21}
 use Rattle.call_definitions.specs.Calls.{opened, lookIn, lookCall, handleCall}
 use Rattle.call_definitions.specs.Touches.{Call, look, handle, after, Bounded, Stands}
@@ -104,24 +104,20 @@ module _ {rows ws : List ℤ} {c : Code} {Σ : List Ty} {τ : Ty} (a : AcceptedF
         by seen-24 h = absurd (omega (arith, h))
         by (seen-0 x d) h = refl
 
-    -- the failing flag is 1 exactly where the task fails, and 0 exactly where it does not
-    fails-is-1 : lookCall rows ws values list .number ≡ 0 → (lookCall rows ws values list .fails ≡ 1) ↔ Fails c [] s t true
-    fails-is-1 = by looked
+    -- the failing flag is that of x exactly where the rules say x
+    fails-is : (x : Bool) → lookCall rows ws values list .number ≡ 0 → (lookCall rows ws values list .fails ≡ flag x) ↔ Fails c [] s t x
+    fails-is x = by looked
       where
-        by : {z : LookAnswer} → Looked z → z .number ≡ 0 → (z .fails ≡ 1) ↔ Fails c [] s t true
-        by seen-21 h = absurd (omega (arith, h))
-        by seen-24 h = absurd (omega (arith, h))
-        by (seen-0 true d) h = ((λ e. d), (λ f. refl))
-        by (seen-0 false d) h = ((λ e. absurd (omega (arith, e))), (λ f. apart refl (fails-one f d)))
+        flag-one : (x y : Bool) → flag x ≡ flag y → x ≡ y
+        flag-one true true e = refl
+        flag-one true false e = absurd (omega (arith, e))
+        flag-one false true e = absurd (omega (arith, e))
+        flag-one false false e = refl
 
-    fails-is-0 : lookCall rows ws values list .number ≡ 0 → (lookCall rows ws values list .fails ≡ 0) ↔ Fails c [] s t false
-    fails-is-0 = by looked
-      where
-        by : {z : LookAnswer} → Looked z → z .number ≡ 0 → (z .fails ≡ 0) ↔ Fails c [] s t false
+        by : {z : LookAnswer} → Looked z → z .number ≡ 0 → (z .fails ≡ flag x) ↔ Fails c [] s t x
         by seen-21 h = absurd (omega (arith, h))
         by seen-24 h = absurd (omega (arith, h))
-        by (seen-0 true d) h = ((λ e. absurd (omega (arith, e))), (λ f. apart refl (fails-one d f)))
-        by (seen-0 false d) h = ((λ e. d), (λ f. refl))
+        by (seen-0 y d) h = ((λ e. subst (λ z. Fails c [] s t z) (flag-one y x e) d), (λ f. ap flag (fails-one d f)))
 
     look-answers : LookAnswers rows ws values list (lookCall rows ws values list)
     look-answers = cases (eqb (length values) maxLeaves)
@@ -224,8 +220,8 @@ module _ {rows ws : List ℤ} {c : Code} {Σ : List Ty} {τ : Ty} (a : AcceptedF
     covered-once = once;
     covers-some = list-covers-some es-fit;
     empty-iff-quiet = let p = no-bytes es (list-length es-fit) in let q = tree .empty-iff-quiet in ((λ h. q .0 (p .0 h)), (λ h. p .1 (q .1 h)));
-    fails-is-1 = fails-is-1;
-    fails-is-0 = fails-is-0;
+    fails-is-1 = λ values list. fails-is values list true;
+    fails-is-0 = λ values list. fails-is values list false;
     fails-decided = tree .fails-decided;
     failing-quiet = tree .failing-quiet;
   }

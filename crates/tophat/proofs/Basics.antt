@@ -1,6 +1,6 @@
 -- Truths and optional answers: what every file of proofs uses of them. Rests on nothing.
 use mathlib.Core.Path.{_≡_, refl, sym, _∙_}
-use mathlib.Core.Bool.{Bool, true, false}
+use mathlib.Core.Bool.{Bool, true, false, _&&_}
 use mathlib.Core.Option.{Option, none, some}
 use Prim.Native.Nat.{ℕ}
 use native.Mathlib.Omega.{arith}
@@ -11,6 +11,14 @@ apart e k = let z : true ≡ false = sym e ∙ k in let z : _≡_ {A = ℕ} 0 1 
 pub by-truth : {P : Type 0} (x : Bool) → (x ≡ true → P) → (x ≡ false → P) → P
 by-truth true f g = f refl
 by-truth false f g = g refl
+
+pub and-left : (x y : Bool) → x && y ≡ true → x ≡ true
+and-left true y e = refl
+and-left false y e = e
+
+pub and-right : (x y : Bool) → x && y ≡ true → y ≡ true
+and-right true y e = e
+and-right false y e = apart e refl
 
 module _ {X : Type 0} where
   pub no-some : {P : Type 0} {x : X} → _≡_ {A = Option X} none (some x) → P

@@ -5,17 +5,16 @@ use mathlib.Core.Bool.{Bool, true, false, not, _&&_}
 use mathlib.Core.Logic.{_↔_}
 use mathlib.Core.Option.{Option, none, some}
 use mathlib.Core.List.{List, [], _∷_, _++_, cons≢nil}
-use Prim.Native.Nat.{ℕ}
 use Rattle.decimal.specs.Path.{Mark, first, second}
 use Rattle.tophat.specs.Syntax.{Ty, Code, next, xor, Val, Env, Store}
 use Rattle.tophat.specs.Syntax.{TaskOf, before, unpicked}
-use Rattle.tophat.specs.Typing.{At, here, there, ValueTypes, v-cons}
+use Rattle.tophat.specs.Typing.{At, ValueTypes, v-cons}
 use Rattle.tophat.specs.Typing.{TaskType, k-then-before, k-next-before, k-both, k-either, k-unpicked}
 use Rattle.tophat.specs.Normalising.{value, BranchFails, RightFails, r-evaluated, f-xor}
 use Rattle.tophat.specs.Quiet.{Quiet, q-fail, q-view, q-and, q-or, q-then, q-next-none, q-next-fails, q-xor, q-became}
 use Rattle.tophat.specs.Handling.{Button, continue, left, right, press, Handles, h-next}
 use Rattle.tophat.specs.Showing.{Entry, marked, offers, buttonIf}
-use Rattle.tophat.proofs.Basics.{apart, no-some}
+use Rattle.tophat.proofs.Basics.{apart, and-left, and-right, no-some}
 use Rattle.tophat.proofs.ComputeNormalising.{failing, normalise, settle, rightFails, branchFails}
 use Rattle.tophat.proofs.ComputeHandling.{handle}
 use Rattle.tophat.proofs.ComputeEntries.{continueIf, entries}
@@ -25,6 +24,7 @@ use Rattle.tophat.proofs.Preservation.{option-is, value-type}
 use Rattle.tophat.proofs.NormalisingSound.{right-sound, branch-sound}
 use Rattle.tophat.proofs.NormalisingComplete.{fails-is, right-is}
 use Rattle.tophat.proofs.HandlingComplete.{handles-is}
+use Rattle.tophat.proofs.Lights.{nowhere}
 use Rattle.tophat.proofs.EntriesCover.{taken-covered}
 
 -- ---- lists without an entry
@@ -43,7 +43,7 @@ unfolding buttonIf
 button-nil true b = (λ e. refl, λ e. refl)
 button-nil false b = (λ e. absurd (cons≢nil e), λ e. apart e refl)
 
--- of a 46 or 47, and of the two buttons of a 48
+-- of a 46 or 47
 nil-marks : {es gs : List Entry} → es ≡ [] → gs ≡ [] → marked first es ++ marked second gs ≡ []
 nil-marks {es} {gs} p q = ap₂ _++_ (marked-nil first es .1 p) (marked-nil second gs .1 q)
 
@@ -54,10 +54,6 @@ nil-continue : (o : Option Val) (F : Val → Bool) → ((v : Val) → o ≡ some
 unfolding continueIf
 nil-continue none F h = refl
 nil-continue (some v) F h = button-nil (F v) continue .1 (h v refl)
-
-both-true : (x y : Bool) → x && y ≡ true → (x ≡ true) × (y ≡ true)
-both-true true y e = (refl, e)
-both-true false y e = apart e refl
 
 -- ---- a task that fails shows nothing
 
@@ -71,11 +67,14 @@ none-shown (of-then d f) s h = none-shown d s h
 none-shown (of-next {ρ = ρ} {a = a} {b = b} {t = t} d f) s h =
     ap₂ _++_ (none-shown d s h) (nil-continue (value a t s) (λ v. rightFails b (v ∷ ρ) s) (λ v e. apart h (value-lives a ρ s t v e)))
 none-shown of-fail s h = refl
-none-shown (of-and {ρ = ρ} {a = a} {b = b} {t = t} {u = u} d e) s h = let (p, q) = both-true (failing a ρ s t) (failing b ρ s u) h in nil-marks (none-shown d s p) (none-shown e s q)
-none-shown (of-or {ρ = ρ} {a = a} {b = b} {t = t} {u = u} d e) s h = let (p, q) = both-true (failing a ρ s t) (failing b ρ s u) h in nil-marks (none-shown d s p) (none-shown e s q)
+none-shown (of-and {ρ = ρ} {a = a} {b = b} {t = t} {u = u} d e) s h =
+    nil-marks (none-shown d s (and-left (failing a ρ s t) (failing b ρ s u) h)) (none-shown e s (and-right (failing a ρ s t) (failing b ρ s u) h))
+none-shown (of-or {ρ = ρ} {a = a} {b = b} {t = t} {u = u} d e) s h =
+    nil-marks (none-shown d s (and-left (failing a ρ s t) (failing b ρ s u) h)) (none-shown e s (and-right (failing a ρ s t) (failing b ρ s u) h))
 none-shown (of-xor {ρ = ρ} {a = a} {b = b} d e) s h =
-    let (p, q) = both-true (branchFails a ρ s) (branchFails b ρ s) h in
-    ap₂ _++_ (button-nil (branchFails a ρ s) left .1 p) (button-nil (branchFails b ρ s) right .1 q)
+    ap₂ _++_
+    (button-nil (branchFails a ρ s) left .1 (and-left (branchFails a ρ s) (branchFails b ρ s) h))
+    (button-nil (branchFails b ρ s) right .1 (and-right (branchFails a ρ s) (branchFails b ρ s) h))
 none-shown of-view s h = refl
 
 pub failing-empty : (c : Code) (ρ : Env) (s : Store) (t : TaskOf c) → failing c ρ s t ≡ true → entries c ρ s t ≡ []
@@ -115,10 +114,6 @@ tried : {a b : Code} {ρ : Env} {s : Store} {t : TaskOf a} (v : Val) → value a
 tried v z true r n = r
 tried v z false (r-evaluated d f) n = absurd (n _ _ (h-next z d f))
 
-nothing-at : {X P : Type 0} {xs : List X} {i : ℕ} {x : X} → xs ≡ [] → At xs i x → P
-nothing-at e here = absurd (cons≢nil e)
-nothing-at e (there d) = absurd (cons≢nil e)
-
 module _ {Σ : List Ty} where
   quiet-of : {c : Code} {ρ : Env} {t : TaskOf c} {Γ : List Ty} {τ : Ty} → Formed c ρ t → (s : Store) → TaskType Σ Γ c t τ → ValueTypes ρ Γ → ValueTypes s Σ → entries c ρ s t ≡ [] → Quiet c ρ s t
   unfolding entries offers
@@ -148,6 +143,6 @@ module _ {Σ : List Ty} where
   pub next-quiet-is : (a b : Code) {Γ : List Ty} {τ : Ty} (ρ : Env) (s : Store) (t : TaskOf a) → TaskType Σ Γ (next a b) (before t) τ → ValueTypes ρ Γ → ValueTypes s Σ → Quiet a ρ s t
       → Quiet (next a b) ρ s (before t) ↔ ((u : TaskOf (next a b)) (s₁ : Store) → Handles (next a b) ρ s (before t) [] (press continue) u s₁ → ⊥)
   next-quiet-is a b ρ s t (k-next-before k e) g h q = (
-    λ d u s₁ r. let (i, f, p, z) = taken-covered (next a b) ρ s (before t) (handles-is r) in nothing-at (quiet-empty d) p,
+    λ d u s₁ r. let (i, f, p, z) = taken-covered (next a b) ρ s (before t) (handles-is r) in nowhere (subst (λ es. At es i f) (quiet-empty d) p),
     λ n. next-quiet (value a t s) refl q (λ v z. tried v z (rightFails b (v ∷ ρ) s) (right-sound b (v ∷ ρ) s e (v-cons (option-is (value-type k h) z) g) h) n),
   )

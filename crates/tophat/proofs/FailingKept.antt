@@ -9,19 +9,11 @@ use native.Mathlib.Omega.{arith}
 use Rattle.tophat.specs.Syntax.{moves, Code, then, or, xor, Val, Env, Store}
 use Rattle.tophat.specs.Syntax.{TaskOf, unpicked}
 use Rattle.tophat.specs.Normalising.{pairOf, firstOf, value}
-use Rattle.tophat.proofs.Basics.{apart, by-truth, no-some}
+use Rattle.tophat.proofs.Basics.{apart, by-truth, and-left, and-right, no-some}
 use Rattle.tophat.proofs.ComputeEvaluation.{evaluate}
 use Rattle.tophat.proofs.ComputeNormalising.{unlessStill, strides, goOn, goOnWith, chooseRight, chooseLeft, failing, stride, normalise, settle}
 use Rattle.tophat.proofs.Became.{alike, Formed, of-became, of-edit, of-enter, of-update, of-then, of-next, of-fail, of-and, of-or, of-xor, of-view, formed}
 use Rattle.tophat.proofs.Progress.{flag-is}
-
-and-left : (x y : Bool) → x && y ≡ true → x ≡ true
-and-left true y e = refl
-and-left false y e = e
-
-and-right : (x y : Bool) → x && y ≡ true → y ≡ true
-and-right true y e = e
-and-right false y e = apart e refl
 
 right-false : (x y : Bool) → y ≡ false → x && y ≡ false
 right-false true y e = e

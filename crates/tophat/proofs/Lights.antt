@@ -31,7 +31,7 @@ pub record Lights {X : Type 0} (es : List Entry) (f : Path → Action → Option
 -- Places in a list.
 
 module _ {X : Type 0} where
-  nowhere : {i : ℕ} {x : X} → At [] i x → ⊥
+  pub nowhere : {i : ℕ} {x : X} → At [] i x → ⊥
   nowhere d = elim d [ ]
 
   one-place : {x y z : X} {i j : ℕ} → At (x ∷ []) i y → At (x ∷ []) j z → i ≡ j
