@@ -41,18 +41,22 @@ extern "C" {
 /* List memory that suffices at every rest of a flow of so many rows: it never shows more entries than it has rows. */
 #define NANNYJIFFY_LIST_BYTES(rows) (NANNYJIFFY_ENTRY_BYTES * (rows))
 
-/* What a call answers: 0, or the first ground that holds, in the order that each call names. */
+/* What a call answers: 0, or the first ground that holds, in the order that each call names. A blank, a field of spaces alone,
+ * is 0 in an operand that its kind does not use, and the empty path; it can be read as a leaf of an event, and nowhere else. */
 enum nannyjiffy_number {
     NANNYJIFFY_ACCEPTED = 0,
     NANNYJIFFY_LENGTH = 1,     /* sheet length not 45 times 1 to 256 */
-    NANNYJIFFY_UNREADABLE = 2, /* a field or byte 10 unreadable, or a wrong row number */
+    NANNYJIFFY_UNREADABLE = 2, /* a field or byte 10 unreadable, or a wrong row number; a blank where an operand is used, as row
+                                * number or kind, or in an operand of a kind that is none */
     NANNYJIFFY_NOT_LISTED = 3, /* a kind, operator, truth or unused operand not as listed */
     NANNYJIFFY_SORT = 4,       /* an operand not a lower row, or not of the sort asked */
     NANNYJIFFY_NAMING = 5,     /* the naming rule broken, or a last row that is no task by its kind */
     NANNYJIFFY_LIMIT = 6,      /* a type row over 4 leaves, or over 16 binders or marks */
     NANNYJIFFY_TYPING = 7,     /* no typing for the last row as a task */
-    NANNYJIFFY_EVENT = 8,      /* event length, byte 10, field, path digit or action bad, or a leaf not 0 at actions 2 to 4 */
-    NANNYJIFFY_HANDLING = 9,   /* no handling rule derives a step: the flow does not take this event now */
+    NANNYJIFFY_EVENT = 8,      /* event length, byte 10, field, path digit or action bad, or a leaf not 0 at actions 2 to 4; a
+                                * blank action, but no blank leaf and no blank path */
+    NANNYJIFFY_HANDLING = 9,   /* no handling rule derives a step: the flow does not take this event now; a blank leaf meets
+                                * leaf kind 0 alone */
     NANNYJIFFY_ROWS = 20,      /* rows that no accepted sheet loads to */
     NANNYJIFFY_MEMORY = 21,    /* rows memory at load, state or value memory not of its exact length */
     NANNYJIFFY_NO_STATE = 22,  /* not the writing of a state */

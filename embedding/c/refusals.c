@@ -1,6 +1,6 @@
 /* Each export from C with memory that is wrong in one way: the number that it answers, its single answers, and that lent memory, and
- * what stands beside it, keeps its content; and a look at a quiet flow, which needs no list memory. Prints nothing where all is as
- * nannyjiffy.h says. */
+ * what stands beside it, keeps its content; blanks, where they are read as 0 and where not; and a look at a quiet flow, which needs no
+ * list memory. Prints nothing where all is as nannyjiffy.h says. */
 #include "nannyjiffy.h"
 
 #include <stdio.h>
@@ -16,6 +16,14 @@ static const char quiet[] = "   0  22           5           0           0\n"
                             "   1  49           0           0           0\n";
 static const char entry[] = "               0 1 3 0 0 0\n";
 static const char give[] = "               0 1          12           0           0           0\n";
+/* The same with blanks: where nothing is meant, and where something is. */
+static const char sheet_blank[] = "   0   3                                    \n"
+                                  "   1  41           0                        \n";
+static const char sheet_missing[] = "   0   3                                    \n"
+                                    "   1  41                                    \n";
+static const char give_blank[] = "                 1           7                                    \n";
+static const char give_missing[] = "                 1                       0           0           0\n";
+static const char no_action[] = "               0            12           0           0           0\n";
 static const char left[] = "               0 3           0           0           0           0\n";
 
 /* Each memory has room in front and behind that no call may write. */
@@ -83,11 +91,14 @@ int main(void)
     CHECK(load(sheet, sizeof sheet - 2, ROWS_WORDS) == NANNYJIFFY_LENGTH);
     CHECK(load(sheet, sizeof sheet - 1, ROWS_WORDS + 1) == NANNYJIFFY_MEMORY);
     CHECK(load(sheet, NANNYJIFFY_LINE_BYTES, NANNYJIFFY_ROW_WORDS) == NANNYJIFFY_NAMING);
+    CHECK(load(sheet_missing, sizeof sheet_missing - 1, ROWS_WORDS) == NANNYJIFFY_UNREADABLE);
     CHECK(start(ROWS_WORDS, STATE_WORDS, &strides) == NANNYJIFFY_ROWS && strides == 0);
     CHECK(memcmp(&lent, &kept, sizeof lent) == 0);
 
-    CHECK(load(sheet, sizeof sheet - 1, ROWS_WORDS) == NANNYJIFFY_ACCEPTED);
+    CHECK(load(sheet_blank, sizeof sheet_blank - 1, ROWS_WORDS) == NANNYJIFFY_ACCEPTED);
     memcpy(kept.rows, (const int32_t[]){3, 0, 0, 0, 41, 0, 0, 0}, ROWS_WORDS * sizeof(int32_t));
+    CHECK(memcmp(&lent, &kept, sizeof lent) == 0);
+    CHECK(load(sheet, sizeof sheet - 1, ROWS_WORDS) == NANNYJIFFY_ACCEPTED);
     CHECK(memcmp(&lent, &kept, sizeof lent) == 0);
     CHECK(start(0, 0, &strides) == NANNYJIFFY_ROWS && strides == 0);
     CHECK(start(ROWS_WORDS, STATE_WORDS + 1, &strides) == NANNYJIFFY_MEMORY && strides == 0);
@@ -102,9 +113,14 @@ int main(void)
     check_look(look(STATE_WORDS, NANNYJIFFY_VALUE_WORDS, NANNYJIFFY_ENTRY_BYTES - 1), NANNYJIFFY_LIST);
     CHECK(handle(STATE_WORDS - 1, give, NANNYJIFFY_EVENT_BYTES, &strides) == NANNYJIFFY_MEMORY && strides == 0);
     CHECK(handle(STATE_WORDS, give, NANNYJIFFY_EVENT_BYTES - 1, &strides) == NANNYJIFFY_EVENT && strides == 0);
+    CHECK(handle(STATE_WORDS, no_action, NANNYJIFFY_EVENT_BYTES, &strides) == NANNYJIFFY_EVENT && strides == 0);
     CHECK(handle(STATE_WORDS, left, NANNYJIFFY_EVENT_BYTES, &strides) == NANNYJIFFY_HANDLING && strides == 0);
+    CHECK(handle(STATE_WORDS, give_missing, NANNYJIFFY_EVENT_BYTES, &strides) == NANNYJIFFY_HANDLING && strides == 0);
     CHECK(memcmp(&lent, &kept, sizeof lent) == 0);
 
+    CHECK(handle(STATE_WORDS, give_blank, NANNYJIFFY_EVENT_BYTES, &strides) == NANNYJIFFY_ACCEPTED && strides == 1);
+    memcpy(&kept.state[NANNYJIFFY_STATE_WORDS], (const int32_t[]){2, 3, 7}, 3 * sizeof(int32_t));
+    CHECK(memcmp(&lent, &kept, sizeof lent) == 0);
     CHECK(handle(STATE_WORDS, give, NANNYJIFFY_EVENT_BYTES, &strides) == NANNYJIFFY_ACCEPTED && strides == 1);
     memcpy(&kept.state[NANNYJIFFY_STATE_WORDS], (const int32_t[]){2, 3, 12}, 3 * sizeof(int32_t));
     CHECK(memcmp(&lent, &kept, sizeof lent) == 0);

@@ -1,7 +1,7 @@
 //! Lent memory: what sessions lend to the calls, and changes of it.
 
-use crate::lines;
 use crate::sessions::{change_bytes, hash};
+use crate::{blanks, lines};
 use reference::calls::{self, ROW};
 use reference::engine::Answers;
 use reference::event::EVENT;
@@ -67,7 +67,7 @@ pub fn make(random: &mut Random, pool: &[Lent]) -> Lent {
 }
 
 fn change(random: &mut Random, lent: &mut Lent, other: &Lent) {
-    match random.below(20) {
+    match random.below(22) {
         0 => change_bytes(random, &mut lent.text, b" 0123456789-\n"),
         1 => change_bytes(random, &mut lent.event, b" 01234-\n"),
         2 => change_bytes(random, &mut lent.list, b".27"),
@@ -80,6 +80,8 @@ fn change(random: &mut Random, lent: &mut Lent, other: &Lent) {
         11..=13 => change_rows(random, lent, other),
         14..=17 => run(random, lent),
         18 => drawn(random, lent),
+        19 => blanks::line(random, &mut lent.text),
+        20 => blanks::event(random, &mut lent.event),
         _ => lent.text.clone_from(&other.text),
     }
 }

@@ -1,5 +1,6 @@
 //! Mutated inputs, for so many seconds from a seed, to the engine and the second implementation: see `fuzz/README.md`.
 
+mod blanks;
 mod bout;
 mod cases;
 mod lent;

@@ -1,6 +1,6 @@
 //! Sessions: bytes to count, rows and events and back, and changes of them.
 
-use crate::lines;
+use crate::{blanks, lines};
 use reference::event::EVENT;
 use reference::generate::{self, touches};
 use reference::random::Random;
@@ -11,7 +11,7 @@ use reference::slips::Slip;
 use reference::state::State;
 
 /// Bytes that fields are made of, and some that they are not.
-const BYTES: &[u8] = b"    0123456789-+\n\r\0\xffx";
+const BYTES: &[u8] = b"    0123456789-+\n\r\t\0\xffx";
 /// Bytes of a session at most.
 const MOST: usize = 16_000;
 
@@ -23,10 +23,11 @@ pub fn make(random: &mut Random, pool: &[Vec<u8>]) -> Vec<u8> {
     let mut input = random.pick(pool).expect("a pool").clone();
     let other = random.pick(pool).expect("a pool");
     for _ in 0..1 + random.below(3) {
-        match random.below(10) {
+        match random.below(12) {
             0..=1 => change_bytes(random, &mut input, BYTES),
-            2..=4 => change_rows(random, &mut input, other),
-            5 => change_events(random, &mut input, other),
+            2..=3 => blank(random, &mut input),
+            4..=6 => change_rows(random, &mut input, other),
+            7 => change_events(random, &mut input, other),
             _ => touch(random, &mut input),
         }
     }
@@ -34,12 +35,26 @@ pub fn make(random: &mut Random, pool: &[Vec<u8>]) -> Vec<u8> {
     input
 }
 
+/// Where the sheet ends, where the count can be read and is met.
+fn sheet_end(input: &[u8]) -> Option<usize> {
+    let count: usize = std::str::from_utf8(input.get(..COUNT)?).ok()?.trim().parse().ok()?;
+    count.checked_mul(LINE)?.checked_add(COUNT).filter(|&end| end <= input.len())
+}
+
 /// Rows and events, where the count and the lines can be read.
 pub fn parts(input: &[u8]) -> Option<(Vec<Row>, &[u8])> {
-    let (count, rest) = input.split_at_checked(COUNT)?;
-    let count: usize = std::str::from_utf8(count).ok()?.trim().parse().ok()?;
-    let (text, events) = rest.split_at_checked(count.checked_mul(LINE)?)?;
-    sheet::read(text, Slip::None).ok().map(|rows| (rows, events))
+    let (sheet, events) = input.split_at(sheet_end(input)?);
+    sheet::read(&sheet[COUNT..], Slip::None).ok().map(|rows| (rows, events))
+}
+
+/// Fields of a line or of an event left blank.
+fn blank(random: &mut Random, input: &mut [u8]) {
+    let Some(end) = sheet_end(input) else { return };
+    if random.chance(50) {
+        blanks::line(random, &mut input[COUNT..end]);
+    } else {
+        blanks::event(random, &mut input[end..]);
+    }
 }
 
 /// A byte or a few put, taken out or put in.

@@ -129,7 +129,7 @@ fn moved(answer: Result<(Vec<i32>, usize), Ground>, state: &mut [i32]) -> (u32, 
 /// Entries one after another.
 fn bytes_of(entries: &[Entry]) -> Vec<u8> {
     let mut bytes = Vec::with_capacity(ENTRY * entries.len());
-    entries.iter().try_for_each(|entry| entry.write(&mut bytes)).expect("memory is written");
+    entries.iter().try_for_each(|entry| entry.write(&mut bytes, Slip::None)).expect("memory is written");
     bytes
 }
 

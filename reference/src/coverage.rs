@@ -1,11 +1,13 @@
-//! What cases cover: counts over kinds, operators, grounds, strides, lists, events, rows.
+//! What cases cover: counts over kinds, operators, grounds, strides, lists, events, rows, blanks.
 
-use crate::event::{Event, EVENT};
+use crate::event::{leaf_columns, Event, EVENT, PATH};
+use crate::field;
 use crate::flow::Flow;
 use crate::grounds::Ground;
-use crate::limits;
+use crate::limits::{self, LEAVES};
 use crate::rules::Rules;
-use crate::session;
+use crate::session::{self, COUNT};
+use crate::sheet::{COLUMNS, LINE};
 use crate::slips::Slip;
 use crate::state::State;
 use std::collections::BTreeMap;
@@ -72,6 +74,13 @@ pub struct Coverage {
     pub failing: Tally,
     pub values: Tally,
     pub quiet: Tally,
+    /// Answers to sheets with a blank operand, and the kinds of the rows that have one in accepted
+    /// sheets, once for each (CR 2).
+    pub blank_sheets: Tally,
+    pub blank_operands: Tally,
+    /// Answers to events with a blank leaf, and to events with a blank path.
+    pub blank_leaves: Tally,
+    pub blank_paths: Tally,
 }
 
 impl Coverage {
@@ -82,23 +91,40 @@ impl Coverage {
     }
 
     /// Runs a session and counts what it covers.
-    pub fn add(&mut self, mut input: &[u8]) {
+    pub fn add(&mut self, whole: &[u8]) {
+        let mut input = whole;
         let loaded = session::load(&mut input, Rules::default()).expect("memory is read");
+        let text = whole.get(COUNT..whole.len() - input.len()).unwrap_or_default();
         self.sheets.add(answer(loaded.as_ref().err()));
+        if blank_operands(text).next().is_some() {
+            self.blank_sheets.add(answer(loaded.as_ref().err()));
+        }
         let Ok(flow) = loaded else { return };
         self.add_flow(&flow);
+        blank_operands(text).for_each(|row| self.blank_operands.add(flow.rows[row].kind as usize));
         let (mut state, strides) = State::start(&flow);
         self.strides.add(strides);
         self.add_screen(&state);
         for event in input.chunks(EVENT) {
             let handled = state.handle(event);
-            self.events.add(answer(handled.as_ref().err()));
+            self.add_event(event, answer(handled.as_ref().err()));
             if let (Ok(strides), Some(event)) = (handled, Event::read(event, Slip::None)) {
                 self.strides.add(strides);
                 self.actions.add(event.action.number() as usize);
                 self.paths.add(event.path.len());
             }
             self.add_screen(&state);
+        }
+    }
+
+    fn add_event(&mut self, event: &[u8], answer: usize) {
+        self.events.add(answer);
+        let is_blank = |columns| event.get(columns).is_some_and(|field| field::is_blank(field, Slip::None));
+        if (0..LEAVES).any(|leaf| is_blank(leaf_columns(leaf))) {
+            self.blank_leaves.add(answer);
+        }
+        if is_blank(0..PATH) {
+            self.blank_paths.add(answer);
         }
     }
 
@@ -127,6 +153,14 @@ impl Coverage {
     }
 }
 
+/// The rows of a sheet's text that have a blank operand, once for each.
+fn blank_operands(text: &[u8]) -> impl Iterator<Item = usize> + '_ {
+    text.chunks_exact(LINE).enumerate().flat_map(|(row, line)| {
+        let blank = COLUMNS[2..].iter().filter(|columns| field::is_blank(&line[(*columns).clone()], Slip::None));
+        blank.map(move |_| row)
+    })
+}
+
 fn answer(ground: Option<&Ground>) -> usize {
     ground.map_or(0, |ground| ground.number() as usize)
 }
@@ -149,6 +183,10 @@ impl fmt::Display for Coverage {
             ("failing flag", &self.failing),
             ("value flag", &self.values),
             ("failing flag of quiet screens", &self.quiet),
+            ("sheets with a blank operand by answer", &self.blank_sheets),
+            ("kinds with a blank operand", &self.blank_operands),
+            ("events with a blank leaf by answer", &self.blank_leaves),
+            ("events with a blank path by answer", &self.blank_paths),
         ];
         for (name, tally) in tallies {
             writeln!(out, "{name} ({}):{tally}", tally.total())?;

@@ -1,16 +1,23 @@
 //! Events and list entries as bytes (01, "Touches and what is shown").
 
-use crate::field;
+use crate::field::{self, Field};
 use crate::limits::LEAVES;
 use crate::slips::Slip;
-use crate::value::Leaves;
+use crate::value::{Given, Leaves};
 use std::io::{self, Write};
+use std::ops::Range;
 
 /// Bytes an event, and columns of a path, an action and a leaf.
 pub const EVENT: usize = PATH + ACTION + LEAVES * LEAF + 1;
 pub const PATH: usize = 16;
 pub const ACTION: usize = 2;
 pub const LEAF: usize = 12;
+
+/// The columns of leaf `at`.
+pub fn leaf_columns(at: usize) -> Range<usize> {
+    let from = PATH + ACTION + LEAF * at;
+    from..from + LEAF
+}
 
 #[derive(Clone, Copy, Debug, PartialEq, Eq)]
 pub enum Action {
@@ -32,12 +39,13 @@ impl Action {
     }
 }
 
-/// A readable event. The path's digits stand as the bytes `1` and `2`, outermost first.
+/// A readable event. The path's digits stand as the bytes `1` and `2`, outermost first; blank and 0
+/// are two leaves (CR 2).
 #[derive(Clone, Copy, Debug, PartialEq, Eq)]
 pub struct Event<'e> {
     pub path: &'e [u8],
     pub action: Action,
-    pub leaves: Leaves,
+    pub leaves: Given,
 }
 
 impl<'e> Event<'e> {
@@ -48,12 +56,21 @@ impl<'e> Event<'e> {
             return None;
         }
         let path = read_path(&fields[..PATH], slip)?;
-        let action = Action::of_number(field::read(&fields[PATH..PATH + ACTION], slip)?)?;
-        let mut leaves = [0; LEAVES];
-        for (leaf, columns) in leaves.iter_mut().zip(fields[PATH + ACTION..].chunks_exact(LEAF)) {
-            *leaf = field::read(columns, slip)?;
+        let action = read_action(&fields[PATH..PATH + ACTION], slip)?;
+        let mut leaves = [None; LEAVES];
+        for (at, leaf) in leaves.iter_mut().enumerate() {
+            *leaf = match field::read(&fields[leaf_columns(at)], slip) {
+                Field::Number(number) => Some(number),
+                Field::Blank if slip != Slip::BlankLeafIsEight => None,
+                Field::Blank | Field::Unreadable => return None,
+            };
         }
-        let unused = action != Action::Value && leaves != [0; LEAVES];
+        // A leaf not 0 at actions 2 to 4; a blank is none.
+        let given = |leaf: &Option<i32>| match leaf {
+            Some(number) => *number != 0,
+            None => slip == Slip::BlankAtContinueIsEight,
+        };
+        let unused = action != Action::Value && leaves.iter().any(given);
         match slip {
             Slip::LeafAtContinueIgnored => Some(Event { path, action, leaves }),
             // Read as a value, which nothing takes at a path that long.
@@ -65,7 +82,16 @@ impl<'e> Event<'e> {
     }
 }
 
-/// The path's digits: none for `0` alone, else 1 to 16 digits 1 and 2.
+/// The action; none where it is blank.
+fn read_action(field: &[u8], slip: Slip) -> Option<Action> {
+    match field::read(field, slip) {
+        Field::Number(number) => Action::of_number(number),
+        Field::Blank if slip == Slip::BlankActionGives => Some(Action::Value),
+        Field::Blank | Field::Unreadable => None,
+    }
+}
+
+/// The path's digits: none for `0` alone and for a blank, else 1 to 16 digits 1 and 2.
 fn read_path(field: &[u8], slip: Slip) -> Option<&[u8]> {
     let mut digits = field::after_spaces(field);
     if slip == Slip::ZeroBeforePath && digits.len() > 1 {
@@ -73,8 +99,8 @@ fn read_path(field: &[u8], slip: Slip) -> Option<&[u8]> {
     }
     match digits {
         b"0" => Some(b""),
-        b"" if slip == Slip::BlankPath => Some(b""),
-        b"" => None,
+        b"" if matches!(slip, Slip::BlankPathUnreadable | Slip::BlankUnreadable) => None,
+        b"" => Some(b""),
         _ => digits.iter().all(|digit| matches!(digit, b'1' | b'2')).then_some(digits),
     }
 }
@@ -88,12 +114,16 @@ pub struct Entry {
 }
 
 impl Entry {
-    /// Path and action as in an event, four leaf kinds of 2 columns, byte 10.
-    pub fn write(&self, out: &mut impl Write) -> io::Result<()> {
+    /// Path and action as in an event, four leaf kinds of 2 columns, byte 10. What is unused is
+    /// written as 0.
+    pub fn write(&self, out: &mut impl Write, slip: Slip) -> io::Result<()> {
         write_path(out, &self.path)?;
         field::write(out, self.action.number(), ACTION)?;
         for kind in self.kinds {
-            field::write(out, kind, 2)?;
+            match kind {
+                0 if slip == Slip::BlankWritten => out.write_all(b"  ")?,
+                _ => field::write(out, kind, 2)?,
+            }
         }
         out.write_all(b"\n")
     }

@@ -1,11 +1,51 @@
-//! Fields: decimal numbers, right-justified after spaces (01, "The sheet").
+//! Fields: decimal numbers, right-justified after spaces (01, "The sheet"), and blanks (CR 2).
 
 use crate::slips::Slip;
 use std::io::{self, Write};
 
+/// What a field says.
+#[derive(Clone, Copy, Debug, PartialEq, Eq)]
+pub enum Field {
+    Number(i32),
+    /// Every column is a space. What that means, the place decides.
+    Blank,
+    Unreadable,
+}
+
+impl Field {
+    /// What it says where a number is meant: a blank is none.
+    pub fn number(self) -> Option<i32> {
+        match self {
+            Field::Number(number) => Some(number),
+            Field::Blank | Field::Unreadable => None,
+        }
+    }
+}
+
+/// What a field says.
+pub fn read(field: &[u8], slip: Slip) -> Field {
+    if is_blank(field, slip) {
+        return match slip {
+            Slip::BlankIsZero => Field::Number(0),
+            Slip::BlankUnreadable => Field::Unreadable,
+            _ => Field::Blank,
+        };
+    }
+    read_number(field, slip).map_or(Field::Unreadable, Field::Number)
+}
+
+/// Whether every column is a space: byte 32, and no other.
+pub fn is_blank(field: &[u8], slip: Slip) -> bool {
+    match slip {
+        Slip::BlankByTabs => field.iter().all(|byte| matches!(byte, b' ' | b'\t' | 0)),
+        Slip::BlankByLastColumn => field.last() == Some(&b' '),
+        _ => field.iter().all(|&byte| byte == b' '),
+    }
+}
+
 /// The number in a field: `0`, or an optional minus, a digit 1 to 9 and digits, after nothing
 /// but spaces, within signed 32 bits.
-pub fn read(field: &[u8], slip: Slip) -> Option<i32> {
+fn read_number(field: &[u8], slip: Slip) -> Option<i32> {
     let mut text = after_spaces(field);
     if slip == Slip::SpacesBehind {
         text = text.trim_ascii_end();

@@ -12,6 +12,7 @@ pub enum Sort {
 /// What an operand must be.
 #[derive(Clone, Copy, Debug, PartialEq, Eq)]
 pub enum Operand {
+    /// Nothing is meant: 0, which a text may leave blank (CR 2).
     Unused,
     Truth,
     Number,

@@ -8,12 +8,12 @@ use crate::binders::Binders;
 use crate::calls::{self, ENTRY, ROW};
 use crate::event::{Event, EVENT};
 use crate::flow::Flow;
-use crate::generate::{self, faults, layout, states, touches};
+use crate::generate::{self, blanks, faults, layout, states, touches};
 use crate::limits::LEAVES;
 use crate::random::Random;
 use crate::rules::Rules;
 use crate::session::COUNT;
-use crate::sheet::{self, Row, LINE, LINES};
+use crate::sheet::{Row, LINE, LINES};
 use crate::slips::Slip;
 use crate::state::State;
 use crate::task::Store;
@@ -41,7 +41,7 @@ fn input(random: &mut Random) -> Lent {
     let flow = Flow::of_rows(generate::accepted(random), Rules::default()).expect("accepted");
     let state = some_state(random, &flow);
     let entries = state.look().entries;
-    let text = if random.chance(60) { sheet::write(&flow.rows) } else { faulty_text(random) };
+    let text = if random.chance(60) { blanks::sheet(random, &flow.rows) } else { faulty_text(random) };
     let mut lent = Lent {
         room: drawn(random, text.len() / LINE * ROW),
         text,

@@ -1,16 +1,17 @@
 //! A second implementation of document 01, "Kiosk order flows: sheet, state and touches", and of
-//! its change request CR 1, "A total nobody can type over".
+//! its change requests CR 1, "A total nobody can type over", and CR 2, "Blank where nothing is meant".
 //!
 //! Trees inside, words in lent memory. Loading ([`sheet`], [`limits`], [`tree`], [`typing`], put
 //! together in [`flow`]); the rules ([`evaluate`], [`observe`], [`stride`], [`handle`], [`inputs`]);
 //! start, look and handle on a flow ([`state`]); the program ([`session`]). The four calls on lent
 //! memory ([`calls`]) read and write states as words ([`words`]). The rest makes cases ([`generate`])
 //! and lent memory ([`lent`]) to compare engines on ([`compare`], [`engine`], [`program`] with the
-//! [`edges`]), tells what the cases
-//! cover ([`coverage`]) and names wrong variants ([`slips`]).
+//! [`edges`] and [`blank_edges`]), tells what the cases cover ([`coverage`]) and names wrong variants
+//! ([`slips`]).
 #![forbid(unsafe_code)]
 
 pub mod binders;
+pub mod blank_edges;
 pub mod calls;
 pub mod compare;
 pub mod coverage;

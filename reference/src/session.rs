@@ -55,7 +55,7 @@ pub fn load(input: &mut impl Read, rules: Rules) -> io::Result<Result<Flow, Grou
     Ok(sheet.ok_or(Ground::Length).and_then(|sheet| Flow::load(&sheet, rules)))
 }
 
-/// The counted lines; none where the row count is unreadable, not 1 to 256, or not met.
+/// The counted lines; none where the row count is unreadable (blank, too), not 1 to 256, or not met.
 fn read_sheet(input: &mut impl Read, slip: Slip) -> io::Result<Option<Vec<u8>>> {
     let mut text = Vec::new();
     read_up_to(input, COUNT, &mut text)?;
@@ -66,7 +66,7 @@ fn read_sheet(input: &mut impl Read, slip: Slip) -> io::Result<Option<Vec<u8>>> 
 
 fn row_count(text: &[u8], slip: Slip) -> Option<usize> {
     let [columns @ .., b'\n'] = text else { return None };
-    let count = field::read(columns, slip).filter(|_| text.len() == COUNT)?;
+    let count = field::read(columns, slip).number().filter(|_| text.len() == COUNT)?;
     let most = LINES + usize::from(slip == Slip::Lines257);
     usize::try_from(count).ok().filter(|count| (1..=most).contains(count))
 }
@@ -93,5 +93,5 @@ fn print(output: &mut impl Write, answer: Result<usize, Ground>, look: &Look, sl
     }
     field::write(output, look.entries.len() as i32, 4)?;
     output.write_all(b"\n")?;
-    look.entries.iter().try_for_each(|entry| entry.write(output))
+    look.entries.iter().try_for_each(|entry| entry.write(output, slip))
 }

@@ -1,14 +1,17 @@
 //! The sheet's text to rows, and grounds 1 to 5, each over all lines before the next.
 
-use crate::field;
+use crate::field::{self, Field};
 use crate::grounds::Ground;
 use crate::kinds::{self, Operand, Sort};
 use crate::slips::Slip;
+use std::ops::Range;
 
 /// Bytes a line, its byte 10 included.
 pub const LINE: usize = 45;
 /// Lines a sheet at most.
 pub const LINES: usize = 256;
+/// The columns of a line: row number, kind, A, B, C.
+pub const COLUMNS: [Range<usize>; 5] = [0..4, 4..8, 8..20, 20..32, 32..44];
 
 /// A row of the sheet: kind and operands A, B, C.
 #[derive(Clone, Copy, Debug, PartialEq, Eq)]
@@ -51,7 +54,8 @@ pub fn count_lines(text: &[u8], slip: Slip) -> Result<usize, Ground> {
 pub fn read(text: &[u8], slip: Slip) -> Result<Vec<Row>, Ground> {
     let mut rows = Vec::with_capacity(count_lines(text, slip)?);
     for (at, line) in text.chunks_exact(LINE).enumerate() {
-        let row = read_line(at, line, slip).ok_or(Ground::Unreadable)?;
+        let before = rows.last().map_or(0, |row: &Row| row.kind);
+        let row = read_line(at, line, before, slip).ok_or(Ground::Unreadable)?;
         if slip == Slip::LineByLine && !listed(&rows, &row, slip) {
             return Err(Ground::NotListed);
         }
@@ -60,14 +64,42 @@ pub fn read(text: &[u8], slip: Slip) -> Result<Vec<Row>, Ground> {
     Ok(rows)
 }
 
-/// Row number in columns 1-4, kind 5-8, A 9-20, B 21-32, C 33-44, then byte 10.
-fn read_line(at: usize, line: &[u8], slip: Slip) -> Option<Row> {
-    let number = |columns: std::ops::Range<usize>| field::read(&line[columns], slip);
-    let numbered = number(0..4)?;
-    let row = Row { kind: number(4..8)?, operands: [number(8..20)?, number(20..32)?, number(32..44)?] };
-    let in_place = usize::try_from(numbered) == Ok(at) || slip == Slip::RowNumberUnread;
+/// Row number in columns 1-4, kind 5-8, A 9-20, B 21-32, C 33-44, then byte 10. `before` is the
+/// kind of the line before, 0 in front of the first.
+fn read_line(at: usize, line: &[u8], before: i32, slip: Slip) -> Option<Row> {
+    let [numbered, kind, a, b, c] = COLUMNS.map(|columns| field::read(&line[columns], slip));
+    let in_place = match numbered {
+        Field::Number(number) => usize::try_from(number) == Ok(at) || slip == Slip::RowNumberUnread,
+        Field::Blank => slip == Slip::BlankRowNumber,
+        Field::Unreadable => false,
+    };
+    let kind = match kind {
+        Field::Blank if slip == Slip::BlankKindNotListed => 0,
+        kind => kind.number()?,
+    };
+    let mut row = Row::new(kind, 0, 0, 0);
+    for (place, field) in [a, b, c].into_iter().enumerate() {
+        match field {
+            Field::Number(number) => row.operands[place] = number,
+            // The operand is 0.
+            Field::Blank if may_be_blank(kind, place, before, slip) => {}
+            // A row of kind 0 gets 3.
+            Field::Blank if slip == Slip::BlankNotListed => row.kind = 0,
+            Field::Blank | Field::Unreadable => return None,
+        }
+    }
     let ended = line[LINE - 1] == b'\n' || slip == Slip::ByteTenUnread;
     (in_place && ended).then_some(row)
+}
+
+/// Whether operand `place` may be left blank (CR 2): the line's own kind does not use it. A kind not
+/// listed has no operand that may.
+fn may_be_blank(kind: i32, place: usize, before: i32, slip: Slip) -> bool {
+    let kind = if slip == Slip::BlankByLineBefore { before } else { kind };
+    match kinds::operands(kind) {
+        Some(asked) => asked[place] == Operand::Unused || slip == Slip::BlankUsedOperand,
+        None => slip == Slip::BlankOfUnknownKind,
+    }
 }
 
 /// The text of rows: what [`read`] reads.

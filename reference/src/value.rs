@@ -15,6 +15,8 @@ pub enum Value {
 
 /// The leaves of a value, unused ones 0.
 pub type Leaves = [i32; LEAVES];
+/// The leaves of an event, each a number or left blank (CR 2).
+pub type Given = [Option<i32>; LEAVES];
 
 impl Value {
     pub fn pair(first: Value, second: Value) -> Self {
@@ -81,15 +83,19 @@ impl Value {
         }
     }
 
-    /// The value of type `of` that has these leaves: a unit is 0, a truth 0 or 1, unused
-    /// leaves are 0.
-    pub fn of_leaves(of: &Type, leaves: &Leaves, slip: Slip) -> Option<Value> {
+    /// The value of type `of` that has these leaves: a unit is 0, a truth 0 or 1, and none of them
+    /// blank; leaves after them are 0 or blank.
+    pub fn of_leaves(of: &Type, leaves: &Given, slip: Slip) -> Option<Value> {
         let mut rest = leaves.iter().copied();
         let value = Self::take_leaves(of, &mut rest, slip)?;
-        (slip == Slip::UnusedLeafIgnored || rest.all(|leaf| leaf == 0)).then_some(value)
+        let unused = |leaf: Option<i32>| match leaf {
+            Some(number) => number == 0 || slip == Slip::UnusedLeafIgnored,
+            None => slip != Slip::BlankUnusedLeafRefused,
+        };
+        rest.all(unused).then_some(value)
     }
 
-    fn take_leaves(of: &Type, rest: &mut impl Iterator<Item = i32>, slip: Slip) -> Option<Value> {
+    fn take_leaves(of: &Type, rest: &mut impl Iterator<Item = Option<i32>>, slip: Slip) -> Option<Value> {
         if let Type::Pair(parts) = of {
             let first = Self::take_leaves(&parts.0, rest, slip)?;
             let second = Self::take_leaves(&parts.1, rest, slip)?;
@@ -98,12 +104,17 @@ impl Value {
             }
             return Some(Value::pair(first, second));
         }
-        match (of, rest.next()?) {
-            (Type::Number, number) => Some(Value::Number(number)),
-            (Type::Truth, truth @ (0 | 1)) => Some(Value::Truth(truth == 1)),
-            (Type::Truth, _) if slip == Slip::AnyTruth => Some(Value::Truth(true)),
-            (Type::Unit, 0) => Some(Value::Unit),
-            (Type::Unit, _) if slip == Slip::AnyUnit => Some(Value::Unit),
+        let leaf = match rest.next()? {
+            None if slip == Slip::BlankLeafIsZero => Some(0),
+            leaf => leaf,
+        };
+        match (of, leaf) {
+            (Type::Number, Some(number)) => Some(Value::Number(number)),
+            (Type::Truth, Some(truth @ (0 | 1))) => Some(Value::Truth(truth == 1)),
+            (Type::Truth, Some(_)) if slip == Slip::AnyTruth => Some(Value::Truth(true)),
+            (Type::Unit, Some(0)) => Some(Value::Unit),
+            (Type::Unit, Some(_)) if slip == Slip::AnyUnit => Some(Value::Unit),
+            (Type::Unit, None) if slip == Slip::BlankMeetsUnit => Some(Value::Unit),
             _ => None,
         }
     }

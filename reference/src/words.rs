@@ -222,7 +222,7 @@ impl Reader<'_> {
         let words = &self.words[at];
         let leaves: Leaves = words[LEAF..REST].try_into().ok()?;
         let fits = words[SHAPE] == shape(of) && zero(&words[REST..]);
-        fits.then(|| Value::of_leaves(of, &leaves, Slip::None)).flatten()
+        fits.then(|| Value::of_leaves(of, &leaves.map(Some), Slip::None)).flatten()
     }
 
     /// The task, if row `at` holds a tag and no value.

@@ -4,9 +4,11 @@
 use reference::binders::Binders;
 use reference::compare::{self, Case};
 use reference::coverage::{Coverage, Tally};
-use reference::event::{Action, Event, EVENT};
+use reference::event::{Action, Entry, Event, EVENT};
 use reference::flow::Flow;
 use reference::generate::{self, states};
+use reference::grounds::Ground;
+use reference::limits::LEAVES;
 use reference::random::Random;
 use reference::rules::{Asking, Rules};
 use reference::session;
@@ -54,6 +56,14 @@ fn cases_cover_the_document() {
     at_least(&coverage.values, 0..=1, 5000, "value flag");
     // CR 1: a screen may be quiet without failing.
     at_least(&coverage.quiet, 0..=1, 201, "failing flag of quiet screens");
+    // CR 2: unused operands, leaves and paths may be blank; 24 and 25 have no unused operand.
+    at_least(&coverage.blank_sheets, 2..=7, 5, "sheets with a blank operand answered");
+    at_least(&coverage.blank_sheets, [0], 400, "sheets with a blank operand answered");
+    let with_unused = (1..=4).chain([10]).chain(20..=23).chain(26..=31).chain(40..=49);
+    at_least(&coverage.blank_operands, with_unused, 100, "blank operands of kind");
+    assert_eq!(coverage.blank_operands.of(24) + coverage.blank_operands.of(25), 0);
+    at_least(&coverage.blank_leaves, [0, 8, 9], 300, "events with a blank leaf answered");
+    at_least(&coverage.blank_paths, [0, 8, 9], 75, "events with a blank path answered");
 }
 
 #[test]
@@ -107,7 +117,7 @@ fn quiet(env: &Env, store: &Store, task: &Task) -> bool {
 
 /// Whether a handling rule derives a step for Continue at the empty path.
 fn takes_continue(env: &Env, store: &Store, task: &Task) -> bool {
-    let event = Event { path: b"", action: Action::Continue, leaves: [0; 4] };
+    let event = Event { path: b"", action: Action::Continue, leaves: [Some(0); LEAVES] };
     Rules::default().handle(env, &mut store.clone(), &mut task.clone(), event).is_some()
 }
 
@@ -135,9 +145,35 @@ fn the_list_is_empty_exactly_for_quiet_tasks() {
     assert!(without_failing > 200, "{without_failing}");
 }
 
-/// What 01, CR 1 and the paper say of every rest: strides bounded by the rows of kind 43 and 47; no
-/// entry exactly where the task is quiet, and then no event taken; a rest that normalising does not
-/// change; entries that stand once.
+/// Whether the entry covers the event: its path and action, and leaves that meet the leaf kinds. "Kinds
+/// 0 and 1 are met only by 0, 2 by 0 or 1, 3 by any number" (01); "a blank leaf meets only leaf kind 0"
+/// (CR 2).
+fn covers(entry: &Entry, event: &Event) -> bool {
+    let meets = |(kind, leaf): (&i32, &Option<i32>)| match (kind, leaf) {
+        (0, None) => true,
+        (_, None) => false,
+        (0 | 1, Some(number)) => *number == 0,
+        (2, Some(number)) => (0..=1).contains(number),
+        (_, Some(_)) => true,
+    };
+    entry.path == event.path && entry.action == event.action && entry.kinds.iter().zip(&event.leaves).all(meets)
+}
+
+/// A readable event is taken exactly where one entry covers it, and by none of two.
+fn check_covered(entries: &[Entry], event: &[u8], answer: Result<usize, Ground>) {
+    let event = Event::read(event, Slip::None);
+    let covering = event.map(|event| entries.iter().filter(|entry| covers(entry, &event)).count());
+    let expected = match answer {
+        Ok(_) => Some(1),
+        Err(Ground::Handling) => Some(0),
+        Err(_) => None,
+    };
+    assert_eq!(covering, expected, "{event:?}");
+}
+
+/// What 01, its change requests and the paper say of every rest: strides bounded by the rows of kind 43
+/// and 47; no entry exactly where the task is quiet, and then no event taken; an event taken exactly
+/// where an entry covers it; a rest that normalising does not change; entries that stand once.
 #[test]
 fn every_screen_keeps_the_theorems() {
     for case in cases() {
@@ -149,7 +185,9 @@ fn every_screen_keeps_the_theorems() {
         check_rest(&flow, &state);
         for event in input.chunks(EVENT) {
             let before = state.clone();
-            match state.handle(event) {
+            let answer = state.handle(event);
+            check_covered(&before.look().entries, event, answer);
+            match answer {
                 Ok(strides) => assert!((1..=bound).contains(&strides) && !check_quiet(&before).0),
                 Err(_) => assert_eq!(state, before),
             }

@@ -6,45 +6,16 @@ use common::*;
 use reference::flow::Flow;
 use reference::rules::Rules;
 use reference::session;
-use reference::sheet::{self, Row};
+use reference::sheet;
 use reference::state::State;
 use reference::value::Value;
-
-/// The sheet printed in 01.
-fn printed() -> Sheet {
-    let rows = [
-        [3, 0, 0, 0],
-        [41, 0, 0, 0],
-        [23, 0, 0, 0],
-        [22, 9, 0, 0],
-        [24, 5, 2, 3],
-        [23, 0, 0, 0],
-        [22, 30, 0, 0],
-        [24, 3, 5, 6],
-        [40, 7, 0, 0],
-        [45, 0, 0, 0],
-        [25, 4, 8, 9],
-        [43, 1, 10, 0],
-    ];
-    Sheet(rows.iter().map(|&[kind, a, b, c]| Row::new(kind, a, b, c)).collect())
-}
 
 /// P1 to P4 are its four answers.
 #[test]
 fn session_in_full() {
-    let expected = concat!(
-        "   0   1 0 0           0           0           0           0   1\n",
-        "               0 1 3 0 0 0\n",
-        "   0   1 0 0           0           0           0           0   1\n",
-        "               0 1 3 0 0 0\n",
-        "   0   2 0 1         120           0           0           0   1\n",
-        "               0 1 3 0 0 0\n",
-        "   9   0 0 1         120           0           0           0   1\n",
-        "               0 1 3 0 0 0\n",
-    );
     let input = input(&printed().text(), &[value("", 12), value("", 4), go_on("")]);
     let output = session::screens(&input, Rules::default());
-    assert_eq!(String::from_utf8_lossy(&output), expected);
+    assert_eq!(String::from_utf8_lossy(&output), PRINTED);
 }
 
 #[test]

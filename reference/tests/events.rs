@@ -1,10 +1,10 @@
-//! Grounds 8 and 9: events that cannot be read, and events that nothing takes.
+//! Grounds 8 and 9: events that cannot be read, and events that nothing takes. Blanks are in
+//! `blanks.rs`.
 
 mod common;
 
 use common::*;
 use reference::event;
-use reference::sheet::Row;
 
 /// Events on an empty editor of a number: 8 by their form, 9 where no rule derives a step.
 #[test]
@@ -13,16 +13,24 @@ fn grounds_8_and_9() {
     sheet.empty();
     let answer = |event: Vec<u8>| last_screen(&sheet, &[event]).answer;
     assert_eq!(answer(value("", 5)), 0);
-    for path in ["3", "01", "10", "00", "1 2", "1x", "-1", "+1", "0 ", "1 "] {
+    for path in ["3", "01", "10", "00", "1 2", "1x", "-1", "+1", "0 ", "1 ", "\t", "\0", "            0   "] {
         assert_eq!(answer(value(path, 5)), 8, "{path:?}");
     }
-    assert_eq!(answer(value(" ", 5)), 8);
     for action in [-1, 0, 5, 9] {
         assert_eq!(answer(event::write("", action, [0; 4])), 8);
     }
-    for (at, byte) in
-        [(15, b' '), (16, b'0'), (16, b'+'), (29, b'x'), (66, b' '), (66, b'\r'), (28, b'0'), (28, b'+'), (28, b'5')]
-    {
+    for (at, byte) in [
+        (15, b'\t'),
+        (16, b'0'),
+        (16, b'+'),
+        (17, b' '),
+        (29, b'x'),
+        (66, b' '),
+        (66, b'\r'),
+        (28, b'0'),
+        (28, b'+'),
+        (28, b'5'),
+    ] {
         let mut event = value("", 5);
         event[at] = byte;
         let readable = at == 28 && byte == b'5';
@@ -51,8 +59,7 @@ fn grounds_8_and_9() {
 /// Truths and units in events: 9, not 8.
 #[test]
 fn ground_9_leaves_that_do_not_fit() {
-    let pair = [[1, 0, 0, 0], [2, 0, 0, 0], [3, 0, 0, 0], [4, 1, 2, 0], [4, 0, 3, 0], [41, 4, 0, 0]];
-    let sheet = Sheet(pair.iter().map(|&[kind, a, b, c]| Row::new(kind, a, b, c)).collect());
+    let sheet = sheet_of(&[[1, 0, 0, 0], [2, 0, 0, 0], [3, 0, 0, 0], [4, 1, 2, 0], [4, 0, 3, 0], [41, 4, 0, 0]]);
     let answer = |leaves| last_screen(&sheet, &[event::write("", 1, leaves)]).answer;
     assert_eq!(last_screen(&sheet, &[]).entries, ["0 1 1 2 3 0"]);
     assert_eq!(answer([0, 1, -7, 0]), 0);

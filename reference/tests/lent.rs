@@ -4,10 +4,11 @@
 use reference::calls::{self, Looked};
 use reference::coverage::Tally;
 use reference::engine::{Answers, Engine, Reference};
-use reference::event::Event;
+use reference::event::{leaf_columns, Event, EVENT, LEAF};
 use reference::flow::Flow;
 use reference::generate::{self, states};
 use reference::lent::{self, Lent};
+use reference::limits::LEAVES;
 use reference::random::Random;
 use reference::rules::{Asking, Rules};
 use reference::slips::Slip;
@@ -82,6 +83,7 @@ faults! {
     LoadAsksMemoryFirst,
     LoadAsksMemoryLast,
     LoadWritesOnRefusal,
+    LoadRefusesBlanks,
     MemoryBeforeRows,
     RowsUnasked,
     StartOnlyOnBlankState,
@@ -99,6 +101,7 @@ faults! {
     ListFilledAsFarAsItGoes,
     EventBeforeState,
     EventOfAnyLength,
+    BlankLeavesAreZeros,
     HandleKeepsState,
     HandleClearsOnRefusal,
     HandleCountsOneMore,
@@ -140,6 +143,19 @@ fn wrong_length(rows: &[i32], state: &[i32]) -> bool {
     state.len() != rows.len() * 4
 }
 
+/// The event with 0 in its blank leaves.
+fn without_blanks(event: &[u8]) -> Vec<u8> {
+    let mut event = event.to_vec();
+    for leaf in 0..LEAVES {
+        if let Some(columns) =
+            event.get_mut(leaf_columns(leaf)).filter(|columns| columns.iter().all(|&byte| byte == b' '))
+        {
+            columns[LEAF - 1] = b'0';
+        }
+    }
+    event
+}
+
 impl Engine for Fault {
     fn load(&self, text: &[u8], rows: &mut [i32]) -> u32 {
         let exact = rows.len() == text.len() / 45 * 4;
@@ -149,6 +165,13 @@ impl Engine for Fault {
                 0 => 21,
                 number => number,
             },
+            // A number ends its field, so twelve spaces are those of a blank operand.
+            LoadRefusesBlanks if exact && text.windows(12).any(|columns| columns == [b' '; 12]) => {
+                match calls::load(text, &mut vec![0; rows.len()]) {
+                    0 => 2,
+                    number => number,
+                }
+            }
             _ => {
                 let number = calls::load(text, rows);
                 if *self == LoadWritesOnRefusal && number > 2 {
@@ -199,7 +222,11 @@ impl Engine for Fault {
 
     fn handle(&self, rows: &[i32], state: &mut [i32], event: &[u8]) -> (u32, u32) {
         let mut after = misread(*self, rows, state);
-        let event = if *self == EventOfAnyLength { &event[..event.len().min(67)] } else { event };
+        let event = &match self {
+            EventOfAnyLength => event[..event.len().min(EVENT)].to_vec(),
+            BlankLeavesAreZeros => without_blanks(event),
+            _ => event.to_vec(),
+        };
         let (number, strides) = calls::handle(rows, &mut after, event);
         match self {
             MemoryBeforeRows if wrong_length(rows, state) => return (21, 0),

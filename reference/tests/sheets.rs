@@ -22,7 +22,8 @@ fn ground_2_fields() {
     {
         assert_eq!(loads(&line("40", a)), 2, "{a:?}");
     }
-    // Ground 2 is decided without looking at kinds; readable numbers out of place are 3 and 4.
+    // Of kinds, ground 2 asks where a blank may stand alone (`blanks.rs`); readable numbers out of
+    // place are 3 and 4.
     assert_eq!(loads(&line("x", "0")), 2);
     assert_eq!(loads(&line("-1", "0")), 3);
     assert_eq!(loads(&line("40", "-2147483648")), 4);
@@ -48,37 +49,8 @@ fn ground_3_kinds_operators_truths_and_unused_operands() {
         assert_eq!(rows(&[[3, 0, 0, 0], [10, 0, truth, 0], [42, 1, 0, 0]]), 0);
         assert_eq!(rows(&[[10, 1, truth, 0], [2, 0, 0, 0], [42, 0, 0, 0]]), 4);
     }
-    // The operands used by each kind, as places: all others must be 0.
-    let used: [(i32, &[usize]); 27] = [
-        (1, &[]),
-        (2, &[]),
-        (3, &[]),
-        (4, &[1, 2]),
-        (10, &[1, 2]),
-        (20, &[]),
-        (21, &[1]),
-        (22, &[1]),
-        (23, &[1]),
-        (24, &[1, 2, 3]),
-        (25, &[1, 2, 3]),
-        (26, &[1, 2]),
-        (27, &[1]),
-        (28, &[1]),
-        (29, &[1]),
-        (30, &[1, 2]),
-        (31, &[1, 2]),
-        (40, &[1]),
-        (41, &[1]),
-        (42, &[1]),
-        (45, &[1]),
-        (43, &[1, 2]),
-        (44, &[1, 2]),
-        (46, &[1, 2]),
-        (47, &[1, 2]),
-        (48, &[1, 2]),
-        (49, &[1]),
-    ];
-    for (kind, places) in used {
+    // An operand that the kind does not use must be 0.
+    for (kind, places) in USED {
         for place in 1..=3 {
             let mut row = [kind, if kind == 24 { 1 } else { 0 }, 0, 0];
             row[place] = 1;

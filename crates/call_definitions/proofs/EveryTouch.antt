@@ -14,7 +14,8 @@
 --   stride than the rows of kind 43 and 47;
 -- - the list shown is k entries of 27 bytes, each of which can be read. An event is answered 0 exactly when one of them covers it:
 --   both say the same path and action, and the event's leaves meet the entry's leaf kinds. Two places that cover one event are one
---   place, and each entry covers some event: no entry is dead;
+--   place, and each entry covers some event: no entry is dead; each way to meet its leaf kinds, with blanks where they are 0, is said
+--   by some event's bytes;
 -- - that list is empty exactly when the task is quiet (tophat's Quiet);
 -- - the failing flag is 1 exactly when the rules say that the task fails, and 0 exactly when they say that it does not; a task that fails is
 --   quiet, and a quiet one need not fail.

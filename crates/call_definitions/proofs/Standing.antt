@@ -29,7 +29,7 @@ use Rattle.formats.specs.Touches.{eventOf, entryBytes}
 use Rattle.formats.specs.Lists.{listText, CoversAt, Fits}
 use Rattle.formats.proofs.EntriesFit.{entries-fit}
 use Rattle.formats.proofs.ListsRead.{list-length}
-use Rattle.formats.proofs.ListsCover.{list-entries, list-covers, covers-list, list-covers-some}
+use Rattle.formats.proofs.ListsCover.{list-entries, list-covers, covers-list, list-said, list-covers-some}
 use Rattle.formats.proofs.CoversRead.{event-of}
 use Rattle.rows.proofs.Basics.{no, le-or-lt}
 use Rattle.rows.proofs.CellsAt.{cells-small}
@@ -219,6 +219,7 @@ module _ {rows ws : List ℤ} {c : Code} {Σ : List Ty} {τ : Ty} (a : AcceptedF
     accepted-iff-covered = accepted;
     covered-once = once;
     covers-some = list-covers-some es-fit;
+    said = list-said es-fit;
     empty-iff-quiet = let p = no-bytes es (list-length es-fit) in let q = tree .empty-iff-quiet in ((λ h. q .0 (p .0 h)), (λ h. p .1 (q .1 h)));
     fails-is-1 = λ values list. fails-is values list true;
     fails-is-0 = λ values list. fails-is values list false;

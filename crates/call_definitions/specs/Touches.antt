@@ -15,11 +15,12 @@ use Rattle.tophat.specs.Syntax.{maxLeaves, Ty, Code, TaskOf, Store}
 use Rattle.tophat.specs.Typing.{CodeType}
 use Rattle.tophat.specs.Normalising.{Fails}
 use Rattle.tophat.specs.Quiet.{Quiet}
-use Rattle.tophat.specs.Handling.{Action}
+use Rattle.tophat.specs.Leaves.{Given, Leaf, Meets}
+use Rattle.tophat.specs.Handling.{Act, Action}
 use Rattle.tophat.specs.Residual.{residual}
 use Rattle.tophat.specs.Runs.{Accepts, Refuses}
-use Rattle.formats.specs.Touches.{eventOf}
-use Rattle.formats.specs.Lists.{Entries, CoversAt}
+use Rattle.formats.specs.Touches.{eventSays, eventOf, entrySays}
+use Rattle.formats.specs.Lists.{entryAt, Entries, CoversAt}
 use Rattle.rows.specs.GroundNumbers.{eventNotRead, notHandled, wrongMemory, listTooShort}
 use Rattle.rows.specs.Rows.{movers}
 use Rattle.rows.specs.Lent.{ownRows, rowCount}
@@ -82,12 +83,15 @@ pub record Stands (rows ws : List ℤ) (c : Code) (Σ : List Ty) (τ : Ty) : Typ
   -- all that it answers and leaves is derived by the rules
   pub handled : (event : List ℕ) → HandleAnswers rows ws event (handleCall rows ws event)
   pub bounded : (event : List ℕ) → Bounded rows (handleCall rows ws event .strides)
-  -- the list shown covers exactly the accepted events, each by just one entry; no entry is dead
+  -- the list shown covers exactly the accepted events, each by just one entry; no entry is dead, and each way to meet its leaf kinds, with
+  -- blanks where they are 0 (CR 2), is said by some event's bytes
   pub count : ℕ
   pub entries : Entries shown count
   pub accepted-iff-covered : (event : List ℕ) → (handleCall rows ws event .number ≡ 0) ↔ ((i : ℕ) × CoversAt shown count i event)
   pub covered-once : (event : List ℕ) (i j : ℕ) → CoversAt shown count i event → CoversAt shown count j event → i ≡ j
   pub covers-some : (i : ℕ) → i < count → (event : List ℕ) × CoversAt shown count i event
+  pub said : (i : ℕ) → i < count → {p : Path} {a : Act} {ks : List Leaf} → entrySays (entryAt shown i) ≡ some (p, a, ks)
+      → {ls : List Given} → Meets ks ls → (event : List ℕ) × (eventSays event ≡ some (p, a, ls))
   -- it is empty exactly when the task is quiet (CR 1)
   pub empty-iff-quiet : (shown ≡ []) ↔ Quiet c [] (rest .store) (rest .task)
   -- the failing flag is 1 exactly where the rules say that the task fails, 0 exactly where they say that it does not, and they say one of

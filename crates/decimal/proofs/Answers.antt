@@ -16,7 +16,7 @@ use mir.Syntax.{w32}
 use mir.Val.{toZ, ofZ}
 use mir.Facts.{toZ-ofZ}
 use Rattle.word.specs.Word.{IsWord}
-use Rattle.decimal.specs.Field.{Field, number, unreadable, text, justified, written, reads, readsAt, reading, putAt}
+use Rattle.decimal.specs.Field.{Field, number, blank, unreadable, text, justified, written, reads, readsAt, reading, putAt}
 use Rattle.decimal.specs.Path.{Mark, first, second, Path, pathColumns, markNumber, pathText, writtenPath, readsPath, readsPathAt, pathNumber, pathOf, pathReading, front}
 use Rattle.decimal.specs.declared.field.Reading.the-variants.{Number}
 use Rattle.decimal.specs.declared.field.Reading.the-variants as field
@@ -54,6 +54,7 @@ number-said (number z) n w e =
     let g : n ≡ ofZ w32 z = cc in
     let h : toZ w32 n ≡ z = ap (toZ w32) g ∙ toZ-ofZ (record { sfits = w z refl }) in
     record { is = ap number (sym h); word = w (toZ w32 n) (ap number (sym h)); bits = ap (ofZ w32) h ∙ sym g }
+number-said blank n w e = absurd (wrong (cc))
 number-said unreadable n w e = absurd (wrong (cc))
 
 pub number-read : (s : List ℕ) (at w n : ℕ) → Number n ≡ reading (readsAt s at w) → Said (readsAt s at w) n
@@ -61,7 +62,13 @@ number-read s at w n e = number-said (readsAt s at w) n (reads-at-word s at w) e
 
 pub nothing-said : (f : Field) → field.Unreadable ≡ reading f → f ≡ unreadable
 nothing-said (number z) e = absurd (wrong (cc))
+nothing-said blank e = absurd (wrong (cc))
 nothing-said unreadable e = refl
+
+pub blank-said : (f : Field) → field.Blank ≡ reading f → f ≡ blank
+blank-said (number z) e = absurd (wrong (cc))
+blank-said blank e = refl
+blank-said unreadable e = absurd (wrong (cc))
 
 -- ---- a path's field
 

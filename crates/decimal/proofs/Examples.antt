@@ -3,7 +3,7 @@ use mathlib.Core.Path.{_≡_, refl}
 use mathlib.Core.List.{[], _∷_}
 use mathlib.Core.Option.{none, some}
 use lib.IntN.{pos, negsuc}
-use Rattle.decimal.specs.Field.{digits, text, justified, written, number, unreadable, trimmed, counted, numeral, reads}
+use Rattle.decimal.specs.Field.{digits, text, justified, written, number, blank, unreadable, trimmed, counted, numeral, reads}
 use Rattle.decimal.specs.Path.{first, second, marksText, pathText, writtenPath, marks, pathIn, readsPath, pathNumber, marksFrom, pathOf}
 
 -- "  42", "  -7", "-2147483648" in 12 columns, and a number too wide
@@ -18,7 +18,7 @@ written-some = (refl, refl, refl, refl, refl)
 -- "  -7", " 0"; blank, "-0", "+1", "01", "1 ", " -", "-01", 2147483647, 2147483648, -2147483648
 reads-some : (reads (32 ∷ 32 ∷ 45 ∷ 55 ∷ []) ≡ number (negsuc 6))
     × (reads (32 ∷ 48 ∷ []) ≡ number (pos 0))
-    × (reads (32 ∷ 32 ∷ []) ≡ unreadable)
+    × (reads (32 ∷ 32 ∷ []) ≡ blank)
     × (reads (45 ∷ 48 ∷ []) ≡ unreadable)
     × (reads (43 ∷ 49 ∷ []) ≡ unreadable)
     × (reads (48 ∷ 49 ∷ []) ≡ unreadable)
@@ -37,7 +37,7 @@ paths-some : (pathText (first ∷ second ∷ second ∷ []) ≡ 49 ∷ 50 ∷ 50
     × (pathOf 13 ≡ first ∷ second ∷ second ∷ [])
     × (readsPath (32 ∷ 49 ∷ 50 ∷ 50 ∷ []) ≡ some (first ∷ second ∷ second ∷ []))
     × (readsPath (32 ∷ 48 ∷ []) ≡ some [])
-    × (readsPath (32 ∷ 32 ∷ []) ≡ none)
+    × (readsPath (32 ∷ 32 ∷ []) ≡ some [])
     × (readsPath (48 ∷ 48 ∷ []) ≡ none)
     × (readsPath (48 ∷ 49 ∷ []) ≡ none)
     × (readsPath (49 ∷ 48 ∷ []) ≡ none)

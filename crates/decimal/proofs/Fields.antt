@@ -12,7 +12,7 @@ use lib.Dec.{eqb}
 use lib.IntN.{ℤ, pos, negsuc}
 use lib.ListN.{length}
 use Rattle.word.specs.Word.{half, IsWord}
-use Rattle.decimal.specs.Field.{space, minus, nought, decimal, text, written, number, unreadable, trimmed, counted, positive, negative, alone, numeral, reads}
+use Rattle.decimal.specs.Field.{space, minus, nought, decimal, text, written, number, blank, unreadable, trimmed, counted, positive, negative, alone, numeral, reads}
 use Rattle.decimal.proofs.Justified.{justified-length, justified-trimmed}
 use Rattle.decimal.proofs.Digits.{digits-nil, head-of, counted-digits, counted-only}
 
@@ -45,6 +45,9 @@ numeral-text (negsuc n) h = ap negative (counted-decimal half (suc n) (omega ari
 never : {z : ℤ} → unreadable ≡ number z → ⊥
 never e = let z : _≡_ {A = ℕ} 0 1 = cc in omega arith
 
+no-number : {z : ℤ} → blank ≡ number z → ⊥
+no-number e = let z : _≡_ {A = ℕ} 0 1 = cc in omega arith
+
 -- and no other bytes do
 pub record Says (t : List ℕ) (z : ℤ) : Type 0 where
   pub word : IsWord z
@@ -73,7 +76,7 @@ alone-only (b ∷ t) z h = absurd (never h)
 
 pub numeral-only : (t : List ℕ) (z : ℤ) → numeral t ≡ number z → Says t z
 unfolding numeral
-numeral-only [] z h = absurd (never h)
+numeral-only [] z h = absurd (no-number h)
 numeral-only (b ∷ t) z h = cases (eqb b minus)
     (λ e. rw (eqb-true b minus e) (negative-only (counted half 0 t) t z refl (rw e at h)))
     (λ e. cases (eqb b nought)

@@ -2,7 +2,7 @@
 -- Rests on the definitions of specs/Field.antt alone.
 use Prim.Native.Nat.{ℕ, zero, suc, _+_, _-_}
 use mathlib.Core.Path.{_≡_, refl, sym, ap, _∙_}
-use mathlib.Core.List.{List, [], _∷_, _++_}
+use mathlib.Core.List.{List, [], _∷_, _++_, append-nil}
 use mathlib.Core.Option.{Option, none, some, Option·some-injective}
 use mathlib.Core.Logic.{_↔_}
 use native.Mathlib.Omega.{arith}
@@ -25,6 +25,20 @@ trimmed-rest [] = (0, refl)
 trimmed-rest (b ∷ bs) = cases (eqb b space)
     (λ e. let r = trimmed-rest bs in (suc (r .0), rw e ((λ i. eqb-true b space e i ∷ r .1 i))))
     (λ e. (0, rw e refl))
+
+-- nothing is left exactly of bytes that are spaces
+pub trimmed-blank : (bs : List ℕ) → (trimmed bs ≡ []) ↔ (bs ≡ replicate (length bs) space)
+unfolding trimmed
+trimmed-blank bs = (there, back)
+  where
+    there : trimmed bs ≡ [] → bs ≡ replicate (length bs) space
+    there h =
+        let (k, e) = trimmed-rest bs in
+        let g : bs ≡ replicate k space = e ∙ ap (λ t. replicate k space ++ t) h ∙ append-nil (replicate k space) in
+        g ∙ ap (λ n. replicate n space) (sym (ap length g ∙ length-replicate k space))
+
+    back : bs ≡ replicate (length bs) space → trimmed bs ≡ []
+    back h = ap trimmed (h ∙ sym (append-nil (replicate (length bs) space))) ∙ trimmed-spaces (length bs) []
 
 -- a text in its columns
 pub justified-is : (k : ℕ) (t : List ℕ) → justified (k + length t) t ≡ some (replicate k space ++ t)

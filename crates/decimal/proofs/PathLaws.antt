@@ -98,8 +98,8 @@ marks-all s at i end n z e = sym (ap (λ j. pathReading (marks (slice j end s)))
 -- ---- a path's text read
 
 module _ (s : List ℕ) (at end : ℕ) where
-  pub text-none : at ≡ end → Unreadable ≡ pathReading (pathIn (slice at end s))
-  unfolding pathIn
+  pub text-none : at ≡ end → Marks 0 ≡ pathReading (pathIn (slice at end s))
+  unfolding pathIn pathNumber
   text-none e = sym (ap (λ t. pathReading (pathIn t)) (slice-none s at end e))
 
   pub text-alone : at < end → end ≤ length s → getD s at 0 ≡ nought → at + 1 ≡ end → Marks 0 ≡ pathReading (pathIn (slice at end s))

@@ -1,18 +1,19 @@
--- THE THEOREM of paths: in every width, 01's 16 columns among them, bytes read as a path exactly where they are what writing it gives.
+-- THE THEOREM of paths: in every width, 01's 16 columns among them, bytes read as a path exactly where they are what writing it gives,
+-- or all spaces for the empty path (CR 2).
 -- Rests on proofs/Justified.antt.
 use Prim.Native.Nat.{ℕ, _+_}
 use mathlib.Core.Path.{_≡_, refl, sym, ap, _∙_}
 use mathlib.Core.List.{List, [], _∷_}
 use mathlib.Core.Option.{Option, none, some, Option·some-injective}
-use mathlib.Core.Logic.{_↔_}
+use mathlib.Core.Logic.{_↔_, _⊎_, inl, inr, ⊎-elim}
 use native.Mathlib.Omega.{arith}
 use borrow.Author.Tests.{eqb-true}
 use borrow.Table.Steps.{cases}
 use lib.Dec.{eqb}
-use lib.ListN.{length}
-use Rattle.decimal.specs.Field.{nought, justified, trimmed}
+use lib.ListN.{length, replicate}
+use Rattle.decimal.specs.Field.{space, nought, justified, trimmed}
 use Rattle.decimal.specs.Path.{Mark, first, second, Path, pathColumns, marksText, pathText, writtenPath, outside, marks, emptyAlone, pathIn, readsPath}
-use Rattle.decimal.proofs.Justified.{justified-length, justified-trimmed}
+use Rattle.decimal.proofs.Justified.{trimmed-blank, justified-length, justified-trimmed}
 
 -- ---- digits 1 and 2
 
@@ -64,29 +65,27 @@ unfolding pathText
 empty-text [] p h = ap pathText (Option·some-injective [] p h)
 empty-text (b ∷ t) p h = absurd (never h)
 
-pub path-only : (t : List ℕ) (p : Path) → pathIn t ≡ some p → t ≡ pathText p
+-- its text, or nothing for the empty path (CR 2)
+pub path-only : (t : List ℕ) (p : Path) → pathIn t ≡ some p → (t ≡ pathText p) ⊎ ((t ≡ []) × (p ≡ []))
 unfolding pathIn
-path-only [] p h = absurd (never h)
-path-only (b ∷ t) p h = cases (eqb b nought)
+path-only [] p h = inr (refl, sym (Option·some-injective [] p h))
+path-only (b ∷ t) p h = inl (cases (eqb b nought)
     (λ e. ap (λ c. c ∷ t) (eqb-true b nought e) ∙ empty-text t p (rw e at h))
-    (λ e. some-text b t p (marks-only (b ∷ t) p (rw e at h)))
+    (λ e. some-text b t p (marks-only (b ∷ t) p (rw e at h))))
 
 -- ---- the theorem
 
-pub reads-path-written : (w : ℕ) (bs : List ℕ) (p : Path) → length bs ≡ w → (readsPath bs ≡ some p) ↔ (justified w (pathText p) ≡ some bs)
-reads-path-written w bs p l = (there, back)
+pub reads-path-written : (w : ℕ) (bs : List ℕ) (p : Path) → length bs ≡ w
+    → (readsPath bs ≡ some p) ↔ ((justified w (pathText p) ≡ some bs) ⊎ ((p ≡ []) × (bs ≡ replicate (length bs) space)))
+unfolding pathIn
+reads-path-written w bs p l = (there, ⊎-elim back (λ h. ap pathIn (trimmed-blank bs .1 (h .1)) ∙ ap some (sym (h .0))))
   where
-    there : readsPath bs ≡ some p → justified w (pathText p) ≡ some bs
-    there h = justified-trimmed w (pathText p) bs (path-trimmed p) l .0 (path-only (trimmed bs) p h)
+    there : readsPath bs ≡ some p → (justified w (pathText p) ≡ some bs) ⊎ ((p ≡ []) × (bs ≡ replicate (length bs) space))
+    there h = ⊎-elim (λ e. inl (justified-trimmed w (pathText p) bs (path-trimmed p) l .0 e)) (λ e. inr (e .1, trimmed-blank bs .0 (e .0))) (path-only (trimmed bs) p h)
 
     back : justified w (pathText p) ≡ some bs → readsPath bs ≡ some p
     back h = ap pathIn (justified-trimmed w (pathText p) bs (path-trimmed p) l .1 h) ∙ path-text p
 
--- one reading for one text
-pub reads-path-injective : (cs bs : List ℕ) (p : Path) → length cs ≡ length bs → readsPath cs ≡ some p → readsPath bs ≡ some p → cs ≡ bs
-reads-path-injective cs bs p l g h =
-    Option·some-injective cs bs (sym (reads-path-written (length bs) cs p l .0 g) ∙ reads-path-written (length bs) bs p refl .0 h)
-
 -- what was written reads as the path that it was written for
 pub written-reads-path : (bs : List ℕ) (p : Path) → writtenPath p ≡ some bs → readsPath bs ≡ some p
-written-reads-path bs p h = reads-path-written pathColumns bs p (justified-length pathColumns (pathText p) bs h) .1 h
+written-reads-path bs p h = reads-path-written pathColumns bs p (justified-length pathColumns (pathText p) bs h) .1 (inl h)

@@ -14,7 +14,7 @@ use lib.Seq.{slice, slice-cons, slice-empty}
 use Rattle.word.specs.Word.{half, words}
 use Rattle.decimal.specs.Field.{space, minus, nought, nine, trimmed, counted, positive, negative, alone, numeral, reading, readsAt}
 use Rattle.decimal.specs.declared.field.Reading.{Reading}
-use Rattle.decimal.specs.declared.field.Reading.the-variants.{Number, Unreadable}
+use Rattle.decimal.specs.declared.field.Reading.the-variants.{Number, Blank, Unreadable}
 use Rattle.decimal.proofs.Digits.{counted-step}
 
 -- a field ends within the bytes
@@ -98,7 +98,7 @@ negative-n zero m r e h g = absurd (h e)
 negative-n (suc n) m r e h g = ap Number (g ∙ ap (λ k. words - k) e)
 
 module _ (s : List ℕ) (at end : ℕ) where
-  pub text-none : at ≡ end → Unreadable ≡ reading (numeral (slice at end s))
+  pub text-none : at ≡ end → Blank ≡ reading (numeral (slice at end s))
   unfolding numeral
   text-none e = sym (ap (λ t. reading (numeral t)) (slice-none s at end e))
 

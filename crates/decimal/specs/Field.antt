@@ -12,7 +12,7 @@ use mir.Syntax.{w32}
 use mir.Val.{ofZ}
 use Rattle.word.specs.Word.{half}
 use Rattle.decimal.specs.declared.field.Reading.{Reading}
-use Rattle.decimal.specs.declared.field.Reading.the-variants.{Number, Unreadable}
+use Rattle.decimal.specs.declared.field.Reading.the-variants.{Number, Blank, Unreadable}
 
 -- the bytes that a number is written with: these, and a digit d as 48 + d
 abbrev pub space : ℕ
@@ -67,6 +67,7 @@ written w z = justified w (text z)
 -- what one field says
 pub data Field : Type 0 where
   number : ℤ → Field
+  blank : Field  -- every column a space (CR 2)
   unreadable : Field
 
 -- bytes without the spaces in front
@@ -97,7 +98,7 @@ alone (b ∷ bs) = unreadable
 
 -- what the bytes after the spaces say
 unfoldable pub numeral : List ℕ → Field
-numeral [] = unreadable
+numeral [] = blank
 numeral (b ∷ bs) =
     cond (eqb b minus) (negative (counted half 0 bs))
     (cond (eqb b nought) (alone bs) (positive (counted (half - 1) 0 (b ∷ bs))))
@@ -113,6 +114,7 @@ readsAt s at w = cond (leb (at + w) (length s)) (reads (slice at (at + w) s)) un
 -- the code's answer for a field: the bits of its number
 abbrev pub reading : Field → Reading
 reading (number z) = Number (ofZ w32 z)
+reading blank = Blank
 reading unreadable = Unreadable
 
 -- writing a text t into the field of w columns from `at` on: the answer, and the bytes at exit.

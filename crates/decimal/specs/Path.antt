@@ -66,7 +66,7 @@ emptyAlone (b ∷ bs) = none
 
 -- what the bytes after the spaces say
 unfoldable pub pathIn : List ℕ → Option Path
-pathIn [] = none
+pathIn [] = some []  -- CR 2: a blank path is the empty one
 pathIn (b ∷ bs) = cond (eqb b nought) (emptyAlone bs) (marks (b ∷ bs))
 
 -- what the bytes of a path's field say; they are that path's writing (proofs/Paths.antt)

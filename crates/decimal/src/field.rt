@@ -29,9 +29,10 @@ const MOST: u32 = 2147483647;
 
 const HALF: u32 = 2147483648;
 
-// What one field says: the bits of a number in two's complement, or that it is unreadable.
+// What one field says: the bits of a number in two's complement, that it is blank, or that it is unreadable.
 pub enum Reading {
     Number(u32),
+    Blank,
     Unreadable,
 }
 
@@ -77,7 +78,7 @@ fn read_text(s: &[u8], at: usize, end: usize) -> Reading
     ensures { λ r. ⌜ r ≡ reading (numeral (slice at end (now (s .entry)))) ⌝ }
 {
     if at == end {
-        return Reading::Unreadable;
+        return Reading::Blank;
     }
     if s[at] == MINUS {
         let m = count(s, at + 1, end, HALF);

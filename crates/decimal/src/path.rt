@@ -67,7 +67,7 @@ fn read_text(s: &[u8], at: usize, end: usize) -> PathReading
     ensures { λ r. ⌜ r ≡ pathReading (pathIn (slice at end (now (s .entry)))) ⌝ }
 {
     if at == end {
-        return PathReading::Unreadable;
+        return PathReading::Marks(0); // a blank field is the empty path
     }
     if s[at] == NOUGHT {
         if at + 1 == end {

@@ -1,5 +1,5 @@
 -- `read_event` and the functions below it, each way out. Rests on word's comparison of bits and numbers, and on formats' laws of fields.
-use mathlib.Core.Path.{_≡_, refl, sym, ap, subst, _∙_}
+use mathlib.Core.Path.{_≡_, refl, sym, ap, ap₂, subst, _∙_}
 use mathlib.Core.Bool.{Bool, true, false, not, cond, _&&_, false≢true}
 use mathlib.Core.Logic.{_⊎_, ⊎-elim}
 use mathlib.Core.Option.{Option, none, some, bind}
@@ -13,27 +13,28 @@ use lib.IntN.{ℤ, pos, negsuc}
 use lib.ListN.{length, getD, replicate}
 use mir.Syntax.{w32}
 use mir.Val.{toZ, sel}
-use Rattle.word.specs.Word.{words, AllWords, eqZ}
+use Rattle.word.specs.Word.{words, eqZ}
 use Rattle.word.proofs.Order.{equal-number}
-use Rattle.word.proofs.Lists.{numbers-bits}
+use Rattle.word.proofs.TwosComplement.{number-bits}
 use Rattle.decimal.specs.Field.{number, readsAt, reading, actionColumns, wordColumns, newline}
-use Rattle.decimal.specs.declared.field.Reading.the-variants.{Number, Unreadable}
+use Rattle.decimal.specs.declared.field.Reading.the-variants.{Number, Blank, Unreadable}
 use Rattle.decimal.specs.Path.{Path, pathColumns, pathOf, readsPathAt, pathReading}
 use Rattle.decimal.specs.declared.path.PathReading.the-variants.{Marks}
 use Rattle.decimal.specs.declared.path.PathReading.the-variants as path
-use Rattle.decimal.proofs.Answers.{number-read, nothing-said, path-said, no-path-said}
+use Rattle.decimal.proofs.Answers.{number-read, blank-said, nothing-said, path-said, no-path-said}
 use Rattle.tophat.specs.Syntax.{maxLeaves}
+use Rattle.tophat.specs.Leaves.{Given}
 use Rattle.tophat.specs.Handling.{Act, giving, pressing, actNumber, actTable, Action, give, press, continue, left, right}
-use Rattle.formats.specs.declared.Numbers.{Numbers}
-use Rattle.formats.specs.Records.{total, isRecord, numberSaid, numbersAt, numbersRead}
-use Rattle.formats.specs.Touches.{eventColumns, eventBytes, numbered, touchAt, allZero, allowed, eventSays, actionOf, eventOf}
-use Rattle.formats.proofs.Records.{numbers-words}
+use Rattle.formats.specs.declared.Leaves.{Leaves}
+use Rattle.formats.specs.Records.{total, isRecord, fieldsAt, numberSaid, each, leafBits, isBlank, leavesRead}
+use Rattle.formats.specs.Touches.{eventColumns, eventBytes, numbered, touchIn, leafSaid, isNothing, allNothing, allowed, eventSays, actionOf, eventOf}
+use Rattle.formats.proofs.Records.{fields-words, GivenWords, no-leaves, blank-leaf, number-leaf, leaves-words}
 use Rattle.handle.specs.Events as engine
-use Rattle.handle.specs.Events.{giveNumber, continueNumber, leftNumber, rightNumber}
+use Rattle.handle.specs.Events.{giveNumber, continueNumber, leftNumber, rightNumber, ZeroBlanks, leavesBy}
 use Rattle.flow.specs.declared.event.EventReading.{EventReading}
 use Rattle.flow.specs.Reads.{KnownOk, Says, actionAt, touchOf, fieldsSay}
 
--- ---- leaves that are 0
+-- ---- leaves that are 0 or blank
 
 not-zero : (x : ℕ) → (x ≡ 0 → ⊥) → eqZ (toZ w32 x) (pos 0) ≡ false
 not-zero x h = by (ltb x (2 ^ 31))
@@ -42,23 +43,36 @@ not-zero x h = by (ltb x (2 ^ 31))
     by true = ne-eqb x 0 h
     by false = refl
 
-pub some-leaf : (ls : List ℕ) (k : ℕ) → k < length ls → (getD ls k 0 ≡ 0 → ⊥) → false ≡ allZero (map (toZ w32) ls)
-unfolding allZero
-some-leaf [] k l h = absurd (omega arith)
-some-leaf (x ∷ ls) zero l h = let e = not-zero x h in rw e
-some-leaf (x ∷ ls) (suc k) l h = by (eqZ (toZ w32 x) (pos 0)) (some-leaf ls k (omega arith) h)
+pub some-leaf : (ls : List ℕ) (bs : List Bool) → ZeroBlanks ls bs → (k : ℕ) → k < length ls → (getD ls k 0 ≡ 0 → ⊥) → false ≡ allNothing (leavesBy ls bs)
+unfolding allNothing isNothing leavesBy
+some-leaf [] bs z k l h = absurd (omega arith)
+some-leaf (x ∷ ls) [] z zero l h = let e = not-zero x h in rw e
+some-leaf (x ∷ ls) [] z (suc k) l h = later (eqZ (toZ w32 x) (pos 0)) (some-leaf ls [] (λ k e. absurd (false≢true e)) k (omega arith) h)
   where
-    by : (b : Bool) → false ≡ allZero (map (toZ w32) ls) → false ≡ b && allZero (map (toZ w32) ls)
-    by true e = e
-    by false e = refl
+    later : (b : Bool) → false ≡ allNothing (leavesBy ls []) → false ≡ b && allNothing (leavesBy ls [])
+    later true e = e
+    later false e = refl
+some-leaf (x ∷ ls) (true ∷ bs) z zero l h = absurd (h (z 0 refl))
+some-leaf (x ∷ ls) (false ∷ bs) z zero l h = let e = not-zero x h in rw e
+some-leaf (x ∷ ls) (true ∷ bs) z (suc k) l h = some-leaf ls bs (λ k. z (suc k)) k (omega arith) h
+some-leaf (x ∷ ls) (false ∷ bs) z (suc k) l h = later (eqZ (toZ w32 x) (pos 0)) (some-leaf ls bs (λ k. z (suc k)) k (omega arith) h)
+  where
+    later : (b : Bool) → false ≡ allNothing (leavesBy ls bs) → false ≡ b && allNothing (leavesBy ls bs)
+    later true e = e
+    later false e = refl
 
-pub no-leaf : (ls : List ℕ) (k : ℕ) → length ls ≤ k → ((i : ℕ) → i < k → getD ls i 0 ≡ 0) → true ≡ allZero (map (toZ w32) ls)
-unfolding allZero
-no-leaf [] k l h = refl
-no-leaf (x ∷ ls) zero l h = absurd (omega arith)
-no-leaf (x ∷ ls) (suc k) l h =
+pub no-leaf : (ls : List ℕ) (bs : List Bool) (k : ℕ) → length ls ≤ k → ((i : ℕ) → i < k → getD ls i 0 ≡ 0) → true ≡ allNothing (leavesBy ls bs)
+unfolding allNothing isNothing leavesBy
+no-leaf [] bs k l h = refl
+no-leaf (x ∷ ls) bs zero l h = absurd (omega arith)
+no-leaf (x ∷ ls) [] (suc k) l h =
     let e : x ≡ 0 = h 0 (omega arith) in
-    let g = no-leaf ls k (omega arith) (λ i m. h (suc i) (omega arith)) in
+    let g = no-leaf ls [] k (omega arith) (λ i m. h (suc i) (omega arith)) in
+    rw (e, sym g)
+no-leaf (x ∷ ls) (true ∷ bs) (suc k) l h = no-leaf ls bs k (omega arith) (λ i m. h (suc i) (omega arith))
+no-leaf (x ∷ ls) (false ∷ bs) (suc k) l h =
+    let e : x ≡ 0 = h 0 (omega arith) in
+    let g = no-leaf ls bs k (omega arith) (λ i m. h (suc i) (omega arith)) in
     rw (e, sym g)
 
 pub one-more : (ls : List ℕ) (k : ℕ) → ((i : ℕ) → i < k → getD ls i 0 ≡ 0) → getD ls k 0 ≡ 0 → (i : ℕ) → i < k + 1 → getD ls i 0 ≡ 0
@@ -73,13 +87,10 @@ one-more ls k h e i l = ⊎-elim (λ q. ap (λ j. getD ls j 0) q ∙ e) (λ m. h
 same-action : (a : ℕ) (n : ℕ) → a < words → n < words → toZ w32 n ≡ pos n → eqb a n ≡ eqZ (toZ w32 a) (pos n)
 same-action a n h g e = equal-number a n h g ∙ ap (eqZ (toZ w32 a)) e
 
-module _ (a : ℕ) (ls : List ℕ) (h : a < words) where
-  abbrev zs : List ℤ
-  zs = map (toZ w32) ls
-
+module _ (a : ℕ) (zs : List Given) (h : a < words) where
   -- the action of bits, by the tests that the engine's own definition makes
   abbrev tested : Bool → Bool → Bool → Bool → Option Action
-  tested x y z u = cond x (some (give zs)) (cond y (cond (allZero zs) (some (press continue)) none) (cond z (cond (allZero zs) (some (press left)) none) (cond u (cond (allZero zs) (some (press right)) none) none)))
+  tested x y z u = cond x (some (give zs)) (cond y (cond (allNothing zs) (some (press continue)) none) (cond z (cond (allNothing zs) (some (press left)) none) (cond u (cond (allNothing zs) (some (press right)) none) none)))
 
   tests : actionAt (toZ w32 a) zs ≡ tested (eqb a giveNumber) (eqb a continueNumber) (eqb a leftNumber) (eqb a rightNumber)
   unfolding actionAt numbered bind allowed actionOf
@@ -97,7 +108,7 @@ module _ (a : ℕ) (ls : List ℕ) (h : a < words) where
       by false false false true = refl
       by false false false false = refl
 
-  pub known-value : a ≡ giveNumber → KnownOk a ls true
+  pub known-value : a ≡ giveNumber → KnownOk a zs true
   unfolding engine.actionBy
   known-value e =
       let p = eq-eqb a giveNumber e in
@@ -105,14 +116,14 @@ module _ (a : ℕ) (ls : List ℕ) (h : a < words) where
       record { yes = λ z. (t ∙ rw p, omega (arith, e), omega (arith, e)); no = λ z. absurd (false≢true (sym z)) }
 
   -- no action's number
-  pub unknown : (a ≡ giveNumber → ⊥) → (a ≡ continueNumber → ⊥) → (a ≡ leftNumber → ⊥) → (a ≡ rightNumber → ⊥) → KnownOk a ls false
+  pub unknown : (a ≡ giveNumber → ⊥) → (a ≡ continueNumber → ⊥) → (a ≡ leftNumber → ⊥) → (a ≡ rightNumber → ⊥) → KnownOk a zs false
   unknown p q r u =
       let p₁ = ne-eqb a giveNumber p in let q₁ = ne-eqb a continueNumber q in let r₁ = ne-eqb a leftNumber r in let u₁ = ne-eqb a rightNumber u in
       record { yes = λ z. absurd (false≢true z); no = λ z. tests ∙ rw (p₁, q₁, r₁, u₁) }
 
   -- one of the other three
   others : continueNumber ≤ a → a ≤ rightNumber → (x y : Bool) → eqb a continueNumber ≡ x → eqb a leftNumber ≡ y
-      → tested false x y (eqb a rightNumber) ≡ cond (allZero zs) (some (cond x (press continue) (cond y (press left) (press right)))) none
+      → tested false x y (eqb a rightNumber) ≡ cond (allNothing zs) (some (cond x (press continue) (cond y (press left) (press right)))) none
   others l m true y f g = refl
   others l m false true f g = refl
   others l m false false f g =
@@ -123,41 +134,77 @@ module _ (a : ℕ) (ls : List ℕ) (h : a < words) where
       last q r = omega (arith, l, m, q, r)
 
   -- an action without leaves
-  pub known-other : (a ≡ giveNumber → ⊥) → continueNumber ≤ a → a ≤ rightNumber → (b : Bool) → b ≡ allZero zs → KnownOk a ls b
+  pub known-other : (a ≡ giveNumber → ⊥) → continueNumber ≤ a → a ≤ rightNumber → (b : Bool) → b ≡ allNothing zs → KnownOk a zs b
   unfolding engine.actionBy
   known-other p l m b e =
       let p₁ = ne-eqb a giveNumber p in
-      let t : actionAt (toZ w32 a) zs ≡ cond b (some (engine.actionBy a ls)) none =
+      let t : actionAt (toZ w32 a) zs ≡ cond b (some (engine.actionBy a zs)) none =
       tests ∙ ap (λ x. tested x (eqb a continueNumber) (eqb a leftNumber) (eqb a rightNumber)) p₁ ∙ others l m (eqb a continueNumber) (eqb a leftNumber) refl refl
       ∙ ap (λ b. cond b (some (cond (eqb a continueNumber) (press continue) (cond (eqb a leftNumber) (press left) (press right)))) none) (sym e)
       ∙ ap (λ x. cond b (some (cond x (give zs) (cond (eqb a continueNumber) (press continue) (cond (eqb a leftNumber) (press left) (press right))))) none) (sym p₁) in
       record {
-        yes = λ y. (t ∙ ap (λ b. cond b (some (engine.actionBy a ls)) none) y, omega arith, m);
-        no = λ y. t ∙ ap (λ b. cond b (some (engine.actionBy a ls)) none) y;
+        yes = λ y. (t ∙ ap (λ b. cond b (some (engine.actionBy a zs)) none) y, omega arith, m);
+        no = λ y. t ∙ ap (λ b. cond b (some (engine.actionBy a zs)) none) y;
       }
+
+-- ---- leaves that were read: they are those of their bits and flags
+
+leaves-back : {ls : List Given} → GivenWords ls → leavesBy (map leafBits ls) (map isBlank ls) ≡ ls
+unfolding leavesBy leafBits isBlank
+leaves-back no-leaves = refl
+leaves-back (blank-leaf k) = ap (λ ls. none ∷ ls) (leaves-back k)
+leaves-back (number-leaf {z} w k) = ap₂ (λ z ls. some z ∷ ls) (number-bits z w) (leaves-back k)
+
+-- and a blank one's bits are 0
+zero-bits : leafBits none ≡ 0
+unfolding leafBits
+zero-bits = refl
+
+number-shown : (z : ℤ) → isBlank (some z) ≡ true → ⊥
+unfolding isBlank
+number-shown z f = false≢true f
+
+zeros : (n k : ℕ) → _≡_ {A = ℕ} (getD (replicate n 0) k 0) 0
+zeros zero k = refl
+zeros (suc n) zero = refl
+zeros (suc n) (suc k) = zeros n k
+
+pub zero-blanks : (ls : Leaves) (o : Option (List Given)) → ls ≡ leavesRead o → ZeroBlanks (ls .words) (ls .blank)
+unfolding leavesRead
+zero-blanks ls o e = subst (λ ls. ZeroBlanks (ls .words) (ls .blank)) (sym e) (by o)
+  where
+    each-zero : (ls : List Given) → ZeroBlanks (map leafBits ls) (map isBlank ls)
+    each-zero [] k f = refl
+    each-zero (none ∷ ls) zero f = zero-bits
+    each-zero (some z ∷ ls) zero f = absurd (number-shown z f)
+    each-zero (l ∷ ls) (suc k) f = each-zero ls k f
+
+    by : (o : Option (List Given)) → ZeroBlanks (leavesRead o .words) (leavesRead o .blank)
+    by none = λ k f. zeros maxLeaves k
+    by (some ls) = each-zero ls
 
 -- ---- a path, an action and leaves that were read
 
 pub says-unread : (r : EventReading) (o : Option (Path × Action)) → r .readable ≡ false → o ≡ none → Says r o
 says-unread r o e q = subst (Says r) (sym q) e
 
-module _ (p a : ℕ) (ls : Numbers) where
+module _ (p a : ℕ) (ls : Leaves) where
   pub leaves-unread : (r : EventReading) → r .readable ≡ false → not (ls .readable) ≡ true → Says r (touchOf p a ls)
   unfolding touchOf
   leaves-unread r e h = says-unread r (touchOf p a ls) e (let k = not-true (ls .readable) h in rw k)
 
-  module _ (f : not (ls .readable) ≡ false) (b : Bool) (k : KnownOk a (ls .words) b) where
+  module _ (f : not (ls .readable) ≡ false) (b : Bool) (k : KnownOk a (leavesBy (ls .words) (ls .blank)) b) where
     pub action-unknown : (r : EventReading) → r .readable ≡ false → not b ≡ true → Says r (touchOf p a ls)
     unfolding touchOf bind
     action-unknown r e h = says-unread r (touchOf p a ls) e (let g = not-false (ls .readable) f in let q = k .no (not-true b h) in rw (g, q))
 
-    pub says-event : not b ≡ false → Says (record { readable = true; event = record { path = p; action = a; leaves = ls .words } }) (touchOf p a ls)
+    pub says-event : ZeroBlanks (ls .words) (ls .blank) → not b ≡ false → Says (record { readable = true; event = record { path = p; action = a; leaves = ls .words; blank = ls .blank } }) (touchOf p a ls)
     unfolding touchOf bind
-    says-event h =
+    says-event z h =
         let g = not-false (ls .readable) f in
         let (q, l, m) = k .yes (not-false b h) in
-        let o : touchOf p a ls ≡ some (pathOf p, engine.actionBy a (ls .words)) = rw (g, q) in
-        subst (Says (record { readable = true; event = record { path = p; action = a; leaves = ls .words } })) (sym o) (refl, refl, refl, (l, m))
+        let o : touchOf p a ls ≡ some (pathOf p, engine.actionBy a (leavesBy (ls .words) (ls .blank))) = rw (g, q) in
+        subst (Says (record { readable = true; event = record { path = p; action = a; leaves = ls .words; blank = ls .blank } })) (sym o) (refl, refl, refl, (l, m, z))
 
 -- ---- the fields
 
@@ -167,28 +214,33 @@ module _ (s : List ℕ) where
   no-path e = let f = no-path-said (readsPathAt s 0) e in rw f
 
   module _ (p : ℕ) (e : Marks p ≡ pathReading (readsPathAt s 0)) where
+    pub blank-action : Blank ≡ reading (readsAt s pathColumns actionColumns) → fieldsSay s ≡ none
+    unfolding fieldsSay bind numberSaid
+    blank-action g = let f = path-said (readsPathAt s 0) p e in let h = blank-said (readsAt s pathColumns actionColumns) g in rw (f, h)
+
     pub no-action : Unreadable ≡ reading (readsAt s pathColumns actionColumns) → fieldsSay s ≡ none
     unfolding fieldsSay bind numberSaid
     no-action g = let f = path-said (readsPathAt s 0) p e in let h = nothing-said (readsAt s pathColumns actionColumns) g in rw (f, h)
 
     -- the leaves as they were read
-    pub fields-are : (a : ℕ) → Number a ≡ reading (readsAt s pathColumns actionColumns) → (ls : Numbers) → ls ≡ numbersRead (numbersAt s (pathColumns + actionColumns) (replicate maxLeaves wordColumns))
+    pub fields-are : (a : ℕ) → Number a ≡ reading (readsAt s pathColumns actionColumns) → (ls : Leaves) → ls ≡ leavesRead (each leafSaid (fieldsAt s (pathColumns + actionColumns) (replicate maxLeaves wordColumns)))
         → fieldsSay s ≡ touchOf p a ls
-    unfolding fieldsSay numberSaid bind touchOf numbersRead
+    unfolding fieldsSay numberSaid bind touchOf leavesRead
     fields-are a g ls h =
         let f = path-said (readsPathAt s 0) p e in
         let k = number-read s pathColumns actionColumns a g .is in
-        rw (f, k) (by (numbersAt s (pathColumns + actionColumns) (replicate maxLeaves wordColumns)) (λ zs q. numbers-words s (pathColumns + actionColumns) (replicate maxLeaves wordColumns) q) ∙ ap (touchOf p a) (sym h))
+        let fs = fieldsAt s (pathColumns + actionColumns) (replicate maxLeaves wordColumns) in
+        rw (f, k) (by (each leafSaid fs) (λ ls q. leaves-words (fields-words s (pathColumns + actionColumns) (replicate maxLeaves wordColumns)) q) ∙ ap (touchOf p a) (sym h))
       where
-        by : (o : Option (List ℤ)) → ((zs : List ℤ) → o ≡ some zs → AllWords zs) → bind o (λ ls. bind (actionAt (toZ w32 a) ls) λ x. some (pathOf p, x)) ≡ touchOf p a (numbersRead o)
+        by : (o : Option (List Given)) → ((ls : List Given) → o ≡ some ls → GivenWords ls) → bind o (λ ls. bind (actionAt (toZ w32 a) ls) λ x. some (pathOf p, x)) ≡ touchOf p a (leavesRead o)
         by none w = refl
-        by (some zs) w = ap (λ ls. bind (actionAt (toZ w32 a) ls) λ x. some (pathOf p, x)) (sym (numbers-bits zs (w zs refl)))
+        by (some ls) w = ap (λ ls. bind (actionAt (toZ w32 a) ls) λ x. some (pathOf p, x)) (sym (leaves-back (w ls refl)))
 
 -- ---- the whole event
 
 -- a touch's fields, and its leaves allowed, in either order
 abbrev Touch : Type 0
-Touch = Path × Act × List ℤ
+Touch = Path × Act × List Given
 
 abbrev allow : Touch → Option Touch
 allow t = cond (allowed (t .1) (t .2)) (some t) none
@@ -196,10 +248,10 @@ allow t = cond (allowed (t .1) (t .2)) (some t) none
 abbrev asAction : Touch → Option (Path × Action)
 asAction t = some (t .0, actionOf (t .1) (t .2))
 
-abbrev actionIn : Path → Option Act → List ℤ → Option (Path × Action)
+abbrev actionIn : Path → Option Act → List Given → Option (Path × Action)
 actionIn q o ls = bind (bind o λ k. cond (allowed k ls) (some (actionOf k ls)) none) λ x. some (q, x)
 
-same-act : (q : Path) (o : Option Act) (ol : Option (List ℤ)) → bind (bind (bind {B = Touch} o λ k. bind ol λ ls. some (q, k, ls)) allow) asAction ≡ bind ol (actionIn q o)
+same-act : (q : Path) (o : Option Act) (ol : Option (List Given)) → bind (bind (bind {B = Touch} o λ k. bind ol λ ls. some (q, k, ls)) allow) asAction ≡ bind ol (actionIn q o)
 unfolding bind
 same-act q none none = refl
 same-act q none (some ls) = refl
@@ -210,7 +262,7 @@ same-act q (some k) (some ls) = by (allowed k ls)
     by true = refl
     by false = refl
 
-same-touch : (op : Option Path) (on : Option ℤ) (ol : Option (List ℤ))
+same-touch : (op : Option Path) (on : Option ℤ) (ol : Option (List Given))
     → bind (bind (bind {B = Touch} op λ q. bind on λ n. bind (numbered actNumber actTable n) λ k. bind ol λ ls. some (q, k, ls)) allow) asAction
     ≡ bind op λ q. bind on λ n. bind ol (actionIn q (numbered actNumber actTable n))
 unfolding bind
@@ -230,7 +282,7 @@ module _ (s : List ℕ) where
 
     -- it says what its fields say
     pub by-fields : getD s (total eventColumns) 0 ≡ newline → eventOf s ≡ fieldsSay s
-    unfolding eventOf eventSays isRecord touchAt fieldsSay actionAt bind
+    unfolding eventOf eventSays isRecord touchIn fieldsSay actionAt bind
     by-fields n =
         let p = eq-eqb (length s) eventBytes l in let e = eq-eqb (getD s (total eventColumns) 0) newline n in
-        rw (p, e) (same-touch (readsPathAt s 0) (numberSaid (readsAt s pathColumns actionColumns)) (numbersAt s (pathColumns + actionColumns) (replicate maxLeaves wordColumns)))
+        rw (p, e) (same-touch (readsPathAt s 0) (numberSaid (readsAt s pathColumns actionColumns)) (each leafSaid (fieldsAt s (pathColumns + actionColumns) (replicate maxLeaves wordColumns))))

@@ -21,7 +21,7 @@ use Rattle.state.specs.Layout.{stateWords}
 use Rattle.state.specs.Lent.{lentOf, stateSize}
 use Rattle.state.specs.Contracts.{Handled, HandleOk, NormaliseOk}
 use Rattle.state.proofs.Encode.{writing-ran}
-use Rattle.handle.specs.Events.{KnownAction, eventPath, eventAction}
+use Rattle.handle.specs.Events.{KnownEvent, eventPath, eventAction}
 use Rattle.flow.specs.declared.open.Opening.{Opening}
 use Rattle.flow.specs.declared.event.EventReading.{EventReading}
 use Rattle.flow.specs.declared.answer.Answer.{Answer}
@@ -116,7 +116,7 @@ pub take-handles : (rows ws : List ℤ) (event : List ℕ) (e : EventReading) (r
 unfolding handleCall
 take-handles rows ws event e r out h k = k (eventOf event) h
 
--- and its action is one of 01's
-pub says-known : (e : EventReading) (o : Option (Path × Action)) → Says e o → e .readable ≡ true → KnownAction (e .event)
+-- and it is one that the engine takes
+pub says-known : (e : EventReading) (o : Option (Path × Action)) → Says e o → e .readable ≡ true → KnownEvent (e .event)
 says-known e none h y = absurd (false≢true (sym h ∙ y))
 says-known e (some q) h y = h .3

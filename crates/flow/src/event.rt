@@ -9,19 +9,18 @@ use decimal::path::PathReading;
 use formats::ACTION_AT;
 use formats::EVENT_BYTES;
 use formats::LEAVES_AT;
-use formats::Numbers;
-use formats::read_numbers;
+use formats::Leaves;
+use formats::read_leaves;
 use handle::Event;
 use tophat::CONTINUE;
 use tophat::GIVE;
 use tophat::MAX_LEAVES;
 use tophat::RIGHT;
 ghost use mathlib.Core.Path.{_≡_};
-ghost use mathlib.Core.Bool.{true, false};
-ghost use mathlib.Core.List.{map};
-ghost use mir.Syntax.{w32};
-ghost use mir.Val.{toZ};
-ghost use Rattle.formats.specs.Touches.{allZero, eventOf};
+ghost use mathlib.Core.Bool.{Bool, true, false};
+ghost use mathlib.Core.List.{List};
+ghost use Rattle.formats.specs.Touches.{allNothing, eventOf};
+ghost use Rattle.handle.specs.Events.{ZeroBlanks, leavesBy};
 ghost use Rattle.flow.specs.Reads.{KnownOk, Says, touchOf, fieldsSay};
 
 // An event, if its bytes could be read.
@@ -30,9 +29,9 @@ pub struct EventReading {
     pub event: Event,
 }
 
-// Whether every leaf is 0.
+// Whether every leaf is 0 or blank: a blank one's bits are 0.
 fn all_zero(leaves: [u32; MAX_LEAVES]) -> bool
-    ensures { λ r. ⌜ r ≡ allZero (map (toZ w32) leaves) ⌝ }
+    ensures { λ r. ⌜ ((blank : List Bool) → ZeroBlanks leaves blank → r ≡ allNothing (leavesBy leaves blank)) ⌝ }
 {
     for k in 0..MAX_LEAVES {
         if leaves[k] != 0 {
@@ -44,7 +43,7 @@ fn all_zero(leaves: [u32; MAX_LEAVES]) -> bool
 
 // Whether the action is one of 01's, with leaves that it can have.
 fn known(action: u32, leaves: [u32; MAX_LEAVES]) -> bool
-    ensures { λ r. ⌜ KnownOk action leaves r ⌝ }
+    ensures { λ r. ⌜ ((blank : List Bool) → ZeroBlanks leaves blank → KnownOk action (leavesBy leaves blank) r) ⌝ }
 {
     if action == GIVE {
         return true;
@@ -67,15 +66,18 @@ fn unread() -> EventReading
             path: 0,
             action: GIVE,
             leaves: [0u32; MAX_LEAVES],
+            blank: [false; MAX_LEAVES],
         },
     }
 }
 
 // The event of a path, an action and leaves.
-fn event_of(path: u32, action: u32, leaves: Numbers) -> EventReading
+fn event_of(path: u32, action: u32, leaves: Leaves) -> EventReading
+    requires { ⌜ ZeroBlanks (leaves .words) (leaves .blank) ⌝ }
     ensures { λ r. ⌜ Says r (touchOf path action leaves) ⌝ }
 {
     let words = leaves.words;
+    let blank = leaves.blank;
     if !leaves.readable {
         return unread();
     }
@@ -88,6 +90,7 @@ fn event_of(path: u32, action: u32, leaves: Numbers) -> EventReading
             path: path,
             action: action,
             leaves: words,
+            blank: blank,
         },
     }
 }
@@ -99,11 +102,15 @@ fn read_fields(s: &[u8]) -> EventReading
     let PathReading::Marks(path) = path::read(s, 0) else {
         return unread();
     };
-    let Reading::Number(action) = field::read(s, ACTION_AT, ACTION_COLUMNS) else {
-        return unread();
-    };
-    let leaves = read_numbers(s, LEAVES_AT, WORD_COLUMNS);
-    event_of(path, action, leaves)
+    let reading = field::read(s, ACTION_AT, ACTION_COLUMNS);
+    match reading {
+        Reading::Number(action) => {
+            let leaves = read_leaves(s, LEAVES_AT, WORD_COLUMNS);
+            return event_of(path, action, leaves);
+        }
+        Reading::Blank => unread(),
+        Reading::Unreadable => unread(),
+    }
 }
 
 // What an event's bytes say.

@@ -13,12 +13,12 @@ use state::STATE_SIZE;
 use state::lent::state_out;
 ghost use mathlib.Core.Path.{_≡_};
 ghost use mathlib.Core.Bool.{true};
-ghost use Rattle.handle.specs.Events.{KnownAction};
+ghost use Rattle.handle.specs.Events.{KnownEvent};
 ghost use Rattle.flow.specs.Takes.{TakeOk};
 
 // The flow's answer to an event, and the state at exit.
 pub fn take(rows: &[i32], state: &mut [i32], e: EventReading) -> Answer
-    requires { ⌜ (e .readable ≡ true → KnownAction (e .event)) ⌝ }
+    requires { ⌜ (e .readable ≡ true → KnownEvent (e .event)) ⌝ }
     ensures { λ r. ⌜ TakeOk (now (rows .entry)) (now (state .entry)) e r (now (state .exit)) ⌝ }
 {
     let mut own = [0u32; ROWS_WORDS];

@@ -9,13 +9,14 @@ use native.Mathlib.Omega.{arith}
 use borrow.Author.Tests.{le-leb}
 use lib.IntN.{ℤ, pos, negsuc}
 use lib.ListN.{length, drop, length-append}
-use lib.Seq.{take-at, drop-at}
+use lib.Seq.{slice, take-at, drop-at}
 use Rattle.word.specs.Word.{half, IsWord}
-use Rattle.decimal.specs.Field.{number, decimal, text, justified, written, wordColumns, reads, readsAt}
+use Rattle.decimal.specs.Field.{number, blank, decimal, text, justified, written, wordColumns, reads, readsAt}
 use Rattle.decimal.specs.Path.{Path, maxMarks, pathColumns, pathText, writtenPath, readsPath, readsPathAt}
 use Rattle.decimal.proofs.Justified.{justified-length}
 use Rattle.decimal.proofs.Fields.{written-reads}
 use Rattle.decimal.proofs.Paths.{written-reads-path}
+use Rattle.decimal.proofs.Blanks.{path-not-blank}
 use Rattle.decimal.proofs.WriteLaws.{decimal-count, decimal-0}
 use Rattle.formats.specs.Records.{textOf, pathField, Item, itemText}
 use Rattle.decimal.proofs.PathLaws.{length-marks}
@@ -51,6 +52,19 @@ word-fits (negsuc n) h = record { word = h; short = let e = digits-short 10 (suc
 
 -- ---- written, and read back
 
+-- the field t of w columns, after p and before q
+field-bounds : (p t q : List ℕ) (at w : ℕ) → length p ≡ at → length t ≡ w → at + w ≤ length (p ++ t ++ q)
+field-bounds p t q at w e h = let a = length-append p t in let b = length-append (p ++ t) q in omega (arith, a, b, e, h)
+
+field-bytes : (p t q : List ℕ) (at w : ℕ) → length p ≡ at → length t ≡ w → slice at (at + w) (p ++ t ++ q) ≡ t
+field-bytes p t q at w e h = ap (drop at) (take-at (p ++ t) q (at + w) (length-append p t ∙ (λ k. e k + h k))) ∙ drop-at p t at e
+
+pub field-in : (p t q : List ℕ) (at w : ℕ) → length p ≡ at → length t ≡ w → readsAt (p ++ (t ++ q)) at w ≡ reads t
+unfolding readsAt
+field-in p t q at w e h =
+    ap (λ s. readsAt s at w) (sym (append-assoc p t q))
+    ∙ rw (le-leb (at + w) (length (p ++ t ++ q)) (field-bounds p t q at w e h)) (ap reads (field-bytes p t q at w e h))
+
 justified-fits : (w : ℕ) (t : List ℕ) → length t ≤ w → justified w t ≡ some (textOf (justified w t))
 unfolding justified textOf
 justified-fits w t h = rw (le-leb (length t) w h)
@@ -62,19 +76,12 @@ module _ {i : Item} (f : Fits i) where
   pub item-length : length (itemText i) ≡ i .0
   item-length = justified-length (i .0) (text (i .1)) (itemText i) item-written
 
-  item-reads : reads (itemText i) ≡ number (i .1)
+  pub item-reads : reads (itemText i) ≡ number (i .1)
   item-reads = written-reads (i .0) (itemText i) (i .1) (f .word) item-written
 
   -- the field after p and before q
   pub item-in : (p q : List ℕ) (at : ℕ) → length p ≡ at → readsAt (p ++ (itemText i ++ q)) at (i .0) ≡ number (i .1)
-  unfolding readsAt
-  item-in p q at e =
-      let t = itemText i in
-      let n : length (p ++ t) ≡ at + i .0 = length-append p t ∙ (λ k. e k + item-length k) in
-      let l = length-append (p ++ t) q in
-      ap (λ s. readsAt s at (i .0)) (sym (append-assoc p t q))
-      ∙ rw (le-leb (at + i .0) (length (p ++ t ++ q)) (omega (arith, n, l)))
-      (ap (λ l. reads (drop at l)) (take-at (p ++ t) q (at + i .0) n) ∙ ap reads (drop-at p t at e) ∙ item-reads)
+  item-in p q at e = field-in p (itemText i) q at (i .0) e item-length ∙ item-reads
 
 -- ---- paths
 
@@ -94,8 +101,10 @@ module _ (p : Path) (few : length p ≤ maxMarks) where
   unfolding readsPathAt
   path-in s q at e =
       let t = pathField p in
-      let n : length (s ++ t) ≡ at + pathColumns = length-append s t ∙ (λ k. e k + path-length k) in
-      let l = length-append (s ++ t) q in
       ap (λ l. readsPathAt l at) (sym (append-assoc s t q))
-      ∙ rw (le-leb (at + pathColumns) (length (s ++ t ++ q)) (omega (arith, n, l)))
-      (ap (λ l. readsPath (drop at l)) (take-at (s ++ t) q (at + pathColumns) n) ∙ ap readsPath (drop-at s t at e) ∙ written-reads-path t p path-written)
+      ∙ rw (le-leb (at + pathColumns) (length (s ++ t ++ q)) (field-bounds s t q at pathColumns e path-length))
+      (ap readsPath (field-bytes s t q at pathColumns e path-length) ∙ written-reads-path t p path-written)
+
+  -- and the field is not blank
+  pub path-shown : (s q : List ℕ) (at : ℕ) → length s ≡ at → readsAt (s ++ (pathField p ++ q)) at pathColumns ≡ blank → ⊥
+  path-shown s q at e h = path-not-blank (pathField p) p path-written (sym (field-in s (pathField p) q at pathColumns e path-length) ∙ h)

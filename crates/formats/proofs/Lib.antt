@@ -1,5 +1,6 @@
--- Laws of fields in columns: one (Items), several read and written (Records), and the numbers that loops read and write (Loops).
+-- Laws of fields in columns: one (Items), each of several (Each), several read and written (Records), and what loops read and write (Loops).
 pub mod Items
+pub mod Each
 pub mod Records
 pub mod Loops
 -- The lines of a sheet.

@@ -9,12 +9,14 @@ use lib.ListN.{length}
 use Rattle.decimal.specs.Path.{Path, maxMarks}
 use Rattle.tophat.specs.Syntax.{maxLeaves}
 use Rattle.tophat.specs.Typing.{At, here, there}
-use Rattle.tophat.specs.Handling.{Action}
+use Rattle.tophat.specs.Leaves.{Given, Leaf, Meets}
+use Rattle.tophat.specs.Handling.{Act, Action}
 use Rattle.tophat.specs.Showing.{Entry, Covers}
-use Rattle.formats.specs.Touches.{entrySays, eventOf, CoversBytes}
-use Rattle.formats.specs.Lists.{offerAct, offerKinds, listText, Entries, CoversAt, Fits, fit-more}
+use Rattle.tophat.proofs.Basics.{some-is}
+use Rattle.formats.specs.Touches.{eventSays, entrySays, eventOf, CoversBytes}
+use Rattle.formats.specs.Lists.{offerAct, offerKinds, listText, entryAt, Entries, CoversAt, Fits, fit-more}
 use Rattle.formats.proofs.ListsRead.{entry-said, list-length, list-at, place-at, at-place}
-use Rattle.formats.proofs.CoversRead.{covers-bytes, bytes-cover, covers-some}
+use Rattle.formats.proofs.CoversRead.{covers-bytes, bytes-cover, met-said, covers-some}
 
 -- an entry of a list that can be written
 record Fit (e : Entry) : Type 0 where
@@ -44,6 +46,16 @@ module _ {es : List Entry} (fits : Fits 0 es) where
         let (e, d) = place-at es i l in
         let f = fit-at fits d in
         (e, d, bytes-cover e (f .few) (f .all) h (subst (λ s. CoversBytes s event) (list-at fits d) c))
+
+  -- what an entry says, with leaves that meet its kinds, some event's bytes say
+  pub list-said : (i : ℕ) → i < length es → {p : Path} {a : Act} {ks : List Leaf} → entrySays (entryAt (listText es) i) ≡ some (p, a, ks)
+      → {ls : List Given} → Meets ks ls → (event : List ℕ) × (eventSays event ≡ some (p, a, ls))
+  list-said i l {p} {a} {ks} h {ls} m =
+      let (e, d) = place-at es i l in
+      let f = fit-at fits d in
+      let q = some-is (sym (entry-said e (f .few) (f .all)) ∙ ap entrySays (sym (list-at fits d)) ∙ h) in
+      let (event, k) = met-said e (f .few) (f .all) (subst (λ ks. Meets ks ls) (sym (ap (λ t. t .2) q)) m) in
+      (event, k ∙ ap (λ t. some (t .0, t .1, ls)) q)
 
   -- no entry is dead
   pub list-covers-some : (i : ℕ) → i < length es → (event : List ℕ) × CoversAt (listText es) (length es) i event

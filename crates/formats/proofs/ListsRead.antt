@@ -8,16 +8,18 @@ use native.Mathlib.Omega.{arith}
 use lib.IntN.{ℤ, pos}
 use lib.ListN.{length, take, drop, length-append, length-map}
 use lib.Seq.{take-at, drop-at, drop-drop}
-use Rattle.decimal.specs.Field.{actionColumns}
+use Rattle.decimal.specs.Field.{number, actionColumns}
 use Rattle.decimal.specs.Path.{maxMarks}
 use Rattle.tophat.specs.Syntax.{maxLeaves}
 use Rattle.tophat.specs.Typing.{At, here, there}
-use Rattle.tophat.specs.Leaves.{Leaf, leafNumber}
+use Rattle.tophat.specs.Leaves.{Leaf, leafNumber, leafTable}
 use Rattle.tophat.specs.Showing.{Entry}
-use Rattle.formats.specs.Touches.{entryBytes, leavesNumbered, entrySays}
+use Rattle.formats.specs.Records.{numberSaid, each, itemsText}
+use Rattle.formats.specs.Touches.{entryBytes, numbered, entrySays}
 use Rattle.formats.specs.Lists.{offerAct, offerKinds, entryText, listText, entryAt, Fits, fit-none, fit-more}
 use Rattle.formats.proofs.Records.{AllFit, fit-none as items-none, fit-more as items-more}
-use Rattle.formats.proofs.TouchesRead.{leaf-fits, leaves-numbered, fields, text-length, text-record, touch-said}
+use Rattle.formats.proofs.Each.{numbers-said}
+use Rattle.formats.proofs.TouchesRead.{leaf-fits, leaves-numbered, fields, Parts, number-parts, text, text-length, text-record, entry-path-said, touch-said, text-of}
 
 -- ---- one entry
 
@@ -33,23 +35,30 @@ module _ (e : Entry) (few : length (e .0) ≤ maxMarks) (all : length (offerKind
   abbrev kinds : List ℤ
   kinds = map pos (map leafNumber (offerKinds (e .1)))
 
-  kinds-all : length kinds ≡ maxLeaves
-  kinds-all = length-map (map leafNumber (offerKinds (e .1))) pos ∙ length-map (offerKinds (e .1)) leafNumber ∙ all
+  kinds-all : length (map number kinds) ≡ maxLeaves
+  kinds-all = length-map kinds number ∙ length-map (map leafNumber (offerKinds (e .1))) pos ∙ length-map (offerKinds (e .1)) leafNumber ∙ all
+
+  parts : Parts actionColumns (map number kinds) (itemsText (fields actionColumns kinds))
+  parts = number-parts actionColumns kinds (kinds-fit (offerKinds (e .1)))
+
+  text-is : entryText e ≡ text (e .0) few (offerAct (e .1)) actionColumns parts kinds-all
+  unfolding entryText
+  text-is = text-of (e .0) (offerAct (e .1)) actionColumns kinds
 
   -- 27 bytes
   pub entry-length : length (entryText e) ≡ entryBytes
-  unfolding entryText
-  entry-length = text-length (e .0) few (offerAct (e .1)) actionColumns kinds kinds-all (kinds-fit (offerKinds (e .1)))
+  entry-length = ap length text-is ∙ text-length (e .0) few (offerAct (e .1)) actionColumns parts kinds-all
 
   -- that say its path, action and leaf kinds
   pub entry-said : entrySays (entryText e) ≡ some (e .0, offerAct (e .1), offerKinds (e .1))
-  unfolding entryText entrySays bind
+  unfolding entrySays bind
   entry-said =
       let ks = offerKinds (e .1) in
-      let r = text-record (e .0) few (offerAct (e .1)) actionColumns kinds kinds-all (kinds-fit ks) in
-      let t = touch-said (e .0) few (offerAct (e .1)) actionColumns kinds kinds-all (kinds-fit ks) in
-      let l : leavesNumbered kinds ≡ some ks = ap leavesNumbered (twice ks) ∙ leaves-numbered ks in
-      rw (r, t, l)
+      let a = offerAct (e .1) in
+      let r = text-record (e .0) few a actionColumns parts kinds-all in
+      let t = touch-said (e .0) few a actionColumns parts kinds-all numberSaid (entry-path-said (e .0) few a actionColumns parts kinds-all) (numbers-said kinds) in
+      let l : each (numbered leafNumber leafTable) kinds ≡ some ks = ap (each (numbered leafNumber leafTable)) (twice ks) ∙ leaves-numbered ks in
+      ap entrySays text-is ∙ rw (r, t, l)
 
 -- ---- a list of them
 

@@ -1,9 +1,9 @@
 -- Fields one after another: as long as their columns, read back as the numbers that they were written for, and laid over bytes. What is
--- read is what would be written. Rests on Items.
+-- read are words. Rests on Items and Each.
 use mathlib.Core.Path.{_≡_, refl, sym, ap, ap₂, subst, _∙_}
-use mathlib.Core.Option.{some, bind, bind-eq-some-iff}
+use mathlib.Core.Option.{none, some}
 use mathlib.Core.List.{List, [], _∷_, _++_, append-assoc, map}
-use Prim.Native.Nat.{ℕ, suc, _+_, _≤_}
+use Prim.Native.Nat.{ℕ, zero, suc, _+_, _<_, _≤_}
 use native.Mathlib.Omega.{arith}
 use borrow.Author.Tests.{le-leb}
 use lib.Dec.{lit<}
@@ -12,9 +12,13 @@ use lib.ListN.{length, getD, take, drop, length-append, length-drop, take-append
 use lib.Seq.{take-at, drop-at, drop-drop, length-take-le}
 use Rattle.word.specs.Word.{IsWord, AllWords}
 use Rattle.word.proofs.Lists.{words-cons}
-use Rattle.decimal.specs.Field.{Field, number, unreadable, written, readsAt, putAt}
+use Rattle.decimal.specs.Field.{Field, number, blank, unreadable, written, readsAt, putAt}
 use Rattle.decimal.proofs.Answers.{reads-at-word}
-use Rattle.formats.specs.Records.{total, numberSaid, numbersAt, Item, itemText, itemsText, putItems}
+use Rattle.tophat.specs.Leaves.{Given}
+use Rattle.tophat.proofs.Basics.{no-some, some-is}
+use Rattle.formats.specs.Records.{total, placeOf, fieldsAt, numberSaid, each, Item, itemText, itemsText, putItems}
+use Rattle.formats.specs.Touches.{leafSaid}
+use Rattle.formats.proofs.Each.{none-first, first-of, number-said}
 use Rattle.formats.proofs.Items.{Fits, item-written, item-length, item-in}
 
 pub data AllFit : List Item → Type 0 where
@@ -35,8 +39,8 @@ items-length (fit-more {i} {is} f k) = let a = length-append (itemText i) (items
 
 -- ---- read back
 
-pub items-in : {is : List Item} → AllFit is → (p q : List ℕ) (at : ℕ) → length p ≡ at → numbersAt (p ++ (itemsText is ++ q)) at (widths is) ≡ some (numbers is)
-unfolding itemsText numbersAt numberSaid bind
+pub items-in : {is : List Item} → AllFit is → (p q : List ℕ) (at : ℕ) → length p ≡ at → fieldsAt (p ++ (itemsText is ++ q)) at (widths is) ≡ map number (numbers is)
+unfolding itemsText fieldsAt
 items-in fit-none p q at e = refl
 items-in (fit-more {i} {is} f k) p q at e =
     let t = itemText i in
@@ -44,44 +48,56 @@ items-in (fit-more {i} {is} f k) p q at e =
     let g = ap (λ l. p ++ l) (append-assoc t r q) in
     let a = ap (λ s. readsAt s at (i .0)) g ∙ item-in f p (r ++ q) at e in
     let n : length (p ++ t) ≡ at + i .0 = length-append p t ∙ (λ k. e k + item-length f k) in
-    let b = ap (λ s. numbersAt s (at + i .0) (widths is)) (g ∙ sym (append-assoc p t (r ++ q))) ∙ items-in k (p ++ t) q (at + i .0) n in
-    rw (a, b)
+    let b = ap (λ s. fieldsAt s (at + i .0) (widths is)) (g ∙ sym (append-assoc p t (r ++ q))) ∙ items-in k (p ++ t) q (at + i .0) n in
+    ap₂ _∷_ a b
 
 -- ---- what is read
 
-number-said : (f : Field) {z : ℤ} → numberSaid f ≡ some z → f ≡ number z
-unfolding numberSaid
-number-said (number y) {z} h = let e : y ≡ z = cc in ap number e
-number-said unreadable h = let a : _≡_ {A = ℕ} 0 1 = cc in absurd (omega arith)
+-- a field for each width, and where it stands
+pub fields-length : (s : List ℕ) (at : ℕ) (ws : List ℕ) → length (fieldsAt s at ws) ≡ length ws
+unfolding fieldsAt
+fields-length s at [] = refl
+fields-length s at (w ∷ ws) = ap suc (fields-length s (at + w) ws)
 
--- the first of several fields, and the others
-module _ (s : List ℕ) (at w : ℕ) (ws : List ℕ) where
-  pub record First (zs : List ℤ) : Type 0 where
-    pub first : ℤ
-    pub others : List ℤ
-    pub reads : readsAt s at w ≡ number first
-    pub rest : numbersAt s (at + w) ws ≡ some others
-    pub both : first ∷ others ≡ zs
+pub field-at : (s : List ℕ) (at : ℕ) (ws : List ℕ) (k : ℕ) → k < length ws → getD (fieldsAt s at ws) k unreadable ≡ readsAt s (at + placeOf ws k) (getD ws k 0)
+unfolding fieldsAt
+field-at s at [] k l = absurd (omega arith)
+field-at s at (w ∷ ws) zero l = ap (λ n. readsAt s n w) {x = at} {y = at + 0} (omega arith)
+field-at s at (w ∷ ws) (suc k) l = field-at s (at + w) ws k (omega arith) ∙ ap (λ n. readsAt s n (getD ws k 0)) {x = at + w + placeOf ws k} {y = at + (w + placeOf ws k)} (omega arith)
 
-  pub first-of : {zs : List ℤ} → numbersAt s at (w ∷ ws) ≡ some zs → First zs
-  unfolding numbersAt
-  first-of {zs} h =
-      let (z, e, g) = bind-eq-some-iff (numberSaid (readsAt s at w)) _ .0 h in
-      let (ys, f, q) = bind-eq-some-iff (numbersAt s (at + w) ws) _ .0 g in
-      record { first = z; others = ys; reads = number-said (readsAt s at w) e; rest = f; both = cc }
+-- fields whose numbers are words: all that are read
+pub data OfWords : List Field → Type 0 where
+  no-fields : OfWords []
+  more-fields : {f : Field} {fs : List Field} → ((z : ℤ) → f ≡ number z → IsWord z) → OfWords fs → OfWords (f ∷ fs)
 
--- a number for each field, and each a word
-pub numbers-length : (s : List ℕ) (at : ℕ) (ws : List ℕ) {zs : List ℤ} → numbersAt s at ws ≡ some zs → length zs ≡ length ws
-unfolding numbersAt
-numbers-length s at [] {zs} h = let e : zs ≡ [] = cc in ap length e
-numbers-length s at (w ∷ ws) h = let f = first-of s at w ws h in ap length (sym (f .both)) ∙ ap suc (numbers-length s (at + w) ws (f .rest))
+pub fields-words : (s : List ℕ) (at : ℕ) (ws : List ℕ) → OfWords (fieldsAt s at ws)
+unfolding fieldsAt
+fields-words s at [] = no-fields
+fields-words s at (w ∷ ws) = more-fields (reads-at-word s at w) (fields-words s (at + w) ws)
 
-pub numbers-words : (s : List ℕ) (at : ℕ) (ws : List ℕ) {zs : List ℤ} → numbersAt s at ws ≡ some zs → AllWords zs
-unfolding numbersAt
-numbers-words s at [] {zs} h = let e : zs ≡ [] = cc in λ i. subst (λ zs. IsWord (getD zs i (pos 0))) (sym e) (lit< tt)
-numbers-words s at (w ∷ ws) h =
-    let f = first-of s at w ws h in
-    subst AllWords (f .both) (words-cons (f .first) (f .others) (reads-at-word s at w (f .first) (f .reads)) (numbers-words s (at + w) ws (f .rest)))
+pub numbers-words : {fs : List Field} → OfWords fs → {zs : List ℤ} → each numberSaid fs ≡ some zs → AllWords zs
+numbers-words no-fields {zs} h = λ i. subst (λ zs. IsWord (getD zs i (pos 0))) (sym (none-first numberSaid h)) (lit< tt)
+numbers-words (more-fields {f} {fs} w k) h =
+    let g = first-of numberSaid f fs h in
+    subst AllWords (g .both) (words-cons (g .first) (g .others) (w (g .first) (number-said f (g .made))) (numbers-words k (g .rest)))
+
+-- leaves whose numbers are words
+pub data GivenWords : List Given → Type 0 where
+  no-leaves : GivenWords []
+  blank-leaf : {ls : List Given} → GivenWords ls → GivenWords (none ∷ ls)
+  number-leaf : {z : ℤ} {ls : List Given} → IsWord z → GivenWords ls → GivenWords (some z ∷ ls)
+
+pub leaves-words : {fs : List Field} → OfWords fs → {ls : List Given} → each leafSaid fs ≡ some ls → GivenWords ls
+unfolding leafSaid
+leaves-words no-fields h = subst GivenWords (sym (none-first leafSaid h)) no-leaves
+leaves-words (more-fields {f} {fs} w k) h =
+    let g = first-of leafSaid f fs h in
+    subst GivenWords (g .both) (by f w (g .first) (g .made) (leaves-words k (g .rest)))
+  where
+    by : (f : Field) → ((z : ℤ) → f ≡ number z → IsWord z) → (l : Given) {ls : List Given} → leafSaid f ≡ some l → GivenWords ls → GivenWords (l ∷ ls)
+    by (number z) w l {ls} e d = subst (λ l. GivenWords (l ∷ ls)) (some-is e) (number-leaf (w z refl) d)
+    by blank w l {ls} e d = subst (λ l. GivenWords (l ∷ ls)) (some-is e) (blank-leaf d)
+    by unreadable w l e d = no-some e
 
 -- ---- laid over bytes
 

@@ -1,26 +1,26 @@
--- Events and entries are read back: a path, an action and numbers that fit their columns have a text that says them. So every touch has
--- its 67 bytes. Rests on Records.
-use mathlib.Core.Path.{_≡_, refl, sym, ap, _∙_}
+-- Events and entries are read back: a path, an action and fields of one width have a text that says them, numbers and, in an event,
+-- blanks. So every touch has its 67 bytes. Rests on Records.
+use mathlib.Core.Path.{_≡_, refl, sym, ap, ap₂, _∙_}
 use mathlib.Core.Bool.{true}
-use mathlib.Core.Option.{some, bind}
+use mathlib.Core.Option.{Option, none, some, bind}
 use mathlib.Core.List.{List, [], _∷_, _++_, append-assoc, map}
 use Prim.Native.Nat.{ℕ, _+_, _≤_}
 use native.Mathlib.Omega.{arith}
 use borrow.Author.Tests.{eq-eqb}
 use lib.Dec.{lit<}
 use lib.IntN.{ℤ, pos}
-use lib.ListN.{length, getD, replicate, length-append}
+use lib.ListN.{length, getD, replicate, length-append, length-replicate}
 use lib.Seq.{getD-at}
-use Rattle.word.specs.Word.{IsWord}
-use Rattle.decimal.specs.Field.{readsAt, actionColumns, wordColumns, newline}
+use Rattle.decimal.specs.Field.{Field, number, blank, unreadable, reads, readsAt, space, actionColumns, wordColumns, newline}
 use Rattle.decimal.specs.Path.{Path, maxMarks, pathColumns, readsPathAt}
+use Rattle.decimal.proofs.Blanks.{reads-blank}
 use Rattle.tophat.specs.Syntax.{maxLeaves}
-use Rattle.tophat.specs.Leaves.{Leaf, noLeaf, unitLeaf, truthLeaf, numberLeaf, leafNumber, leafTable}
+use Rattle.tophat.specs.Leaves.{Given, Leaf, noLeaf, unitLeaf, truthLeaf, numberLeaf, leafNumber, leafTable}
 use Rattle.tophat.specs.Handling.{continue, left, right, Act, giving, pressing, actNumber, actTable}
-use Rattle.formats.specs.Records.{total, recordBytes, isRecord, numberSaid, numbersAt, pathField, Item, itemText, itemsText}
-use Rattle.formats.specs.Touches.{numbered, touchAt, touchText, leavesNumbered}
-use Rattle.formats.proofs.Items.{Fits, number-fits, word-fits, item-length, item-in, path-length, path-in}
-use Rattle.formats.proofs.Records.{AllFit, fit-none, fit-more, items-length, items-in}
+use Rattle.formats.specs.Records.{total, recordBytes, isRecord, fieldsAt, numberSaid, each, pathField, Item, itemText, itemsText}
+use Rattle.formats.specs.Touches.{numbered, touchIn, touchText, leafSaid, unlessBlank, entryPath}
+use Rattle.formats.proofs.Items.{Fits, number-fits, word-fits, item-length, item-reads, item-in, field-in, path-length, path-in, path-shown}
+use Rattle.formats.proofs.Records.{AllFit, fit-none, fit-more, GivenWords, no-leaves, blank-leaf, number-leaf}
 
 -- ---- the tables: each element is found by its number
 
@@ -50,26 +50,75 @@ leaf-fits unitLeaf = number-fits actionColumns (leafNumber unitLeaf) (omega arit
 leaf-fits truthLeaf = number-fits actionColumns (leafNumber truthLeaf) (omega arith) (lit< tt) (lit< tt)
 leaf-fits numberLeaf = number-fits actionColumns (leafNumber numberLeaf) (omega arith) (lit< tt) (lit< tt)
 
-pub leaves-numbered : (ks : List Leaf) → leavesNumbered (map (λ k. pos (leafNumber k)) ks) ≡ some ks
-unfolding leavesNumbered bind
+pub leaves-numbered : (ks : List Leaf) → each (numbered leafNumber leafTable) (map (λ k. pos (leafNumber k)) ks) ≡ some ks
+unfolding each bind
 leaves-numbered [] = refl
 leaves-numbered (k ∷ ks) = let e = leaf-numbered k in let f = leaves-numbered ks in rw (e, f)
 
--- ---- a path, an action and numbers in w columns
+-- ---- fields of one width, one after another: what each says, and their bytes
 
+pub data Parts (w : ℕ) : List Field → List ℕ → Type 0 where
+  no-parts : Parts w [] []
+  more-parts : {f : Field} {fs : List Field} (t ts : List ℕ) → length t ≡ w → reads t ≡ f → Parts w fs ts → Parts w (f ∷ fs) (t ++ ts)
+
+module _ {w : ℕ} where
+  parts-length : {fs : List Field} {ts : List ℕ} → Parts w fs ts → length ts ≡ total (replicate (length fs) w)
+  parts-length no-parts = refl
+  parts-length (more-parts t ts l e k) = length-append t ts ∙ ap₂ _+_ l (parts-length k)
+
+  parts-in : {fs : List Field} {ts : List ℕ} → Parts w fs ts → (p q : List ℕ) (at : ℕ) → length p ≡ at → fieldsAt (p ++ (ts ++ q)) at (replicate (length fs) w) ≡ fs
+  unfolding fieldsAt
+  parts-in no-parts p q at h = refl
+  parts-in (more-parts {f} {fs} t ts l e k) p q at h =
+      let g = ap (λ u. p ++ u) (append-assoc t ts q) in
+      let a = ap (λ s. readsAt s at w) g ∙ field-in p t (ts ++ q) at w h l ∙ e in
+      let b = ap (λ s. fieldsAt s (at + w) (replicate (length fs) w)) (g ∙ sym (append-assoc p t (ts ++ q))) ∙ parts-in k (p ++ t) q (at + w) (length-append p t ∙ (λ j. h j + l j)) in
+      ap₂ _∷_ a b
+
+-- numbers
 abbrev pub fields : ℕ → List ℤ → List Item
 fields w zs = map (λ z. (w, z)) zs
 
--- the widths of n fields of one width, and their numbers
-widths-are : (w : ℕ) (zs : List ℤ) → map (λ i. i .0) (fields w zs) ≡ replicate (length zs) w
-widths-are w [] = refl
-widths-are w (z ∷ zs) = ap (λ ws. w ∷ ws) (widths-are w zs)
+pub number-parts : (w : ℕ) (zs : List ℤ) → AllFit (fields w zs) → Parts w (map number zs) (itemsText (fields w zs))
+unfolding itemsText
+number-parts w [] fit-none = no-parts
+number-parts w (z ∷ zs) (fit-more f k) = more-parts (itemText (w, z)) (itemsText (fields w zs)) (item-length f) (item-reads f) (number-parts w zs k)
 
-numbers-are : (w : ℕ) (zs : List ℤ) → map (λ i. i .1) (fields w zs) ≡ zs
-numbers-are w [] = refl
-numbers-are w (z ∷ zs) = ap (λ l. z ∷ l) (numbers-are w zs)
+-- an event's leaves: words, or spaces
+abbrev pub leafField : Given → Field
+leafField none = blank
+leafField (some z) = number z
 
-module _ (p : Path) (few : length p ≤ maxMarks) (a : Act) (w : ℕ) (zs : List ℤ) (all : length zs ≡ maxLeaves) (fit : AllFit (fields w zs)) where
+pub record Written (ls : List Given) : Type 0 where
+  pub text : List ℕ
+  pub parts : Parts wordColumns (map leafField ls) text
+
+pub written-leaves : {ls : List Given} → GivenWords ls → Written ls
+written-leaves no-leaves = record { text = []; parts = no-parts }
+written-leaves (blank-leaf k) =
+    let t = replicate wordColumns space in
+    let g = written-leaves k in
+    record { text = t ++ g .text; parts = more-parts t (g .text) refl (reads-blank t .1 refl) (g .parts) }
+written-leaves (number-leaf {z} i k) =
+    let f = word-fits z i in
+    let g = written-leaves k in
+    record { text = itemText (wordColumns, z) ++ g .text; parts = more-parts (itemText (wordColumns, z)) (g .text) (item-length f) (item-reads f) (g .parts) }
+
+pub leaves-back : (ls : List Given) → each leafSaid (map leafField ls) ≡ some ls
+unfolding each leafSaid bind
+leaves-back [] = refl
+leaves-back (none ∷ ls) = let e = leaves-back ls in rw e
+leaves-back (some z ∷ ls) = let e = leaves-back ls in rw e
+
+-- ---- a path, an action and a field for each leaf
+
+unless-blank : {X : Type 0} (f : Field) (o : Option X) → (f ≡ blank → ⊥) → unlessBlank f o ≡ o
+unfolding unlessBlank
+unless-blank (number z) o n = refl
+unless-blank blank o n = absurd (n refl)
+unless-blank unreadable o n = refl
+
+module _ (p : Path) (few : length p ≤ maxMarks) (a : Act) (w : ℕ) {fs : List Field} {ts : List ℕ} (parts : Parts w fs ts) (all : length fs ≡ maxLeaves) where
   -- the columns of the record
   abbrev columns : List ℕ
   columns = pathColumns ∷ actionColumns ∷ replicate maxLeaves w
@@ -77,66 +126,63 @@ module _ (p : Path) (few : length p ≤ maxMarks) (a : Act) (w : ℕ) (zs : List
   abbrev action : Item
   action = (actionColumns, pos (actNumber a))
 
-  abbrev text : List ℕ
-  text = touchText p (actNumber a) w zs ++ newline ∷ []
-
   -- its fields, one after another
-  text-is : text ≡ pathField p ++ (itemText action ++ (itemsText (fields w zs) ++ newline ∷ []))
-  unfolding itemsText
-  text-is = append-assoc (pathField p) (itemsText (action ∷ fields w zs)) (newline ∷ []) ∙ ap (λ l. pathField p ++ l) (append-assoc (itemText action) (itemsText (fields w zs)) (newline ∷ []))
+  abbrev front : List ℕ
+  front = pathField p ++ itemText action
 
-  widths-total : total (map (λ i. i .0) (fields w zs)) ≡ total (replicate maxLeaves w)
-  widths-total = ap total (widths-are w zs ∙ ap (λ n. replicate n w) all)
+  abbrev pub text : List ℕ
+  text = pathField p ++ (itemText action ++ (ts ++ newline ∷ []))
 
-  touch-length : length (touchText p (actNumber a) w zs) ≡ total columns
+  text-is : text ≡ (front ++ ts) ++ newline ∷ []
+  text-is = sym (append-assoc (pathField p) (itemText action) (ts ++ newline ∷ [])) ∙ sym (append-assoc front ts (newline ∷ []))
+
+  front-length : length front ≡ pathColumns + actionColumns
+  front-length = length-append (pathField p) (itemText action) ∙ (λ k. path-length p few k + item-length (act-fits a) k)
+
+  touch-length : length (front ++ ts) ≡ total columns
   touch-length =
-      length-append (pathField p) (itemsText (action ∷ fields w zs))
-      ∙ (λ k. path-length p few k + (items-length (fit-more (act-fits a) fit) ∙ ap (λ n. actionColumns + n) widths-total) k)
+      let l = length-append front ts in
+      let m = parts-length parts ∙ ap (λ n. total (replicate n w)) all in
+      let n = front-length in
+      l ∙ (λ k. n k + m k) ∙ omega arith
 
   pub text-length : length text ≡ recordBytes columns
-  text-length = length-append (touchText p (actNumber a) w zs) (newline ∷ []) ∙ ap (λ n. n + 1) touch-length
+  text-length = ap length text-is ∙ length-append (front ++ ts) (newline ∷ []) ∙ ap (λ n. n + 1) touch-length
 
   pub text-record : isRecord columns text ≡ true
   unfolding isRecord
   text-record =
       let l = eq-eqb (length text) (recordBytes columns) text-length in
-      let e = eq-eqb (getD text (total columns) 0) newline (getD-at (touchText p (actNumber a) w zs) newline [] 0 (total columns) touch-length) in
+      let e = eq-eqb (getD text (total columns) 0) newline (ap (λ s. getD s (total columns) 0) text-is ∙ getD-at (front ++ ts) newline [] 0 (total columns) touch-length) in
       rw (l, e)
 
-  path-said : readsPathAt text 0 ≡ some p
-  path-said = ap (λ s. readsPathAt s 0) text-is ∙ path-in p few [] (itemText action ++ (itemsText (fields w zs) ++ newline ∷ [])) 0 refl
+  pub path-said : readsPathAt text 0 ≡ some p
+  path-said = path-in p few [] (itemText action ++ (ts ++ newline ∷ [])) 0 refl
+
+  pub entry-path-said : entryPath text ≡ some p
+  entry-path-said = unless-blank (readsAt text 0 pathColumns) (readsPathAt text 0) (path-shown p few [] (itemText action ++ (ts ++ newline ∷ [])) 0 refl) ∙ path-said
 
   action-said : numberSaid (readsAt text pathColumns actionColumns) ≡ some (pos (actNumber a))
   unfolding numberSaid
-  action-said = ap (λ s. numberSaid (readsAt s pathColumns actionColumns)) text-is
-      ∙ ap numberSaid (item-in (act-fits a) (pathField p) (itemsText (fields w zs) ++ newline ∷ []) pathColumns (path-length p few))
+  action-said = ap numberSaid (item-in (act-fits a) (pathField p) (ts ++ newline ∷ []) pathColumns (path-length p few))
 
-  numbers-said : numbersAt text (pathColumns + actionColumns) (replicate maxLeaves w) ≡ some zs
-  numbers-said =
-      let front = pathField p ++ itemText action in
-      let n : length front ≡ pathColumns + actionColumns = length-append (pathField p) (itemText action) ∙ (λ k. path-length p few k + item-length (act-fits a) k) in
-      let ws : replicate maxLeaves w ≡ map (λ i. i .0) (fields w zs) = ap (λ n. replicate n w) (sym all) ∙ sym (widths-are w zs) in
-      ap (λ s. numbersAt s (pathColumns + actionColumns) (replicate maxLeaves w)) (text-is ∙ sym (append-assoc (pathField p) (itemText action) (itemsText (fields w zs) ++ newline ∷ [])))
-      ∙ ap (numbersAt (front ++ (itemsText (fields w zs) ++ newline ∷ [])) (pathColumns + actionColumns)) ws
-      ∙ items-in fit front (newline ∷ []) (pathColumns + actionColumns) n
-      ∙ ap some (numbers-are w zs)
+  fields-said : fieldsAt text (pathColumns + actionColumns) (replicate maxLeaves w) ≡ fs
+  fields-said =
+      ap₂ (λ s n. fieldsAt s (pathColumns + actionColumns) (replicate n w)) (sym (append-assoc (pathField p) (itemText action) (ts ++ newline ∷ []))) (sym all)
+      ∙ parts-in parts front (newline ∷ []) (pathColumns + actionColumns) front-length
 
   -- they are said
-  pub touch-said : touchAt text 0 w ≡ some (p, a, zs)
-  unfolding touchAt bind
-  touch-said =
-      let e = path-said in
-      let f = action-said in
-      let g = act-numbered a in
-      let h = numbers-said in
-      rw (e, f, g, h)
+  pub touch-said : {X : Type 0} (f : Field → Option X) {o : Option Path} {xs : List X} → o ≡ some p → each f fs ≡ some xs → touchIn o f w text ≡ some (p, a, xs)
+  unfolding touchIn bind
+  touch-said f {o} {xs} e k =
+      let g = action-said in
+      let h = act-numbered a in
+      let l : each f (fieldsAt text (pathColumns + actionColumns) (replicate maxLeaves w)) ≡ some xs = ap (each f) fields-said ∙ k in
+      rw (e, g, h, l)
 
--- ---- events
-
-data Words : List ℤ → Type 0 where
-  no-words : Words []
-  more-words : {z : ℤ} {zs : List ℤ} → IsWord z → Words zs → Words (z ∷ zs)
-
-words-fit : {zs : List ℤ} → Words zs → AllFit (fields wordColumns zs)
-words-fit no-words = fit-none
-words-fit (more-words {z} h k) = fit-more (word-fits z h) (words-fit k)
+-- the text of a path, an action and numbers
+pub text-of : (p : Path) (a : Act) (w : ℕ) (zs : List ℤ) → touchText p (actNumber a) w zs ++ newline ∷ [] ≡ pathField p ++ (itemText (actionColumns, pos (actNumber a)) ++ (itemsText (fields w zs) ++ newline ∷ []))
+unfolding itemsText
+text-of p a w zs =
+    let i : Item = (actionColumns, pos (actNumber a)) in
+    append-assoc (pathField p) (itemsText (i ∷ fields w zs)) (newline ∷ []) ∙ ap (λ l. pathField p ++ l) (append-assoc (itemText i) (itemsText (fields w zs)) (newline ∷ []))

@@ -10,10 +10,12 @@ use lib.IntN.{ℤ}
 use lib.ListN.{length, getD, take, replicate}
 use mir.Syntax.{w32}
 use mir.Val.{toZ, ofZ}
-use Rattle.decimal.specs.Field.{Field, number, unreadable, written, readsAt, putAt, newline}
+use Rattle.decimal.specs.Field.{Field, number, blank, unreadable, written, readsAt, putAt, newline}
 use Rattle.decimal.specs.Path.{Path, writtenPath}
 use Rattle.tophat.specs.Syntax.{maxLeaves}
-use Rattle.formats.specs.declared.Numbers.{Numbers}
+use Rattle.tophat.specs.Leaves.{Given}
+use Rattle.formats.specs.declared.Leaf.{Leaf}
+use Rattle.formats.specs.declared.Leaves.{Leaves}
 
 -- how many columns fields are together
 abbrev pub total : List ℕ → ℕ
@@ -34,15 +36,21 @@ recordBytes ws = total ws + 1
 unfoldable pub isRecord : List ℕ → List ℕ → Bool
 isRecord ws s = eqb (length s) (recordBytes ws) && eqb (getD s (total ws) 0) newline
 
--- the number that a readable field says
+-- what fields of these widths say, one after another from `at` on
+unfoldable pub fieldsAt : List ℕ → ℕ → List ℕ → List Field
+fieldsAt s at [] = []
+fieldsAt s at (w ∷ ws) = readsAt s at w ∷ fieldsAt s (at + w) ws
+
+-- the number that a field says, if it says one
 unfoldable pub numberSaid : Field → Option ℤ
 numberSaid (number z) = some z
+numberSaid blank = none
 numberSaid unreadable = none
 
--- the numbers in fields of these widths from `at` on, if each can be read
-unfoldable pub numbersAt : List ℕ → ℕ → List ℕ → Option (List ℤ)
-numbersAt s at [] = some []
-numbersAt s at (w ∷ ws) = bind (numberSaid (readsAt s at w)) λ z. bind (numbersAt s (at + w) ws) λ zs. some (z ∷ zs)
+-- what f makes of each, if it makes something of each
+unfoldable pub each : {X Y : Type 0} → (X → Option Y) → List X → Option (List Y)
+each f [] = some []
+each f (x ∷ xs) = bind (f x) λ y. bind (each f xs) λ ys. some (y ∷ ys)
 
 -- ---- writing
 
@@ -85,7 +93,20 @@ putItems s at (i ∷ is) = putItems (putAt s at (i .0) (written (i .0) (i .1)) .
 abbrev pub itemsOf : ℕ → List ℕ → List Item
 itemsOf w ns = map (λ n. (w, toZ w32 n)) ns
 
--- the code's answer for the numbers in fields; zeros where one cannot be read
-unfoldable pub numbersRead : Option (List ℤ) → Numbers
-numbersRead none = record { readable = false; words = replicate maxLeaves 0 }
-numbersRead (some zs) = record { readable = true; words = map (ofZ w32) zs }
+-- the bits of a leaf of an event, and whether it is blank
+unfoldable pub leafBits : Given → ℕ
+leafBits none = 0
+leafBits (some z) = ofZ w32 z
+
+unfoldable pub isBlank : Given → Bool
+isBlank none = true
+isBlank (some z) = false
+
+-- the code's answer for a leaf, and for all of them; zeros where one cannot be read
+unfoldable pub leafRead : Option Given → Leaf
+leafRead none = record { readable = false; bits = 0; blank = false }
+leafRead (some l) = record { readable = true; bits = leafBits l; blank = isBlank l }
+
+unfoldable pub leavesRead : Option (List Given) → Leaves
+leavesRead none = record { readable = false; words = replicate maxLeaves 0; blank = replicate maxLeaves false }
+leavesRead (some ls) = record { readable = true; words = map leafBits ls; blank = map isBlank ls }

@@ -1,5 +1,6 @@
 -- Events and entries as bytes (01, "Touches and what is shown"; ground 8): each a path, an action and a number for each leaf, read by
--- the same rules, and when an entry covers an event. Rests on Records, and on the calculus' tables of actions and leaf kinds.
+-- the same rules but for blanks, which only an event has (CR 2), and when an entry covers an event. Rests on Records, and on the
+-- calculus' tables of actions and leaf kinds.
 use mathlib.Core.Path.{_≡_}
 use mathlib.Core.Bool.{Bool, true, _&&_, cond}
 use mathlib.Core.Option.{Option, none, some, bind}
@@ -8,12 +9,12 @@ use Prim.Native.Nat.{ℕ, _+_}
 use lib.IntN.{ℤ, pos}
 use lib.ListN.{replicate}
 use Rattle.word.specs.Word.{eqZ}
-use Rattle.decimal.specs.Field.{readsAt, actionColumns, wordColumns}
+use Rattle.decimal.specs.Field.{Field, number, blank, unreadable, readsAt, actionColumns, wordColumns}
 use Rattle.decimal.specs.Path.{Path, pathColumns, readsPathAt}
 use Rattle.tophat.specs.Syntax.{maxLeaves}
-use Rattle.tophat.specs.Leaves.{Leaf, leafNumber, leafTable, Meets}
+use Rattle.tophat.specs.Leaves.{Given, Leaf, leafNumber, leafTable, Meets}
 use Rattle.tophat.specs.Handling.{Act, giving, pressing, actNumber, actTable, Action, give, press}
-use Rattle.formats.specs.Records.{recordBytes, isRecord, numberSaid, numbersAt, pathField, itemsText}
+use Rattle.formats.specs.Records.{recordBytes, isRecord, fieldsAt, numberSaid, each, pathField, itemsText}
 
 -- 01: "An event is 67 bytes: path in columns 1-16 .., action 17-18 .., four leaves of 12 columns, byte 10"
 abbrev pub eventColumns : List ℕ
@@ -34,14 +35,14 @@ unfoldable pub numbered : {X : Type 0} → (X → ℕ) → List X → ℤ → Op
 numbered f [] z = none
 numbered f (x ∷ xs) z = cond (eqZ z (pos (f x))) (some x) (numbered f xs z)
 
--- a path, an action, and a number for each leaf in w columns, from `at` on
-unfoldable pub touchAt : List ℕ → ℕ → ℕ → Option (Path × Act × List ℤ)
-touchAt s at w =
-    bind (readsPathAt s at) λ p.
-    bind (numberSaid (readsAt s (at + pathColumns) actionColumns)) λ n.
+-- a path, an action, and for each leaf what f makes of its field of w columns
+unfoldable pub touchIn : {X : Type 0} → Option Path → (Field → Option X) → ℕ → List ℕ → Option (Path × Act × List X)
+touchIn path f w s =
+    bind path λ p.
+    bind (numberSaid (readsAt s pathColumns actionColumns)) λ n.
     bind (numbered actNumber actTable n) λ a.
-    bind (numbersAt s (at + pathColumns + actionColumns) (replicate maxLeaves w)) λ ns.
-    some (p, a, ns)
+    bind (each f (fieldsAt s (pathColumns + actionColumns) (replicate maxLeaves w))) λ ls.
+    some (p, a, ls)
 
 -- its text, the action by its number
 abbrev pub touchText : Path → ℕ → ℕ → List ℤ → List ℕ
@@ -49,22 +50,32 @@ touchText p a w zs = pathField p ++ itemsText ((actionColumns, pos a) ∷ map (�
 
 -- ---- events
 
--- whether every leaf is 0
-unfoldable pub allZero : List ℤ → Bool
-allZero [] = true
-allZero (z ∷ zs) = eqZ z (pos 0) && allZero zs
+-- CR 2: a leaf is a number or blank
+unfoldable pub leafSaid : Field → Option Given
+leafSaid (number z) = some (some z)
+leafSaid blank = some none
+leafSaid unreadable = none
+
+-- whether every leaf is 0 or blank
+unfoldable pub isNothing : Given → Bool
+isNothing none = true
+isNothing (some z) = eqZ z (pos 0)
+
+unfoldable pub allNothing : List Given → Bool
+allNothing [] = true
+allNothing (l ∷ ls) = isNothing l && allNothing ls
 
 -- ground 8: "or a leaf not 0 at actions 2 to 4"
-unfoldable pub allowed : Act → List ℤ → Bool
+unfoldable pub allowed : Act → List Given → Bool
 allowed giving ls = true
-allowed (pressing b) ls = allZero ls
+allowed (pressing b) ls = allNothing ls
 
 -- what an event's bytes say: a path, an action and the leaves; none is ground 8
-unfoldable pub eventSays : List ℕ → Option (Path × Act × List ℤ)
-eventSays s = cond (isRecord eventColumns s) (bind (touchAt s 0 wordColumns) λ t. cond (allowed (t .1) (t .2)) (some t) none) none
+unfoldable pub eventSays : List ℕ → Option (Path × Act × List Given)
+eventSays s = cond (isRecord eventColumns s) (bind (touchIn (readsPathAt s 0) leafSaid wordColumns s) λ t. cond (allowed (t .1) (t .2)) (some t) none) none
 
 -- the same as the calculus has it
-unfoldable pub actionOf : Act → List ℤ → Action
+unfoldable pub actionOf : Act → List Given → Action
 actionOf giving ls = give ls
 actionOf (pressing b) ls = press b
 
@@ -73,21 +84,28 @@ eventOf s = bind (eventSays s) λ t. some (t .0, actionOf (t .1) (t .2))
 
 -- ---- entries
 
--- leaf kinds of these numbers
-unfoldable pub leavesNumbered : List ℤ → Option (List Leaf)
-leavesNumbered [] = some []
-leavesNumbered (z ∷ zs) = bind (numbered leafNumber leafTable z) λ k. bind (leavesNumbered zs) λ ks. some (k ∷ ks)
+-- CR 2: "what we write still shows 0": an entry's path is not blank
+unfoldable pub unlessBlank : {X : Type 0} → Field → Option X → Option X
+unlessBlank (number z) o = o
+unlessBlank blank o = none
+unlessBlank unreadable o = o
+
+abbrev pub entryPath : List ℕ → Option Path
+entryPath s = unlessBlank (readsAt s 0 pathColumns) (readsPathAt s 0)
 
 -- what an entry's bytes say: a path, an action and leaf kinds
 unfoldable pub entrySays : List ℕ → Option (Path × Act × List Leaf)
-entrySays s = cond (isRecord entryColumns s) (bind (touchAt s 0 actionColumns) λ t. bind (leavesNumbered (t .2)) λ ks. some (t .0, t .1, ks)) none
+entrySays s =
+    cond (isRecord entryColumns s)
+    (bind (touchIn (entryPath s) numberSaid actionColumns s) λ t. bind (each (numbered leafNumber leafTable) (t .2)) λ ks. some (t .0, t .1, ks))
+    none
 
 -- 01: "An entry covers a readable event of its path and action whose leaves meet its leaf kinds"
 pub record CoversBytes (entry event : List ℕ) : Type 0 where
   pub path : Path
   pub act : Act
   pub kinds : List Leaf
-  pub leaves : List ℤ
+  pub leaves : List Given
   pub entry-says : entrySays entry ≡ some (path, act, kinds)
   pub event-says : eventSays event ≡ some (path, act, leaves)
   pub meets : Meets kinds leaves

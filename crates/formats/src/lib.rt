@@ -1,5 +1,5 @@
 // The formats of 01's texts: records of fields in columns, read and written. What an event, an entry and a list say stands in specs/;
-// here is the code that all of them share, a number for each leaf in fields of one width.
+// here is the code for a number for each leaf, in fields of one width.
 use decimal::field;
 use decimal::field::ACTION_COLUMNS;
 use decimal::field::ROW_COLUMNS;
@@ -10,8 +10,10 @@ use tophat::MAX_LEAVES;
 ghost use mathlib.Core.Path.{_≡_};
 ghost use Prim.Native.Nat.{_+_, _*_, _<_};
 ghost use lib.ListN.{length, replicate};
+ghost use Rattle.decimal.specs.Field.{readsAt};
 ghost use Rattle.tophat.specs.Syntax.{maxLeaves};
-ghost use Rattle.formats.specs.Records.{putItems, itemsOf, numbersAt, numbersRead};
+ghost use Rattle.formats.specs.Records.{fieldsAt, each, putItems, itemsOf, leafRead, leavesRead};
+ghost use Rattle.formats.specs.Touches.{leafSaid};
 
 // 01: "lines of 45 bytes": row number, kind, three operands, byte 10.
 pub const LINE_BYTES: usize = 2 * ROW_COLUMNS + 3 * WORD_COLUMNS + 1;
@@ -33,35 +35,67 @@ pub const HEAD_ENTRIES_AT: usize = HEAD_LEAVES_AT + MAX_LEAVES * WORD_COLUMNS;
 
 pub const HEAD_BYTES: usize = HEAD_ENTRIES_AT + ROW_COLUMNS + 1;
 
-// A number's bits for each leaf, where each can be read; else zeros.
-pub struct Numbers {
+// A leaf of an event, where its field can be read: a number's bits, or blank and the bits 0.
+pub struct Leaf {
     pub readable: bool,
-    pub words: [u32; MAX_LEAVES],
+    pub bits: u32,
+    pub blank: bool,
 }
 
-// The numbers in fields of `width` columns, one after another from `at` on.
-pub fn read_numbers(s: &[u8], at: usize, width: usize) -> Numbers
+// All leaves of an event, where each can be read; else zeros.
+pub struct Leaves {
+    pub readable: bool,
+    pub words: [u32; MAX_LEAVES],
+    pub blank: [bool; MAX_LEAVES],
+}
+
+// The leaf in the field of `width` columns from `at` on.
+fn read_leaf(s: &[u8], at: usize, width: usize) -> Leaf
+    ensures { λ r. ⌜ r ≡ leafRead (leafSaid (readsAt (now (s .entry)) at width)) ⌝ }
+{
+    let reading = field::read(s, at, width);
+    match reading {
+        Reading::Number(n) => Leaf {
+            readable: true,
+            bits: n,
+            blank: false,
+        },
+        Reading::Blank => Leaf {
+            readable: true,
+            bits: 0,
+            blank: true,
+        },
+        Reading::Unreadable => Leaf {
+            readable: false,
+            bits: 0,
+            blank: false,
+        },
+    }
+}
+
+// The leaves in fields of `width` columns, one after another from `at` on.
+pub fn read_leaves(s: &[u8], at: usize, width: usize) -> Leaves
     requires { ⌜ at + maxLeaves * width < 4294967296 ⌝ }
-    ensures { λ r. ⌜ r ≡ numbersRead (numbersAt (now (s .entry)) at (replicate maxLeaves width)) ⌝ }
+    ensures { λ r. ⌜ r ≡ leavesRead (each leafSaid (fieldsAt (now (s .entry)) at (replicate maxLeaves width))) ⌝ }
 {
     let mut words = [0u32; MAX_LEAVES];
+    let mut blank = [false; MAX_LEAVES];
     for k in 0..MAX_LEAVES {
-        let reading = field::read(s, at + k * width, width);
-        match reading {
-            Reading::Number(n) => {
-                words[k] = n;
-            }
-            Reading::Unreadable => {
-                return Numbers {
-                    readable: false,
-                    words: [0u32; MAX_LEAVES],
-                };
-            }
+        let leaf = read_leaf(s, at + k * width, width);
+        if !leaf.readable {
+            return Leaves {
+                readable: false,
+                words: [0u32; MAX_LEAVES],
+                blank: [false; MAX_LEAVES],
+            };
         }
+        words[k] = leaf.bits;
+        blank[k] = leaf.blank;
     }
-    Numbers {
+    Leaves {
         readable: true,
         words: words,
+        blank: blank,
     }
 }
 

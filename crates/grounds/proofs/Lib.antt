@@ -6,3 +6,4 @@ pub mod Stop
 pub mod Ground5
 pub mod Ground6
 pub mod Grounds
+pub mod UnusedWords

@@ -18,6 +18,7 @@ mod listed; // ground 3
 mod sorted; // ground 4
 mod named; // ground 5
 mod small; // ground 6
+pub mod operands; // which are unused
 
 ghost use mathlib.Core.Path.{_≡_};
 ghost use Prim.Native.Nat.{_≤_};

@@ -25,7 +25,7 @@ use Rattle.running.proofs.Forms.{on-unpicked, on-no-if, on-no-let}
 use Rattle.running.specs.Hands.{Unhanded}
 use Rattle.normalising.specs.Trying.{SettleOk}
 use Rattle.handle.specs.declared.Event.{Event}
-use Rattle.handle.specs.Events.{giveNumber, continueNumber, leftNumber, rightNumber, KnownAction, eventPath, eventAction}
+use Rattle.handle.specs.Events.{giveNumber, continueNumber, leftNumber, rightNumber, KnownEvent, leavesBy, eventPath, eventAction}
 use Rattle.handle.specs.Taking.{Picked, PickOk}
 use Rattle.handle.proofs.Numbers.{some-marks, is-give, is-continue, is-left, is-right}
 
@@ -83,26 +83,26 @@ module _ (rs ws ws₁ : List ℕ) (i : ℕ) (env : List ℕ) (d : ℕ) (r : Bool
 
   pub handle-left : (a : ℕ) → (e .path ≡ 0) × (e .action ≡ leftNumber) → a ≡ opA rs i → PickOk rs ws ws₁ i a one env d r → HandleOk rs ws ws₁ i env d (eventPath e) (eventAction e) r
   unfolding handle atSides
-  handle-left a (ep, en) ea h = chosen [] (press left) (path-0 (e .path) ep) (is-left (e .action) (e .leaves) (λ k. omega arith) (λ k. omega arith) en)
+  handle-left a (ep, en) ea h = chosen [] (press left) (path-0 (e .path) ep) (is-left (e .action) (leavesBy (e .leaves) (e .blank)) (λ k. omega arith) (λ k. omega arith) en)
       (λ a₁ b₁ τ Σ Γ s ρ z g y n w. picked-left rs ws ws₁ i env d r a₁ b₁ z g _ _ _ (subst (λ a. PickOk rs ws ws₁ i a one env d r) ea h a₁ (z .1) Σ Γ τ s ρ y w (g .1)))
 
   pub handle-right : (b : ℕ) → (e .path ≡ 0) × (e .action ≡ rightNumber) → b ≡ opB rs i → PickOk rs ws ws₁ i b other env d r → HandleOk rs ws ws₁ i env d (eventPath e) (eventAction e) r
   unfolding handle atSides
-  handle-right b (ep, en) eb h = chosen [] (press right) (path-0 (e .path) ep) (is-right (e .action) (e .leaves) (λ k. omega arith) (λ k. omega arith) (λ k. omega arith))
+  handle-right b (ep, en) eb h = chosen [] (press right) (path-0 (e .path) ep) (is-right (e .action) (leavesBy (e .leaves) (e .blank)) (λ k. omega arith) (λ k. omega arith) (λ k. omega arith))
       (λ a₁ b₁ τ Σ Γ s ρ z g y n w. picked-right rs ws ws₁ i env d r a₁ b₁ z g _ _ _ (subst (λ b. PickOk rs ws ws₁ i b other env d r) eb h b₁ (z .2) Σ Γ τ s ρ n w (g .2)))
 
 module _ (rs ws : List ℕ) (i : ℕ) (env : List ℕ) (d : ℕ) (e : Event) (v : Unhanded rs ws i) (q : OfKind rs i (taskK xorK)) where
   -- a mark is left over, a value, or Continue
-  pub handle-unpicked : KnownAction e → (e .path ≡ 0 → e .action ≡ leftNumber → ⊥) → (e .path ≡ 0 → e .action ≡ rightNumber → ⊥) → HandleOk rs ws ws i env d (eventPath e) (eventAction e) false
+  pub handle-unpicked : KnownEvent e → (e .path ≡ 0 → e .action ≡ leftNumber → ⊥) → (e .path ≡ 0 → e .action ≡ rightNumber → ⊥) → HandleOk rs ws ws i env d (eventPath e) (eventAction e) false
   unfolding handle atSides
   handle-unpicked l h g = by (ℕ-discrete (e .path) 0) (ℕ-discrete (e .action) giveNumber)
     where
       by : Dec (e .path ≡ 0) → Dec (e .action ≡ giveNumber) → HandleOk rs ws ws i env d (eventPath e) (eventAction e) false
       by (no n) k = chosen rs ws ws i env d false e v q _ _ (some-marks (e .path) n) refl (λ a b τ Σ Γ s ρ z g y n w. (refl, refl))
-      by (yes p) (yes k) = chosen rs ws ws i env d false e v q [] _ (path-0 (e .path) p) (is-give (e .action) (e .leaves) k) (λ a b τ Σ Γ s ρ z g y n w. (refl, refl))
+      by (yes p) (yes k) = chosen rs ws ws i env d false e v q [] _ (path-0 (e .path) p) (is-give (e .action) (leavesBy (e .leaves) (e .blank)) k) (λ a b τ Σ Γ s ρ z g y n w. (refl, refl))
       by (yes p) (no k) =
           let m : e .action ≡ continueNumber = (let x = h p in let y = g p in omega (arith, l .0, l .1)) in
-          chosen rs ws ws i env d false e v q [] (press continue) (path-0 (e .path) p) (is-continue (e .action) (e .leaves) k m) (λ a b τ Σ Γ s ρ z g y n w. (refl, refl))
+          chosen rs ws ws i env d false e v q [] (press continue) (path-0 (e .path) p) (is-continue (e .action) (leavesBy (e .leaves) (e .blank)) k m) (λ a b τ Σ Γ s ρ z g y n w. (refl, refl))
 
 -- ---- rows that take no event: 45, 49, and what is no task
 

@@ -1,15 +1,16 @@
 -- What the editors ensure, kinds 40 to 42: a value that an event gives is laid where the content stands, and an event that gives none
--- is refused. Rests on Numbers, on the forms of rows and on the frames of crate state.
+-- is refused. Rests on Numbers and Blanks, on the forms of rows and on the frames of crate state.
 use mathlib.Core.Path.{_≡_, refl, sym, ap, _∙_, subst}
 use mathlib.Core.Logic.{inl, inr}
 use mathlib.Core.Bool.{Bool, true, false}
 use mathlib.Core.Option.{Option, none, some, bind}
-use mathlib.Core.List.{List, [], _∷_}
+use mathlib.Core.List.{List, [], _∷_, map}
 use Prim.Native.Nat.{ℕ, _≤_}
 use native.Mathlib.Decide.{ℕ-discrete}
 use native.Mathlib.Omega.{arith}
-use lib.IntN.{ℤ}
 use lib.ListN.{getD, set}
+use mir.Syntax.{w32}
+use mir.Val.{toZ}
 use borrow.Author.Tests.{eq-eqb}
 use Rattle.word.specs.Word.{AllBits}
 use Rattle.decimal.specs.Path.{Path}
@@ -19,15 +20,15 @@ use Rattle.tophat.specs.Syntax.{TaskOf, filled, entered, shared}
 use Rattle.tophat.specs.Typing.{TaskType, k-blank, k-entered, typeOf}
 use Rattle.tophat.specs.Handling.{Action, give, press}
 use Rattle.tophat.proofs.ComputeHandling.{thenSome, atEditor, handle}
-use Rattle.tophat.specs.Leaves.{given}
+use Rattle.tophat.specs.Leaves.{Given, given}
 use Rattle.tophat.proofs.EvaluationAgrees.{look-up}
 use Rattle.tophat.proofs.Leaves.{type-of}
 use Rattle.tophat.proofs.TypeLeaves.{at-leaves, type-leaves}
 use Rattle.rows.specs.Kinds.{taskK, editK, enterK, updateK}
 use Rattle.rows.specs.Rows.{word, opA, OfKind}
-use Rattle.shape.specs.Shape.{asShape, asType}
+use Rattle.shape.specs.Shape.{asShape, asType, shapeLeaves}
 use Rattle.shape.proofs.Puts.{as-type}
-use Rattle.shape.proofs.Counts.{by-type}
+use Rattle.shape.proofs.Counts.{by-type, shape-leaves}
 use Rattle.typing.specs.RowTypes as typing
 use Rattle.typing.proofs.TypeRows.{type-shape}
 use Rattle.value.specs.Values.{asValue}
@@ -45,9 +46,10 @@ use Rattle.state.proofs.Sites.{on-code}
 use Rattle.eval.proofs.Arms.{in-list}
 use Rattle.running.proofs.Forms.{on-filled, on-shared}
 use Rattle.handle.specs.declared.Event.{Event}
-use Rattle.handle.specs.Events.{giveNumber, eventPath, eventAction}
-use Rattle.handle.specs.Taking.{takenBy, Filled, FillOk}
+use Rattle.handle.specs.Events.{giveNumber, ZeroBlanks, leavesBy, eventPath, eventAction}
+use Rattle.handle.specs.Taking.{takenBy, Filled, NoneBlank, FillOk}
 use Rattle.handle.proofs.Numbers.{some-marks, is-give, is-press}
+use Rattle.handle.proofs.Blanks.{given-blank, given-bits}
 
 -- ---- fill, way by way
 
@@ -58,40 +60,57 @@ module _ (e : Event) where
   not-given τ h = by (ℕ-discrete (e .path) 0)
     where
       by : Dec (e .path ≡ 0) → takenBy τ e ≡ none
-      by (yes p) = let (b, q) = is-press (e .action) (e .leaves) (h p) in rw (path-0 (e .path) p, q)
+      by (yes p) = let (b, q) = is-press (e .action) (leavesBy (e .leaves) (e .blank)) (h p) in rw (path-0 (e .path) p, q)
       by (no n) = rw (some-marks (e .path) n)
 
   -- leaves at the path's end
-  taken-is : (c : ℕ) (τ : Ty) → (e .path ≡ 0) × (e .action ≡ giveNumber) → c ≡ asShape τ → valueIn (record { shape = c; leaves = e .leaves }) τ ≡ takenBy τ e
-  unfolding atEditor valueIn
-  taken-is c τ (p, h) q = rw (path-0 (e .path) p, is-give (e .action) (e .leaves) h, eq-eqb c (asShape τ) q)
+  at-end : (τ : Ty) → (e .path ≡ 0) × (e .action ≡ giveNumber) → takenBy τ e ≡ given τ (leavesBy (e .leaves) (e .blank))
+  unfolding atEditor
+  at-end τ (p, h) = rw (path-0 (e .path) p, is-give (e .action) (leavesBy (e .leaves) (e .blank)) h)
+
+  -- none of which that the type has a leaf for is blank
+  taken-is : (c : ℕ) (τ : Ty) → (e .path ≡ 0) × (e .action ≡ giveNumber) → given τ (leavesBy (e .leaves) (e .blank)) ≡ given τ (map some (map (toZ w32) (e .leaves))) → c ≡ asShape τ
+      → valueIn (record { shape = c; leaves = e .leaves }) τ ≡ takenBy τ e
+  unfolding valueIn
+  taken-is c τ g b q = rw (eq-eqb c (asShape τ) q) (sym b ∙ sym (at-end τ g))
 
 module _ (ws : List ℕ) (i x c : ℕ) (e : Event) where
   pub fill-not-given : (e .path ≡ 0 → e .action ≡ giveNumber → ⊥) → FillOk ws ws i x c e false
   unfolding bind
   fill-not-given h = by-type c (λ o. Filled ws ws i x false (bind o λ τ. takenBy τ e)) (refl, refl) (λ τ q l. subst (Filled ws ws i x false) (sym (not-given e τ h)) (refl, refl))
 
-  module _ (r : Bool) (g : (e .path ≡ 0) × (e .action ≡ giveNumber)) (w : r ≡ true → AllBits (e .leaves)) (f : r ≡ fitsIn (record { shape = c; leaves = e .leaves }) c) where
-    -- the value that the event gives, if there is one
-    given-got : Got r (λ u. record { shape = c; leaves = e .leaves } ≡ asValue u) (bind (asType c) λ τ. takenBy τ e)
-    unfolding valueFor bind
-    given-got =
-        let v : Value = record { shape = c; leaves = e .leaves } in
-        subst (Got r (λ u. v ≡ asValue u)) (by-type c (λ o. bind o (valueIn v) ≡ bind o (λ τ. takenBy τ e)) refl (λ τ q l. taken-is e c τ g q)) (fits-got v c r w f)
+  module _ (g : (e .path ≡ 0) × (e .action ≡ giveNumber)) (n : ℕ) (q : n ≡ shapeLeaves c) (y : Bool) (b : NoneBlank (e .blank) n y) where
+    -- of a type's leaves
+    of-type : (τ : Ty) → leaves τ ≤ maxLeaves → c ≡ asShape τ → NoneBlank (e .blank) (leaves τ) y
+    of-type τ l s = subst (λ n. NoneBlank (e .blank) n y) (q ∙ ap shapeLeaves s ∙ shape-leaves τ l) b
 
-    pub fill-unfit : r ≡ false → FillOk ws ws i x c e false
-    fill-unfit h = by given-got
-      where
-        by : {o : Option Val} {Q : Val → Type 0} → Got r Q o → Filled ws ws i x false o
-        by (got-none n) = (refl, refl)
-        by (got-some n k) = differ (sym n ∙ h)
+    pub fill-blank : y ≡ false → FillOk ws ws i x c e false
+    unfolding bind
+    fill-blank h = by-type c (λ o. Filled ws ws i x false (bind o λ τ. takenBy τ e)) (refl, refl)
+        (λ τ s l. subst (Filled ws ws i x false) (sym (at-end e τ g ∙ given-blank τ (e .leaves) (e .blank) y (of-type τ l s) h)) (refl, refl))
 
-    pub fill-fits : (ws₁ : List ℕ) → r ≡ true → Laid ws ws₁ i (x ∷ wordsOf (record { shape = c; leaves = e .leaves })) → FillOk ws ws₁ i x c e true
-    fill-fits ws₁ h m = by given-got
-      where
-        by : {o : Option Val} → Got r (λ u. record { shape = c; leaves = e .leaves } ≡ asValue u) o → Filled ws ws₁ i x true o
-        by (got-none n) = differ (sym h ∙ n)
-        by (got-some {x = u} n k) = (refl, laid-as u m k)
+    module _ (z : ZeroBlanks (e .leaves) (e .blank)) (h : y ≡ true) (r : Bool) (w : r ≡ true → AllBits (e .leaves)) (f : r ≡ fitsIn (record { shape = c; leaves = e .leaves }) c) where
+      -- the value that the event gives, if there is one
+      given-got : Got r (λ u. record { shape = c; leaves = e .leaves } ≡ asValue u) (bind (asType c) λ τ. takenBy τ e)
+      unfolding valueFor bind
+      given-got =
+          let v : Value = record { shape = c; leaves = e .leaves } in
+          subst (Got r (λ u. v ≡ asValue u)) (by-type c (λ o. bind o (valueIn v) ≡ bind o (λ τ. takenBy τ e)) refl
+          (λ τ s l. taken-is e c τ g (given-bits τ (e .leaves) (e .blank) y (of-type τ l s) z h) s)) (fits-got v c r w f)
+
+      pub fill-unfit : r ≡ false → FillOk ws ws i x c e false
+      fill-unfit h = by given-got
+        where
+          by : {o : Option Val} {Q : Val → Type 0} → Got r Q o → Filled ws ws i x false o
+          by (got-none n) = (refl, refl)
+          by (got-some n k) = differ (sym n ∙ h)
+
+      pub fill-fits : (ws₁ : List ℕ) → r ≡ true → Laid ws ws₁ i (x ∷ wordsOf (record { shape = c; leaves = e .leaves })) → FillOk ws ws₁ i x c e true
+      fill-fits ws₁ h m = by given-got
+        where
+          by : {o : Option Val} → Got r (λ u. record { shape = c; leaves = e .leaves } ≡ asValue u) o → Filled ws ws₁ i x true o
+          by (got-none n) = differ (sym h ∙ n)
+          by (got-some {x = u} n k) = (refl, laid-as u m k)
 
 -- at a type's shape
 fill-type : (ws ws₁ : List ℕ) (i x c : ℕ) (e : Event) (r : Bool) (τ : Ty) → leaves τ ≤ maxLeaves → c ≡ asShape τ → FillOk ws ws₁ i x c e r → Filled ws ws₁ i x r (takenBy τ e)
@@ -100,7 +119,7 @@ fill-type ws ws₁ i x c e r τ l q f = let t = ap asType q ∙ as-type τ l in 
 
 -- ---- an editor of a type
 
-editor-then : {X : Type 0} (p : Path) (y : Action) (f : List ℤ → Option Val) (K : Val → X) → atEditor p y (λ ls. thenSome (f ls) K) ≡ thenSome (atEditor p y f) K
+editor-then : {X : Type 0} (p : Path) (y : Action) (f : List Given → Option Val) (K : Val → X) → atEditor p y (λ ls. thenSome (f ls) K) ≡ thenSome (atEditor p y f) K
 unfolding atEditor thenSome
 editor-then [] (give ls) f K = refl
 editor-then [] (press b) f K = refl

@@ -1,4 +1,5 @@
 pub mod Numbers
+pub mod Blanks
 pub mod Editing
 pub mod Passing
 pub mod Choosing

@@ -1,15 +1,14 @@
 -- The numbers of events: which path and which action a number is. Rests on specs/Events and on crate decimal's paths.
 use mathlib.Core.Path.{_≡_, refl, sym, ap}
 use mathlib.Core.Bool.{Bool, true, false, cond}
-use mathlib.Core.List.{List, _∷_, map}
+use mathlib.Core.List.{List, _∷_}
 use Prim.Native.Nat.{ℕ, _-_, _/_}
 use native.Mathlib.Omega.{arith}
 use lib.Dec.{eqb}
 use borrow.Author.Tests.{eq-eqb, ne-eqb, eqb-true, eqb-false}
-use mir.Syntax.{w32}
-use mir.Val.{toZ}
 use Rattle.decimal.specs.Path.{frontMark, pathOf}
 use Rattle.decimal.proofs.PathNumbers.{path-front}
+use Rattle.tophat.specs.Leaves.{Given}
 use Rattle.tophat.specs.Handling.{Button, continue, left, right, Action, give, press}
 use Rattle.value.proofs.Operators.{differ}
 use Rattle.handle.specs.declared.Event.{Event}
@@ -32,8 +31,8 @@ numberOf (press right) = rightNumber
 unlike-actions : {X : Type 0} {x y : Action} → x ≡ y → (numberOf x ≡ numberOf y → ⊥) → X
 unlike-actions e n = absurd (n (ap numberOf e))
 
-module _ (n : ℕ) (ls : List ℕ) where
-  pub is-give : n ≡ giveNumber → actionBy n ls ≡ give (map (toZ w32) ls)
+module _ (n : ℕ) (ls : List Given) where
+  pub is-give : n ≡ giveNumber → actionBy n ls ≡ give ls
   unfolding actionBy
   is-give e = rw (eq-eqb n giveNumber e)
 
@@ -61,11 +60,11 @@ module _ (n : ℕ) (ls : List ℕ) where
         by false false e = (right, e)
 
 -- Continue has one number
-pub continue-is : (n : ℕ) (ls : List ℕ) → actionBy n ls ≡ press continue → n ≡ continueNumber
+pub continue-is : (n : ℕ) (ls : List Given) → actionBy n ls ≡ press continue → n ≡ continueNumber
 unfolding actionBy
 continue-is n ls = by (eqb n giveNumber) (eqb n continueNumber) (eqb n leftNumber) (λ e. eqb-true n continueNumber e)
   where
-    by : (x y z : Bool) → (y ≡ true → n ≡ continueNumber) → cond x (give (map (toZ w32) ls)) (cond y (press continue) (cond z (press left) (press right))) ≡ press continue → n ≡ continueNumber
+    by : (x y z : Bool) → (y ≡ true → n ≡ continueNumber) → cond x (give ls) (cond y (press continue) (cond z (press left) (press right))) ≡ press continue → n ≡ continueNumber
     by true y z f e = unlike-actions e (λ z. omega arith)
     by false true z f e = f refl
     by false false true f e = unlike-actions e (λ z. omega arith)

@@ -33,7 +33,7 @@ use Rattle.normalising.specs.Trying.{Attempted, AttemptOk}
 use Rattle.normalising.proofs.Asking.{two-kinds}
 use Rattle.normalising.proofs.Trying.{ran-next}
 use Rattle.handle.specs.declared.Event.{Event}
-use Rattle.handle.specs.Events.{continueNumber, eventPath, eventAction}
+use Rattle.handle.specs.Events.{continueNumber, leavesBy, eventPath, eventAction}
 use Rattle.handle.specs.Taking.{goingOn, GoingOk}
 use Rattle.handle.proofs.Numbers.{some-marks, is-continue, continue-is}
 
@@ -66,7 +66,7 @@ module _ (rs ws : List ℕ) (i : ℕ) (e : Event) where
     where
       at-end : e .path ≡ 0 → (x : Action) → eventAction e ≡ x → noneFound ≡ asFound (goingOn (eventPath e) (eventAction e) (value c t s))
       at-end p (give ls) q = rw (path-0 (e .path) p, q)
-      at-end p (press continue) q = absurd (h p (continue-is (e .action) (e .leaves) q))
+      at-end p (press continue) q = absurd (h p (continue-is (e .action) (leavesBy (e .leaves) (e .blank)) q))
       at-end p (press left) q = rw (path-0 (e .path) p, q)
       at-end p (press right) q = rw (path-0 (e .path) p, q)
 
@@ -77,7 +77,7 @@ module _ (rs ws : List ℕ) (i : ℕ) (e : Event) where
   pub going-value : (r : Found) → (e .path ≡ 0) × (e .action ≡ continueNumber) → ValueOk rs ws i r → GoingOk rs ws i e r
   unfolding goingOn
   going-value r (p, h) f d c z Σ Γ τ s t y st gs gb g w =
-      f d c z Σ Γ τ s t y st gs gb g w ∙ ap asFound (sym (rw (path-0 (e .path) p, is-continue (e .action) (e .leaves) (λ k. omega arith) h)))
+      f d c z Σ Γ τ s t y st gs gb g w ∙ ap asFound (sym (rw (path-0 (e .path) p, is-continue (e .action) (leavesBy (e .leaves) (e .blank)) (λ k. omega arith) h)))
 
 -- ---- the arms
 

@@ -4,7 +4,8 @@ use mathlib.Core.Path.{_≡_}
 use mathlib.Core.Bool.{Bool, true, false}
 use mathlib.Core.Option.{Option, none, some, bind}
 use mathlib.Core.List.{List, [], _∷_}
-use Prim.Native.Nat.{ℕ}
+use Prim.Native.Nat.{ℕ, _<_}
+use lib.ListN.{getD}
 use Rattle.decimal.specs.Path.{Path}
 use Rattle.tophat.specs.Syntax.{Ty, Code, Val, TaskOf, Env, Store}
 use Rattle.tophat.specs.Typing.{CodeType, TaskType, ValueTypes, AllSmall}
@@ -32,6 +33,11 @@ takenBy τ e = atEditor (eventPath e) (eventAction e) λ ls. given τ ls
 abbrev pub Filled : List ℕ → List ℕ → ℕ → ℕ → Bool → Option Val → Type 0
 Filled ws ws₁ i x r none = (r ≡ false) × (ws₁ ≡ ws)
 Filled ws ws₁ i x r (some v) = (r ≡ true) × Laid ws ws₁ i (x ∷ valueWords v)
+
+-- r tells whether none of the first n leaves is blank
+pub record NoneBlank (bs : List Bool) (n : ℕ) (r : Bool) : Type 0 where
+  pub yes : r ≡ true → (k : ℕ) → k < n → getD bs k false ≡ false
+  pub no : r ≡ false → (k : ℕ) × (k < n) × (getD bs k false ≡ true)
 
 -- that of the type whose shape is c, none where c is no type's shape
 abbrev pub FillOk : List ℕ → List ℕ → ℕ → ℕ → ℕ → Event → Bool → Type 0

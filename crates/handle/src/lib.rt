@@ -12,6 +12,7 @@ use rows::operand;
 use running::enclose;
 use running::handed_on;
 use running::value;
+use shape::leaves_of;
 use state::ENV_WORDS;
 use state::ONE;
 use state::OTHER;
@@ -32,19 +33,21 @@ use value::fits;
 use value::none;
 ghost use mathlib.Core.Path.{_≡_};
 ghost use mathlib.Core.List.{List};
-ghost use Prim.Native.Nat.{ℕ, _<_};
+ghost use Prim.Native.Nat.{ℕ, _<_, _≤_};
+ghost use Rattle.tophat.specs.Syntax.{maxLeaves};
 ghost use Rattle.rows.specs.Kinds.{taskK, editK, updateK, xorK};
 ghost use Rattle.rows.specs.Rows.{maxRows, OfKind, FromKind, UpToKind};
 ghost use Rattle.state.specs.Contracts.{Fine, HandleOk};
 ghost use Rattle.running.specs.Hands.{Unhanded};
-ghost use Rattle.handle.specs.Events.{KnownAction, eventPath, eventAction, Ends, passed};
-ghost use Rattle.handle.specs.Taking.{FillOk, GoingOk, PickOk};
+ghost use Rattle.handle.specs.Events.{ZeroBlanks, KnownEvent, eventPath, eventAction, Ends, passed};
+ghost use Rattle.handle.specs.Taking.{NoneBlank, FillOk, GoingOk, PickOk};
 
-// An event: a path as one number (crate decimal), an action's number, and leaves.
+// An event: a path as one number (crate decimal), an action's number, and leaves; a blank leaf's bits are 0.
 pub struct Event {
     pub path: u32,
     pub action: u32,
     pub leaves: [u32; MAX_LEAVES],
+    pub blank: [bool; MAX_LEAVES],
 }
 
 // Whether the event is this action at the path's end.
@@ -57,12 +60,29 @@ fn ends(e: Event, action: u32) -> bool
     e.action == action
 }
 
-// The value that an event gives an editor of the shape, laid at the row.
+// Whether none of the first n leaves is blank.
+fn none_blank(blank: [bool; MAX_LEAVES], n: usize) -> bool
+    requires { ⌜ n ≤ maxLeaves ⌝ }
+    ensures { λ r. ⌜ NoneBlank blank n r ⌝ }
+{
+    for k in 0..n {
+        if blank[k] {
+            return false;
+        }
+    }
+    true
+}
+
+// The value that an event gives an editor of the shape, laid at the row. A blank where the type has a leaf gives none.
 fn fill(state: &mut [u32; STATE_SIZE], row: usize, tag: u32, shape: u32, e: Event) -> bool
-    requires { ⌜ row < maxRows ⌝ }
+    requires { ⌜ (row < maxRows) × ZeroBlanks (e .leaves) (e .blank) ⌝ }
     ensures { λ r. ⌜ FillOk (now (state .entry)) (now (state .exit)) row tag shape e r ⌝ }
 {
     if !ends(e, GIVE) {
+        return false;
+    }
+    let blank = e.blank;
+    if !none_blank(blank, leaves_of(shape)) {
         return false;
     }
     let leaves = e.leaves;
@@ -79,7 +99,7 @@ fn fill(state: &mut [u32; STATE_SIZE], row: usize, tag: u32, shape: u32, e: Even
 
 // An editor: its content's type is that of its row's value, of its type row, or of its cell.
 fn edit(rows: &[u32; ROWS_WORDS], state: &mut [u32; STATE_SIZE], row: usize, e: Event) -> bool
-    requires { ⌜ Fine (now rows) row 0 × FromKind (now rows) row (taskK editK) × UpToKind (now rows) row (taskK updateK) ⌝ }
+    requires { ⌜ Fine (now rows) row 0 × FromKind (now rows) row (taskK editK) × UpToKind (now rows) row (taskK updateK) × ZeroBlanks (e .leaves) (e .blank) ⌝ }
     ensures { λ r. ⌜ ((env : List ℕ) (d : ℕ) → HandleOk (now (rows .entry)) (now (state .entry)) (now (state .exit)) row env d (eventPath e) (eventAction e) r) ⌝ }
 {
     let kind = get(rows, row, 0);
@@ -143,7 +163,7 @@ fn pick(
     depth: usize,
     e: Event,
 ) -> bool
-    requires { ⌜ Fine (now rows) row depth × OfKind (now rows) row (taskK xorK) × Unhanded (now rows) (now state) row × KnownAction e ⌝ }
+    requires { ⌜ Fine (now rows) row depth × OfKind (now rows) row (taskK xorK) × Unhanded (now rows) (now state) row × KnownEvent e ⌝ }
     ensures { λ r. ⌜ HandleOk (now (rows .entry)) (now (state .entry)) (now (state .exit)) row (now (env .entry)) depth (eventPath e) (eventAction e) r ⌝ }
 {
     if ends(e, LEFT) {
@@ -173,7 +193,7 @@ pub fn handle(
     depth: usize,
     e: Event,
 ) -> bool
-    requires { ⌜ Fine (now rows) row depth × KnownAction e ⌝ }
+    requires { ⌜ Fine (now rows) row depth × KnownEvent e ⌝ }
     ensures { λ r. ⌜ HandleOk (now (rows .entry)) (now (state .entry)) (now (state .exit)) row (now (env .entry)) depth (eventPath e) (eventAction e) r ⌝ }
 {
     let part = handed_on(rows, state, row);

@@ -26,6 +26,7 @@ fn replayed() -> bool {
             skip(rest);
             io::write_all(STDOUT_FILENO, b"----\n")
         }
+        Reading::Blank => false,
         Reading::Unreadable => false,
     }
 }

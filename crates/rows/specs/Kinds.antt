@@ -1,7 +1,7 @@
 -- The kinds of rows (01, "The sheet") and the one table of them. A kind belongs to the group of what its rows read as. Its line
 -- in the table says its number, what its operands must be, its own sort, and what it puts around the rows below it. Number to
--- kind, kind to number, and grounds 3 to 6 are readings of the table: a new kind is a constructor and a line. Rests on nothing.
-use mathlib.Core.Bool.{cond}
+-- kind, kind to number, grounds 3 to 6, and where a blank is 0 are readings of the table: a new kind is a constructor and a line. Rests on nothing.
+use mathlib.Core.Bool.{Bool, true, false, cond}
 use mathlib.Core.Option.{Option, none, some}
 use mathlib.Core.List.{List, [], _∷_}
 use Prim.Native.Nat.{ℕ, suc, max}
@@ -118,6 +118,27 @@ kindOf w = lookUp (λ k s. some k) none table w
 -- what the kind of a number asks
 unfoldable pub asksOf : ℕ → Asks
 asksOf w = lookUp (λ k s. s) noAsks table w
+
+-- CR 2: whether A, B and C are unused by the kind of a number; a number that is no kind uses all three
+unfoldable pub isUnused : Ask → Bool
+isUnused unused = true
+isUnused operator = false
+isUnused truth = false
+isUnused anyWord = false
+isUnused aType = false
+isUnused aBasic = false
+isUnused aCell = false
+isUnused aPlain = false
+isUnused aTask = false
+isUnused aBranch = false
+isUnused likeB = false
+
+unfoldable pub unusedBy : Asks → List Bool
+unusedBy (asks p q r o x) = isUnused p ∷ isUnused q ∷ isUnused r ∷ []
+unusedBy noAsks = false ∷ false ∷ false ∷ []
+
+abbrev pub unusedOf : ℕ → List Bool
+unusedOf w = unusedBy (asksOf w)
 
 -- two kinds are the same or not
 abbrev pub sameKind : Discrete Kind

@@ -13,10 +13,10 @@ use mir.Syntax.{w32}
 use mir.Val.{toZ}
 use mir.Facts.{toZ-pos, toZ-neg}
 use Rattle.word.specs.Word.{words, half}
-use Rattle.decimal.specs.Field.{Field, number, unreadable, rowColumns, readsAt, reading}
+use Rattle.decimal.specs.Field.{Field, number, blank, unreadable, rowColumns, readsAt, reading}
 use Rattle.decimal.specs.declared.field.Reading.{Reading}
-use Rattle.decimal.specs.declared.field.Reading.the-variants.{Number, Unreadable}
-use Rattle.decimal.proofs.Answers.{number-read, nothing-said}
+use Rattle.decimal.specs.declared.field.Reading.the-variants.{Number, Blank, Unreadable}
+use Rattle.decimal.proofs.Answers.{number-read, blank-said, nothing-said}
 use Rattle.rows.specs.Rows.{maxRows}
 use Rattle.screens.specs.Counts.{countBytes, countSaid, countIn}
 
@@ -58,6 +58,10 @@ module _ (s : List ℕ) where
       pub count-number : (n m : ℕ) → r ≡ Number n → m ≡ countSaid (number (toZ w32 n)) → m ≡ countIn s
       count-number n m h g = g ∙ ap countSaid (sym (number-read s 0 rowColumns n (sym h ∙ e) .is)) ∙ said
 
+      pub count-blank : r ≡ Blank → 0 ≡ countIn s
+      unfolding countSaid
+      count-blank h = ap countSaid (sym (blank-said (readsAt s 0 rowColumns) (sym h ∙ e))) ∙ said
+
       pub count-unread : r ≡ Unreadable → 0 ≡ countIn s
       unfolding countSaid
       count-unread h = ap countSaid (sym (nothing-said (readsAt s 0 rowColumns) (sym h ∙ e))) ∙ said
@@ -67,6 +71,7 @@ said-few : (f : Field) → countSaid f ≤ maxRows
 unfolding countSaid
 said-few (number (pos n)) = cases (leb n maxRows) (λ e. rw e (leb-true n maxRows e)) (λ e. rw e (omega arith))
 said-few (number (negsuc n)) = omega arith
+said-few blank = omega arith
 said-few unreadable = omega arith
 
 pub count-few : (s : List ℕ) → countIn s ≤ maxRows

@@ -6,3 +6,4 @@ pub mod Bounds
 mod Sessions
 mod Cases
 mod ShownCases
+mod BlankCases

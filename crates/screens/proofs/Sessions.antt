@@ -82,7 +82,7 @@ unfolding
     decLe option.bind word.residue word.wrap tabulate.tabulate field.digits field.text field.justified field.trimmed field.counted field.numeral
     field.readsAt field.putAt paths.marksText paths.pathText paths.marks paths.pathIn paths.readsPathAt paths.pathNumber paths.marksFrom syntax.leaves
     syntax.moves syntax.taskRows normalising.pairOf normalising.firstOf normalising.value typing.typeOf leaves.leavesOf leaves.padded leaves.leafKinds
-    leaves.meetsLeaf leaves.meets leaves.valueOf leaves.given showing.marked showing.offers showing.buttonIf computeTyping.ask computeTyping.nth
+    leaves.meetsLeaf leaves.meets leaves.valueOf leaves.numberGiven leaves.given showing.marked showing.offers showing.buttonIf computeTyping.ask computeTyping.nth
     computeTyping.takes computeTyping.gives computeTyping.numberTo computeTyping.opTo computeTyping.sameTo computeTyping.ifTo computeTyping.typeTo
     computeTyping.firstTo computeTyping.secondTo computeTyping.assignTo computeTyping.infer computeTyping.inferTask computeEvaluation.leaf
     computeEvaluation.isTrue computeEvaluation.apply computeEvaluation.firstPart computeEvaluation.secondPart computeEvaluation.branch
@@ -90,7 +90,7 @@ unfolding
     computeNormalising.goOnWith computeNormalising.chooseRight computeNormalising.chooseLeft computeNormalising.failing computeNormalising.stride
     computeNormalising.normalise computeNormalising.settle computeNormalising.remaining computeHandling.mapTask computeHandling.thenSome
     computeHandling.atEditor computeHandling.atMark computeHandling.atSides computeHandling.atContinue computeHandling.unlessFailing
-    computeHandling.handle computeEntries.continueIf computeEntries.entries kinds.kindOf kinds.asksOf rows.every rows.listedAs rows.listed
+    computeHandling.handle computeEntries.continueIf computeEntries.entries kinds.kindOf kinds.asksOf kinds.isUnused kinds.unusedBy rows.every rows.listedAs rows.listed
     rows.truthCell rows.rowListed rows.sortBy rows.sorts rows.sortNumber rows.sortedAs rows.sorted rows.rowSorted rows.names rows.namesBy rows.namesIn
     rows.namings rows.namedOnce rows.lastFits rows.movers enclosing.bindersBy enclosing.marksBy enclosing.mostBinders enclosing.mostMarks
     enclosing.counts enclosing.leavesBy enclosing.rowSmall trees.operatorOf computeTrees.contentOf computeTrees.typeAt computeTrees.expAt
@@ -100,9 +100,9 @@ unfolding
     shape.front shape.asType shape.pairShape shape.firstShape shape.secondShape shape.leavesIn shape.shapeLeaves shape.kindsIn shape.kindsOf
     layout.valueWords layout.putWords layout.writeTask layout.writeCells layout.encode lent.ownOf lent.lentOf reading.readValue reading.byTag
     reading.readTask reading.readStore reading.same reading.decode values.leafBits values.asValue found.asFound fits.valueIn fits.valueFor
-    records.isRecord records.numberSaid records.numbersAt records.textOf records.itemsText records.putItems records.numbersRead lines.afterRow
-    lines.lineSays lines.linesSay touching.numbered touching.touchAt touching.allZero touching.allowed touching.eventSays touching.actionOf
-    touching.eventOf touching.leavesNumbered touching.entrySays lists.offerAct lists.offerKinds lists.entryText lists.listText lists.under
+    records.isRecord records.fieldsAt records.numberSaid records.each records.textOf records.itemsText records.putItems records.leavesRead lines.meant lines.meantAll lines.kindWord lines.afterRow
+    lines.lineSays lines.linesSay touching.numbered touching.touchIn touching.leafSaid touching.isNothing touching.allNothing touching.allowed touching.eventSays touching.actionOf
+    touching.eventOf touching.unlessBlank touching.entrySays lists.offerAct lists.offerKinds lists.entryText lists.listText lists.under
     memories.stateOf memories.valueMemory memories.hasOne calls.startWith calls.startCall calls.atRest calls.decoded calls.readWith calls.opened
     calls.handled calls.handleRead calls.handleIn calls.handleCall calls.lookIn calls.lookCall heads.headOver screens.shownAfter screens.loadedCounted
     screens.begins screens.touched

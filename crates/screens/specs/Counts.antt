@@ -5,7 +5,7 @@ use Prim.Native.Nat.{ℕ, _+_}
 use lib.Dec.{eqb, leb}
 use lib.IntN.{pos, negsuc}
 use lib.ListN.{length, getD}
-use Rattle.decimal.specs.Field.{Field, number, unreadable, rowColumns, readsAt, newline}
+use Rattle.decimal.specs.Field.{Field, number, blank, unreadable, rowColumns, readsAt, newline}
 use Rattle.rows.specs.Rows.{maxRows}
 
 abbrev pub countBytes : ℕ
@@ -15,6 +15,7 @@ countBytes = rowColumns + 1
 unfoldable pub countSaid : Field → ℕ
 countSaid (number (pos n)) = cond (leb n maxRows) n 0
 countSaid (number (negsuc n)) = 0
+countSaid blank = 0
 countSaid unreadable = 0
 
 unfoldable pub countIn : List ℕ → ℕ

@@ -40,6 +40,7 @@ pub fn read(s: &[u8]) -> usize
     let reading = field::read(s, 0, ROW_COLUMNS);
     match reading {
         Reading::Number(bits) => few(bits),
+        Reading::Blank => 0,
         Reading::Unreadable => 0,
     }
 }

@@ -10,11 +10,11 @@ use lib.IntN.{ℤ, pos, negsuc}
 use lib.ListN.{replicate}
 use Rattle.tophat.specs.Syntax.{leaves}
 use Rattle.tophat.proofs.ComputeTyping.{ask, nth, takes, gives, numberTo, opTo, sameTo, ifTo, typeTo, firstTo, secondTo, assignTo, infer, inferTask}
-use mathlib.Core.Option.{bind}
-use Rattle.decimal.specs.Field.{newline, digits, text, justified, trimmed, counted, numeral, readsAt}
-use Rattle.formats.specs.Records.{numberSaid, numbersAt, textOf, itemsText, itemsIn}
-use Rattle.formats.specs.Lines.{lineColumns, afterRow, lineSays, linesSay}
-use Rattle.rows.specs.Kinds.{kindOf, asksOf}
+use mathlib.Core.Option.{Option, none, some, bind}
+use Rattle.decimal.specs.Field.{space, newline, rowColumns, wordColumns, digits, text, justified, written, trimmed, counted, numeral, readsAt}
+use Rattle.formats.specs.Records.{fieldsAt, numberSaid, each, textOf, itemsText, itemsIn}
+use Rattle.formats.specs.Lines.{lineColumns, meant, meantAll, kindWord, afterRow, lineSays, linesSay}
+use Rattle.rows.specs.Kinds.{kindOf, asksOf, isUnused, unusedBy}
 use Rattle.rows.specs.Rows.{rowWords, every, listedAs, listed, truthCell, rowListed, sortBy, sorts, sortNumber, sortedAs, sorted, rowSorted, names, namesBy, namesIn, namings, namedOnce, lastFits}
 use Rattle.rows.specs.Enclosing.{bindersBy, marksBy, mostBinders, mostMarks, counts, leavesBy, rowSmall}
 use Rattle.rows.specs.Trees.{operatorOf}
@@ -26,7 +26,7 @@ use Rattle.sheet.specs.Sheet.{lines, sized, leaving, loadedLines, loaded
 unfoldable load : List ℕ → List ℤ → ℕ × List ℤ
 unfolding
     bind ask nth takes gives numberTo opTo sameTo ifTo typeTo firstTo secondTo assignTo infer inferTask leaves decLe digits text justified trimmed
-    counted numeral readsAt numberSaid numbersAt textOf itemsText afterRow lineSays linesSay kindOf asksOf every listedAs listed truthCell rowListed sortBy
+    counted numeral readsAt fieldsAt numberSaid each textOf itemsText isUnused unusedBy meant meantAll kindWord afterRow lineSays linesSay kindOf asksOf every listedAs listed truthCell rowListed sortBy
     sorts sortNumber sortedAs sorted rowSorted names namesBy namesIn namings namedOnce lastFits bindersBy marksBy mostBinders mostMarks counts
     leavesBy rowSmall operatorOf typeAt expAt codeAt cellType cellTypes flowType isSome passes3 passes4 passes5 passes6 passes7 groundOfRows sized
     leaving loadedLines loaded
@@ -44,6 +44,24 @@ abbrev session : List ℕ
 session =
     line 0 3 0 0 0 ++ (line 1 41 0 0 0 ++ (line 2 23 0 0 0 ++ (line 3 22 9 0 0 ++ (line 4 24 5 2 3 ++ (line 5 23 0 0 0 ++
     (line 6 22 30 0 0 ++ (line 7 24 3 5 6 ++ (line 8 40 7 0 0 ++ (line 9 45 0 0 0 ++ (line 10 25 4 8 9 ++ line 11 43 1 10 0))))))))))
+
+-- a line as a spreadsheet draws it: a field is a number or left blank (CR 2)
+abbrev cell : ℕ → Option ℕ → List ℕ
+cell w none = replicate w space
+cell w (some n) = textOf (written w (pos n))
+
+abbrev drawn : Option ℕ → Option ℕ → Option ℕ → Option ℕ → Option ℕ → List ℕ
+drawn r k a b c = cell rowColumns r ++ (cell rowColumns k ++ (cell wordColumns a ++ (cell wordColumns b ++ (cell wordColumns c ++ newline ∷ []))))
+
+abbrev row : ℕ → ℕ → Option ℕ → Option ℕ → Option ℕ → List ℕ
+row r k a b c = drawn (some r) (some k) a b c
+
+-- 01's session with every unused operand blank
+abbrev blank-session : List ℕ
+blank-session =
+    row 0 3 none none none ++ (row 1 41 (some 0) none none ++ (row 2 23 (some 0) none none ++ (row 3 22 (some 9) none none ++
+    (row 4 24 (some 5) (some 2) (some 3) ++ (row 5 23 (some 0) none none ++ (row 6 22 (some 30) none none ++ (row 7 24 (some 3) (some 5) (some 6) ++
+    (row 8 40 (some 7) none none ++ (row 9 45 (some 0) none none ++ (row 10 25 (some 4) (some 8) (some 9) ++ row 11 43 (some 1) (some 10) none))))))))))
 
 -- a task of one row after its number
 abbrev task : List ℕ
@@ -68,6 +86,14 @@ cases =
     (2, ended 10 (negsuc 0) (pos 22) (pos 1) (pos 0) (pos 0) ++ task) ∷
     (3, ended 10 (pos 0) (negsuc 0) (pos 1) (pos 0) (pos 0) ++ task) ∷  -- a negative kind
     (2, ended 10 (pos 0) (negsuc 0) (pos 1) (pos 0) (pos 0) ++ ended 32 (pos 1) (pos 40) (pos 0) (pos 0) (pos 0)) ∷  -- 2 over all lines before 3
+    (0, blank-session) ∷
+    (0, row 0 22 (some 1) none (some 0) ++ row 1 40 (some 0) (some 0) none) ∷  -- blanks and zeros mixed
+    (2, row 0 22 none none none ++ task) ∷  -- a used operand blank
+    (2, row 0 22 (some 1) none none ++ row 1 40 none none none) ∷  -- also where its 0 would be right
+    (2, drawn none (some 22) (some 1) none none ++ task) ∷  -- a row number
+    (2, drawn (some 0) none (some 1) none none ++ task) ∷  -- a kind
+    (3, row 0 99 (some 0) (some 0) (some 0) ++ task) ∷  -- no kind
+    (2, row 0 99 (some 0) (some 0) none ++ task) ∷  -- and an operand of it blank
     []
 
 -- rows memory of n words

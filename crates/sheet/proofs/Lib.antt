@@ -6,5 +6,7 @@ pub mod LoadLaws
 pub mod WrittenSheet
 pub mod AcceptedRows
 pub mod AcceptedLaws
+-- Blank cells in a sheet (CR 2).
+pub mod Blanks
 -- Texts and their grounds, computed.
 mod Cases

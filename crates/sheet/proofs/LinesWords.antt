@@ -11,9 +11,11 @@ use lib.ListN.{length, getD, length-append}
 use Rattle.word.specs.Word.{IsWord, AllWords, eqZ}
 use Rattle.word.proofs.Lists.{words-append}
 use Rattle.decimal.specs.Field.{newline}
-use Rattle.formats.specs.Records.{total, numbersAt}
-use Rattle.formats.specs.Lines.{lineColumns, lineBytes, afterRow, lineSays, linesSay}
-use Rattle.formats.proofs.Records.{numbers-length, numbers-words}
+use Rattle.formats.specs.Records.{total, numberSaid, each}
+use Rattle.formats.specs.Lines.{lineColumns, lineBytes, unusedFields, lineFields, afterRow, lineSays, linesSay}
+use Rattle.formats.proofs.Each.{each-length}
+use Rattle.formats.proofs.Records.{fields-words, numbers-words}
+use Rattle.formats.proofs.LinesRead.{meant-words, kindIn, fields-long}
 use Rattle.rows.specs.Rows.{rowWords}
 
 -- a choice between something and nothing that is something
@@ -28,19 +30,19 @@ module _ (s : List ℕ) where
   after-row i (n ∷ ns) {zs} h = let e = chosen (eqZ n (pos i)) (some ns) h in let q : ns ≡ zs = cc in (n, ap (λ l. n ∷ l) q)
 
   -- the numbers in line i, behind its row's own
-  numbers-of : (i : ℕ) {zs : List ℤ} → lineSays s i ≡ some zs → (z : ℤ) × (numbersAt s (i * lineBytes) lineColumns ≡ some (z ∷ zs))
+  numbers-of : (i : ℕ) {zs : List ℤ} → lineSays s i ≡ some zs → (z : ℤ) × (each numberSaid (lineFields s i) ≡ some (z ∷ zs))
   unfolding lineSays
   numbers-of i h =
       let g = chosen (eqb (getD s (i * lineBytes + total lineColumns) 0) newline) _ h in
-      let (ns, e, f) = bind-eq-some-iff (numbersAt s (i * lineBytes) lineColumns) _ .0 g in
+      let (ns, e, f) = bind-eq-some-iff (each numberSaid (lineFields s i)) _ .0 g in
       let (z, q) = after-row i ns f in
       (z, e ∙ ap some q)
 
   pub line-long : (i : ℕ) {zs : List ℤ} → lineSays s i ≡ some zs → length zs ≡ rowWords
-  line-long i h = let (z, e) = numbers-of i h in let l = numbers-length s (i * lineBytes) lineColumns e in omega (arith, l)
+  line-long i h = let (z, e) = numbers-of i h in let l = each-length numberSaid (lineFields s i) e in omega (arith, l, fields-long s i)
 
   line-words : (i : ℕ) {zs : List ℤ} → lineSays s i ≡ some zs → AllWords zs
-  line-words i h = let (z, e) = numbers-of i h in let w = numbers-words s (i * lineBytes) lineColumns e in λ k. w (suc k)
+  line-words i h = let (z, e) = numbers-of i h in let w = numbers-words (meant-words (unusedFields (kindIn s i)) (fields-words s (i * lineBytes) lineColumns)) e in λ k. w (suc k)
 
   pub lines-long : (n : ℕ) {ws : List ℤ} → linesSay s n ≡ some ws → length ws ≡ n * rowWords
   unfolding linesSay

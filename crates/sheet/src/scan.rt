@@ -2,18 +2,18 @@
 ghost use mathlib.Core.Path.{_≡_};
 ghost use Prim.Native.Nat.{suc, _+_, _*_, _<_, _≤_};
 ghost use lib.ListN.{length, getD, replicate};
-ghost use Rattle.decimal.specs.Field.{reading};
-ghost use Rattle.formats.specs.Records.{placeOf};
+ghost use Rattle.formats.specs.Records.{placeOf, numberSaid};
 ghost use Rattle.formats.specs.Lines.{lineColumns, lineBytes, linesSay};
 ghost use Rattle.rows.specs.Rows.{maxRows, rowWords};
 ghost use Rattle.rows.specs.Lent.{rowsSize};
-ghost use Rattle.sheet.specs.Scan.{isLine, wordAt, LinesRead};
+ghost use Rattle.sheet.specs.Scan.{isLine, wordAt, wordRead, LinesRead};
 use decimal::field;
 use decimal::field::NEWLINE;
 use decimal::field::ROW_COLUMNS;
 use decimal::field::Reading;
 use decimal::field::WORD_COLUMNS;
 use formats::LINE_BYTES;
+use grounds::operands::unused;
 use rows::ROW_WORDS;
 use rows::ROWS_WORDS;
 
@@ -51,18 +51,39 @@ fn is_line(sheet: &[u8], i: usize) -> bool
     let reading = field::read(sheet, at, ROW_COLUMNS);
     match reading {
         Reading::Number(n) => n as usize == i,
+        Reading::Blank => false,
         Reading::Unreadable => false,
     }
 }
 
-// What word k of row i says.
-fn read_word(sheet: &[u8], i: usize, k: usize) -> Reading
+// A word of a row, if its field can be read.
+struct Word {
+    readable: bool,
+    bits: u32,
+}
+
+// What word k of row i says, where the row's kind has this number: a blank is 0 where the operand is unused, and unreadable elsewhere.
+fn read_word(sheet: &[u8], i: usize, k: usize, kind: u32) -> Word
     requires { ⌜ (i < maxRows) × (k < rowWords) ⌝ }
-    ensures { λ r. ⌜ r ≡ reading (wordAt (now (sheet .entry)) i k) ⌝ }
+    ensures { λ r. ⌜ r ≡ wordRead (numberSaid (wordAt (now (sheet .entry)) kind i k)) ⌝ }
 {
     let place = place_of(k);
     let columns = columns_of(k);
-    field::read(sheet, i * LINE_BYTES + place, columns)
+    let reading = field::read(sheet, i * LINE_BYTES + place, columns);
+    match reading {
+        Reading::Number(n) => Word {
+            readable: true,
+            bits: n,
+        },
+        Reading::Blank => Word {
+            readable: unused(kind, k),
+            bits: 0,
+        },
+        Reading::Unreadable => Word {
+            readable: false,
+            bits: 0,
+        },
+    }
 }
 
 // Whether each of the first n lines can be read; then `own`, lent with zeros, holds their rows. The scan is left at the first field
@@ -79,11 +100,13 @@ pub fn read_lines(sheet: &[u8], n: usize, own: &mut [u32; ROWS_WORDS]) -> bool
             break 'lines;
         }
         for k in 0..ROW_WORDS {
-            let Reading::Number(w) = read_word(sheet, i, k) else {
+            let kind = own[i * ROW_WORDS];
+            let word = read_word(sheet, i, k, kind);
+            if !word.readable {
                 good = false;
                 break 'lines;
-            };
-            own[i * ROW_WORDS + k] = w;
+            }
+            own[i * ROW_WORDS + k] = word.bits;
         }
     }
     good

@@ -53,7 +53,7 @@ cond-all false f g = g refl
 
 value-all : (ws : List ℕ) (i : ℕ) (τ : Ty) → All (λ v. ValueType v τ) (readValue ws i τ)
 unfolding readValue valueIn
-value-all ws i τ = cond-all (eqb (valueAt ws i .shape) (asShape τ)) (λ e. all-of _ (λ v h. given-gives τ h .0)) (λ e. all-none)
+value-all ws i τ = cond-all (eqb (valueAt ws i .shape) (asShape τ)) (λ e. all-of _ (λ v h. given-gives τ h .typed)) (λ e. all-none)
 
 -- what a row holds is read
 pub value-read : {ws : List ℕ} {i x : ℕ} {v : Val} {τ : Ty} → Row ws i (x ∷ valueWords v) → ValueType v τ → leaves τ ≤ maxLeaves → readValue ws i τ ≡ some v

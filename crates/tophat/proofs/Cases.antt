@@ -1,4 +1,4 @@
--- 01's proved cases, P1 to P12, one for 01's numbers, and CR 1's, as one computed check: what the definitions give for each flow and its
+-- 01's proved cases, P1 to P12, one for 01's numbers, CR 1's and CR 2's, as one computed check: what the definitions give for each flow and its
 -- touches is what 01 says. What is computed has its numbers from the calculus' tables; what 01 says has them as 01 writes them, and is
 -- in 01's order. Rests on the Compute files.
 use mathlib.Core.Path.{_≡_, refl}
@@ -14,7 +14,7 @@ use Rattle.tophat.specs.Syntax.{leaves, moves, Ty, unit, truth, number, 
 use Rattle.tophat.specs.Syntax.{Code, edit, enter, update, then, next, fail, and, or, xor, view, if, let', TaskOf, Val, vnumber, Store}
 use Rattle.tophat.specs.Normalising.{value, pairOf}
 use Rattle.tophat.specs.Handling.{continue, left, right, giving, pressing, actNumber, Action, give, press}
-use Rattle.tophat.specs.Leaves.{leavesOf, padded, leafNumber, leafKinds, valueOf, meetsLeaf, meets, given}
+use Rattle.tophat.specs.Leaves.{leavesOf, padded, leafNumber, leafKinds, Given, valueOf, meetsLeaf, meets, numberGiven, given}
 use Rattle.tophat.specs.Showing.{Offer, fill, button, marked, offers, buttonIf}
 use Rattle.tophat.proofs.ComputeTyping.{inferTask, infer, ask, nth, numberTo, opTo, takes, gives, sameTo, ifTo, typeTo, assignTo}
 use Rattle.tophat.proofs.ComputeEvaluation.{eval, branch, isTrue, apply, leaf}
@@ -101,8 +101,15 @@ cell n = vnumber (pos n) ∷ []
 abbrev pub single : ℤ → List ℤ
 single n = padded (pos 0) (n ∷ [])
 
+-- a number given, the other leaves 0 or blank
+abbrev pub giving1 : ℕ → Action
+giving1 n = give (padded (some (pos 0)) (some (pos n) ∷ []))
+
+abbrev pub givingBlank : List Given → Action
+givingBlank ls = give (padded none ls)
+
 abbrev pub value1 : ℕ → Path × Action
-value1 n = ([], give (single (pos n)))
+value1 n = ([], giving1 n)
 
 -- the entry of an editor of one leaf of this kind at a path, of numbers; and a button's at the empty path
 abbrev pub editorOf : ℕ → List ℕ → Line
@@ -232,7 +239,7 @@ abbrev pub buttons : Case
 buttons = record {
   flow = next (and (enter unit) (enter truth)) (xor (edit (num 1)) (edit (num 2)));
   cells = [];
-  events = (first ∷ [], give (single (pos 0))) ∷ (second ∷ [], give (single (pos 1))) ∷ ([], press continue) ∷ [];
+  events = (first ∷ [], giving1 0) ∷ (second ∷ [], giving1 1) ∷ ([], press continue) ∷ [];
   type = some number;
   shown =
       screen 0 1 0 0 (single (pos 0)) (editorOf 1 (1 ∷ []) ∷ editorOf 2 (2 ∷ []) ∷ [])
@@ -248,7 +255,7 @@ abbrev pub quiet-both : Case
 quiet-both = record {
   flow = and (view (num 5)) (fail number);
   cells = [];
-  events = (first ∷ [], give (single (pos 1))) ∷ [];
+  events = (first ∷ [], giving1 1) ∷ [];
   type = some (pair number number);
   shown =
       screen 0 1 0 0 (single (pos 0)) []
@@ -276,7 +283,7 @@ abbrev pub shown-on : Case
 shown-on = record {
   flow = then (view (num 5)) (view (eop product (ebinder 0) (num 2)));
   cells = [];
-  events = ([], give (single (pos 1))) ∷ [];
+  events = ([], giving1 1) ∷ [];
   type = some number;
   shown =
       screen 0 2 0 1 (single (pos 10)) []
@@ -285,8 +292,30 @@ shown-on = record {
   kept = [];
 }
 
+-- CR 2: a blank where the editor's type has a leaf is refused, a unit's too; elsewhere it is as 0
+abbrev pub blanks : Case
+blanks = record {
+  flow = and (enter unit) (enter number);
+  cells = [];
+  events =
+      (first ∷ [], givingBlank [])
+      ∷ (second ∷ [], give (padded (some (pos 0)) (none ∷ [])))
+      ∷ (second ∷ [], givingBlank (some (pos 7) ∷ []))
+      ∷ (first ∷ [], givingBlank (some (pos 0) ∷ []))
+      ∷ [];
+  type = some (pair unit number);
+  shown =
+      screen 0 1 0 0 (single (pos 0)) (editorOf 1 (1 ∷ []) ∷ editor (2 ∷ []) ∷ [])
+      ∷ screen 9 0 0 0 (single (pos 0)) (editorOf 1 (1 ∷ []) ∷ editor (2 ∷ []) ∷ [])
+      ∷ screen 9 0 0 0 (single (pos 0)) (editorOf 1 (1 ∷ []) ∷ editor (2 ∷ []) ∷ [])
+      ∷ screen 0 1 0 0 (single (pos 0)) (editorOf 1 (1 ∷ []) ∷ editor (2 ∷ []) ∷ [])
+      ∷ screen 0 1 0 1 (padded (pos 0) (pos 0 ∷ pos 7 ∷ [])) (editorOf 1 (1 ∷ []) ∷ editor (2 ∷ []) ∷ [])
+      ∷ [];
+  kept = [];
+}
+
 unfoldable pub cases : List Case
-cases = p1-p4 ∷ p5 ∷ p6 ∷ p7 ∷ p8 ∷ p9 ∷ p10 ∷ p11 ∷ p12 ∷ buttons ∷ quiet-both ∷ quiet-next ∷ shown-on ∷ []
+cases = p1-p4 ∷ p5 ∷ p6 ∷ p7 ∷ p8 ∷ p9 ∷ p10 ∷ p11 ∷ p12 ∷ buttons ∷ quiet-both ∷ quiet-next ∷ shown-on ∷ blanks ∷ []
 
 -- what is computed is what 01 says
 pub cases-hold : map computed cases ≡ map expected cases
@@ -294,6 +323,6 @@ unfolding
     cases computed expected screens taken screenOf flag valueFlag valueLeaves lineOf digit inferTask infer
     bind ask nth numberTo opTo takes gives sameTo ifTo typeTo assignTo decLe leaves moves settle normalise strides
     unlessStill goOn goOnWith chooseRight chooseLeft failing eval branch isTrue apply leaf value pairOf
-    leavesOf padded leafKinds marked offers buttonIf typeOf valueOf meetsLeaf meets given mapTask thenSome atEditor
+    leavesOf padded leafKinds marked offers buttonIf typeOf valueOf meetsLeaf meets numberGiven given mapTask thenSome atEditor
     atMark atSides atContinue unlessFailing handle continueIf entries wrap residue
 cases-hold = refl

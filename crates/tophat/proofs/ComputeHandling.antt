@@ -3,13 +3,12 @@
 use mathlib.Core.Bool.{Bool, true, false}
 use mathlib.Core.Option.{Option, none, some}
 use mathlib.Core.List.{List, [], _∷_}
-use lib.IntN.{ℤ}
 use lib.ListN.{getD, set}
 use Rattle.decimal.specs.Path.{first, second, Path}
 use Rattle.tophat.specs.Syntax.{Code, edit, enter, update, then, next, fail, and, or, xor, view, if, let', Val, vunit, Env, Store}
 use Rattle.tophat.specs.Syntax.{TaskOf, filled, entered, shared, before, after, both, either, orLeft, orRight, unpicked, pickedLeft, pickedRight, ifTrue, ifFalse, bound}
 use Rattle.tophat.specs.Typing.{typeOf}
-use Rattle.tophat.specs.Leaves.{given}
+use Rattle.tophat.specs.Leaves.{Given, given}
 use Rattle.tophat.specs.Normalising.{value}
 use Rattle.tophat.specs.Handling.{continue, left, right, Action, give, press}
 use Rattle.tophat.proofs.ComputeEvaluation.{evaluate}
@@ -25,7 +24,7 @@ thenSome (some a) f = some (f a)
 
 module _ {X : Type 0} where
   -- an editor takes a value at the path's end
-  unfoldable pub atEditor : Path → Action → (List ℤ → Option X) → Option X
+  unfoldable pub atEditor : Path → Action → (List Given → Option X) → Option X
   atEditor [] (give ls) f = f ls
   atEditor [] (press b) f = none
   atEditor (m ∷ p) x f = none

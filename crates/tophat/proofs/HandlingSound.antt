@@ -4,7 +4,6 @@ use mathlib.Core.Path.{_≡_, refl, ap}
 use mathlib.Core.Bool.{Bool, true, false}
 use mathlib.Core.Option.{Option, none, some}
 use mathlib.Core.List.{List, [], _∷_}
-use lib.IntN.{ℤ}
 use lib.ListN.{getD}
 use Rattle.decimal.specs.Path.{first, second, Path}
 use Rattle.tophat.specs.Syntax.{Ty, pair, Code, edit, enter, update, next, and, or, xor, Val, vunit, Env, Store}
@@ -15,7 +14,7 @@ use Rattle.tophat.specs.Typing.{k-unpicked, k-picked-left, k-picked-righ
 use Rattle.tophat.specs.Normalising.{value}
 use Rattle.tophat.specs.Handling.{h-became}
 use Rattle.tophat.specs.Handling.{continue, left, right, Action, give, press, Handles, h-change, h-fill, h-update, h-pass-then, h-pass-next, h-next}
-use Rattle.tophat.specs.Leaves.{Gives, given}
+use Rattle.tophat.specs.Leaves.{Given, Gives, given}
 use Rattle.tophat.specs.Handling.{h-first-and, h-second-and, h-first-or, h-second-or, h-pick-left, h-pick-right}
 use Rattle.tophat.proofs.Basics.{All, all-none, all-some}
 use Rattle.tophat.proofs.ComputeNormalising.{settle}
@@ -34,12 +33,12 @@ pub record GoodHandling (Σ Γ : List Ty) (τ : Ty) (c : Code) (ρ : Env) (s : S
   pub store : ValueTypes (r .1) Σ
 
 module _ {X : Type 0} where
-  given-all : {P : X → Type 0} {ls : List ℤ} (τ : Ty) (o : Option Val) (K : Val → X) → given τ ls ≡ o → ((v : Val) → Gives ls τ v → P (K v)) → All P (thenSome o K)
+  given-all : {P : X → Type 0} {ls : List Given} (τ : Ty) (o : Option Val) (K : Val → X) → given τ ls ≡ o → ((v : Val) → Gives ls τ v → P (K v)) → All P (thenSome o K)
   unfolding thenSome
   given-all τ none K e h = all-none
   given-all τ (some v) K e h = all-some (h v (given-gives τ e))
 
-  editor-all : (P : Path → Action → X → Type 0) (p : Path) (x : Action) (f : List ℤ → Option X) → ((ls : List ℤ) → All (P [] (give ls)) (f ls)) → All (P p x) (atEditor p x f)
+  editor-all : (P : Path → Action → X → Type 0) (p : Path) (x : Action) (f : List Given → Option X) → ((ls : List Given) → All (P [] (give ls)) (f ls)) → All (P p x) (atEditor p x f)
   unfolding atEditor
   editor-all P [] (give ls) f h = h ls
   editor-all P [] (press b) f h = all-none
@@ -80,7 +79,7 @@ unless-all true K t s h = all-none
 unless-all false K t s h = all-some (h refl)
 
 -- leaves that give a value of a content's type give one of the type that the content has
-fits : {w v : Val} {τ : Ty} {ls : List ℤ} → ValueType w τ → Gives ls (typeOf w) v → Gives ls τ v
+fits : {w v : Val} {τ : Ty} {ls : List Given} → ValueType w τ → Gives ls (typeOf w) v → Gives ls τ v
 fits h g = rw (type-of h) at g
 
 module _ {Σ : List Ty} where
@@ -91,17 +90,17 @@ module _ {Σ : List Ty} where
       rw (ap (λ f. f p x) (alike b .handles s u)) (map-all K (good f s p x (i .task) (i .env g) h) (λ t s q. record { derived = h-became b (q .derived); task = i .back (q .task); store = q .store }))
   good {Γ = Γ} {τ = τ} (of-edit {ρ = ρ} {e = e} {v = w}) s p x (k-filled d k) g h =
       editor-all (GoodHandling Σ Γ τ (edit e) ρ s (filled w)) p x _
-      (λ ls. given-all (typeOf w) _ _ refl (λ v z. let y = fits k z in record { derived = h-change k y; task = k-filled d (y .0); store = h }))
+      (λ ls. given-all (typeOf w) _ _ refl (λ v z. let y = fits k z in record { derived = h-change k y; task = k-filled d (y .typed); store = h }))
   good {Γ = Γ} (of-enter {ρ = ρ} {τ = τ}) s p x (k-blank l) g h =
       editor-all (GoodHandling Σ Γ τ (enter τ) ρ s blank) p x _
-      (λ ls. given-all τ _ _ refl (λ v z. record { derived = h-fill z; task = k-entered l (z .0); store = h }))
+      (λ ls. given-all τ _ _ refl (λ v z. record { derived = h-fill z; task = k-entered l (z .typed); store = h }))
   good {Γ = Γ} (of-enter {ρ = ρ} {τ = τ}) s p x (k-entered {v = w} l k) g h =
       editor-all (GoodHandling Σ Γ τ (enter τ) ρ s (entered w)) p x _
-      (λ ls. given-all τ _ _ refl (λ v z. record { derived = h-fill z; task = k-entered l (z .0); store = h }))
+      (λ ls. given-all τ _ _ refl (λ v z. record { derived = h-fill z; task = k-entered l (z .typed); store = h }))
   good {Γ = Γ} {τ = τ} (of-update {ρ = ρ} {n = n}) s p x (k-shared d) g h =
       let (i, k) = look-up h d in
       editor-all (GoodHandling Σ Γ τ (update n) ρ s shared) p x _
-      (λ ls. given-all (typeOf (getD s n vunit)) _ _ refl (λ v z. let y = fits k z in record { derived = h-update i k y; task = k-shared d; store = put h d (y .0) }))
+      (λ ls. given-all (typeOf (getD s n vunit)) _ _ refl (λ v z. let y = fits k z in record { derived = h-update i k y; task = k-shared d; store = put h d (y .typed) }))
   good (of-then f f₁) s p x (k-then-before d e) g h =
       map-all before (good f s p x d g h) (λ t s q. record { derived = h-pass-then (q .derived); task = k-then-before (q .task) e; store = q .store })
   good {Γ = Γ} {τ = τ} (of-next {ρ = ρ} {a = a} {b = b} {t = t} f f₁) s p x (k-next-before d e) g h =

@@ -24,5 +24,6 @@ pub mod EntriesBound
 pub mod Bound
 pub mod HandlingComplete
 pub mod HandlingSound
+pub mod Blanks
 pub mod EntriesAgree
 pub mod EveryRun

@@ -5,14 +5,13 @@ use mathlib.Core.Bool.{false}
 use mathlib.Core.Option.{some}
 use mathlib.Core.List.{List, [], _∷_}
 use Prim.Native.Nat.{ℕ}
-use lib.IntN.{ℤ}
 use lib.ListN.{set}
 use Rattle.decimal.specs.Path.{first, second, Path}
 use Rattle.tophat.specs.Syntax.{Ty, Exp, Code, edit, enter, update, then, next, and, or, xor}
 use Rattle.tophat.specs.Syntax.{Val, Env, Store}
 use Rattle.tophat.specs.Syntax.{TaskOf, filled, entered, shared, before, after, both, either, unpicked, pickedLeft, pickedRight}
 use Rattle.tophat.specs.Typing.{At, ValueType}
-use Rattle.tophat.specs.Leaves.{Gives}
+use Rattle.tophat.specs.Leaves.{Given, Gives}
 use Rattle.tophat.specs.Evaluation.{EvaluatesTask}
 use Rattle.tophat.specs.Normalising.{value, Became, Fails, Normalises}
 
@@ -36,18 +35,18 @@ actNumber (pressing right) = 4
 abbrev pub actTable : List Act
 actTable = giving ∷ pressing continue ∷ pressing left ∷ pressing right ∷ []
 
--- an action with what it carries: a value is given by its leaves
+-- an action with what it carries: a value is given by its leaves, some of which may be blank (CR 2)
 pub data Action : Type 0 where
-  give : List ℤ → Action
+  give : List Given → Action
   press : Button → Action
 
 -- `Handles c ρ s t p x t₁ s₁`: t in s takes the action x at the path p, and is t₁ in s₁ before it is normalised
 pub data Handles : (c : Code) → Env → Store → TaskOf c → Path → Action → TaskOf c → Store → Type 0 where
-  h-change : {ρ : Env} {s : Store} {e : Exp} {w v : Val} {τ : Ty} {ls : List ℤ}
+  h-change : {ρ : Env} {s : Store} {e : Exp} {w v : Val} {τ : Ty} {ls : List Given}
       → ValueType w τ → Gives ls τ v → Handles (edit e) ρ s (filled w) [] (give ls) (filled v) s
-  h-fill : {ρ : Env} {s : Store} {τ : Ty} {t : TaskOf (enter τ)} {v : Val} {ls : List ℤ}
+  h-fill : {ρ : Env} {s : Store} {τ : Ty} {t : TaskOf (enter τ)} {v : Val} {ls : List Given}
       → Gives ls τ v → Handles (enter τ) ρ s t [] (give ls) (entered v) s
-  h-update : {ρ : Env} {s : Store} {n : ℕ} {t : TaskOf (update n)} {w v : Val} {τ : Ty} {ls : List ℤ}
+  h-update : {ρ : Env} {s : Store} {n : ℕ} {t : TaskOf (update n)} {w v : Val} {τ : Ty} {ls : List Given}
       → At s n w → ValueType w τ → Gives ls τ v → Handles (update n) ρ s t [] (give ls) shared (set s n v)
   h-pass-then : {ρ : Env} {s s₁ : Store} {a b : Code} {t t₁ : TaskOf a} {p : Path} {x : Action}
       → Handles a ρ s t p x t₁ s₁ → Handles (then a b) ρ s (before t) p x (before t₁) s₁

@@ -3,8 +3,8 @@
 use mathlib.Core.Path.{_≡_}
 use mathlib.Core.Bool.{Bool, true, false, _&&_, _||_, cond}
 use mathlib.Core.Option.{Option, none, some}
-use mathlib.Core.List.{List, [], _∷_, _++_}
-use Prim.Native.Nat.{ℕ, _-_}
+use mathlib.Core.List.{List, [], _∷_, _++_, map}
+use Prim.Native.Nat.{ℕ, zero, suc, _-_}
 use lib.Dec.{ltb}
 use lib.IntN.{ℤ, pos}
 use lib.ListN.{length, getD, drop, replicate}
@@ -25,9 +25,22 @@ leavesOf (vpair v w) = leavesOf v ++ leavesOf w
 unfoldable pub padded : {X : Type 0} → X → List X → List X
 padded x xs = xs ++ replicate (maxLeaves - length xs) x
 
--- these leaves are those of the value v of the type τ
-abbrev pub Gives : List ℤ → Ty → Val → Type 0
-Gives ls τ v = ValueType v τ × (ls ≡ padded (pos 0) (leavesOf v))
+-- a leaf of an event: a number, or blank (CR 2)
+abbrev pub Given : Type 0
+Given = Option ℤ
+
+-- `Unused n ls`: n leaves that no leaf of a value is for. 01: "unused leaves are 0"; CR 2: or blank
+pub data Unused : ℕ → List Given → Type 0 where
+  u-end : Unused zero []
+  u-zero : {n : ℕ} {ls : List Given} → Unused n ls → Unused (suc n) (some (pos 0) ∷ ls)
+  u-blank : {n : ℕ} {ls : List Given} → Unused n ls → Unused (suc n) (none ∷ ls)
+
+-- these leaves are those of the value v of the type τ, and unused ones
+pub record Gives (ls : List Given) (τ : Ty) (v : Val) : Type 0 where
+  pub typed : ValueType v τ
+  pub others : List Given
+  pub split : ls ≡ map some (leavesOf v) ++ others
+  pub unused : Unused (maxLeaves - length (leavesOf v)) others
 
 -- 01's leaf kinds
 pub data Leaf : Type 0 where
@@ -55,24 +68,29 @@ leafKinds truth = truthLeaf ∷ []
 leafKinds number = numberLeaf ∷ []
 leafKinds (pair τ υ) = leafKinds τ ++ leafKinds υ
 
--- 01: "kinds 0 and 1 are met only by 0, 2 by 0 or 1, 3 by any number"
-pub data Meets : List Leaf → List ℤ → Type 0 where
+-- 01: "kinds 0 and 1 are met only by 0, 2 by 0 or 1, 3 by any number"; CR 2: "a blank leaf meets only leaf kind 0"
+pub data Meets : List Leaf → List Given → Type 0 where
   m-end : Meets [] []
-  m-none : {ks : List Leaf} {ls : List ℤ} → Meets ks ls → Meets (noLeaf ∷ ks) (pos 0 ∷ ls)
-  m-unit : {ks : List Leaf} {ls : List ℤ} → Meets ks ls → Meets (unitLeaf ∷ ks) (pos 0 ∷ ls)
-  m-false : {ks : List Leaf} {ls : List ℤ} → Meets ks ls → Meets (truthLeaf ∷ ks) (pos 0 ∷ ls)
-  m-true : {ks : List Leaf} {ls : List ℤ} → Meets ks ls → Meets (truthLeaf ∷ ks) (pos 1 ∷ ls)
-  m-number : {ks : List Leaf} {ls : List ℤ} {n : ℤ} → IsWord n → Meets ks ls → Meets (numberLeaf ∷ ks) (n ∷ ls)
+  m-none : {ks : List Leaf} {ls : List Given} → Meets ks ls → Meets (noLeaf ∷ ks) (some (pos 0) ∷ ls)
+  m-blank : {ks : List Leaf} {ls : List Given} → Meets ks ls → Meets (noLeaf ∷ ks) (none ∷ ls)
+  m-unit : {ks : List Leaf} {ls : List Given} → Meets ks ls → Meets (unitLeaf ∷ ks) (some (pos 0) ∷ ls)
+  m-false : {ks : List Leaf} {ls : List Given} → Meets ks ls → Meets (truthLeaf ∷ ks) (some (pos 0) ∷ ls)
+  m-true : {ks : List Leaf} {ls : List Given} → Meets ks ls → Meets (truthLeaf ∷ ks) (some (pos 1) ∷ ls)
+  m-number : {ks : List Leaf} {ls : List Given} {n : ℤ} → IsWord n → Meets ks ls → Meets (numberLeaf ∷ ks) (some n ∷ ls)
 
 -- ---- computed: whether leaves meet kinds, and the value that they give (proofs/Leaves ties these to Meets and Gives)
 
-unfoldable pub meetsLeaf : Leaf → ℤ → Bool
-meetsLeaf noLeaf n = eqZ n (pos 0)
-meetsLeaf unitLeaf n = eqZ n (pos 0)
-meetsLeaf truthLeaf n = eqZ n (pos 0) || eqZ n (pos 1)
-meetsLeaf numberLeaf n = ltb (mag n) half
+unfoldable pub meetsLeaf : Leaf → Given → Bool
+meetsLeaf noLeaf none = true
+meetsLeaf noLeaf (some n) = eqZ n (pos 0)
+meetsLeaf unitLeaf none = false
+meetsLeaf unitLeaf (some n) = eqZ n (pos 0)
+meetsLeaf truthLeaf none = false
+meetsLeaf truthLeaf (some n) = eqZ n (pos 0) || eqZ n (pos 1)
+meetsLeaf numberLeaf none = false
+meetsLeaf numberLeaf (some n) = ltb (mag n) half
 
-unfoldable pub meets : List Leaf → List ℤ → Bool
+unfoldable pub meets : List Leaf → List Given → Bool
 meets [] [] = true
 meets [] (n ∷ ls) = false
 meets (k ∷ ks) [] = false
@@ -85,6 +103,11 @@ valueOf truth ls = vtruth (eqZ (getD ls 0 (pos 0)) (pos 1))
 valueOf number ls = vnumber (getD ls 0 (pos 0))
 valueOf (pair τ υ) ls = vpair (valueOf τ ls) (valueOf υ (drop (leaves τ) ls))
 
+-- a leaf's number; a value has none from a blank
+unfoldable pub numberGiven : Given → ℤ
+numberGiven none = pos 0
+numberGiven (some n) = n
+
 -- the value of the type that the leaves give, if they give one
-unfoldable pub given : Ty → List ℤ → Option Val
-given τ ls = cond (meets (padded noLeaf (leafKinds τ)) ls) (some (valueOf τ ls)) none
+unfoldable pub given : Ty → List Given → Option Val
+given τ ls = cond (meets (padded noLeaf (leafKinds τ)) ls) (some (valueOf τ (map numberGiven ls))) none

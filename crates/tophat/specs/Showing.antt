@@ -5,13 +5,12 @@ use mathlib.Core.Bool.{Bool, true, false, not}
 use mathlib.Core.Option.{none, some}
 use mathlib.Core.List.{List, [], _∷_, _++_}
 use Prim.Native.Nat.{ℕ, suc, _<_}
-use lib.IntN.{ℤ}
 use Rattle.decimal.specs.Path.{Mark, first, second, Path, maxMarks}
 use Rattle.tophat.specs.Syntax.{Ty, Exp, Code, edit, enter, update, then, next, fail, and, or, xor, view, if, let', Val, Env, Store}
 use Rattle.tophat.specs.Syntax.{TaskOf, filled, before, both, either, unpicked}
 use Rattle.tophat.specs.Typing.{At, ValueType}
 use Rattle.tophat.specs.Normalising.{value, Became, RightFails, BranchFails}
-use Rattle.tophat.specs.Leaves.{padded, Leaf, noLeaf, leafKinds, Meets}
+use Rattle.tophat.specs.Leaves.{Given, padded, Leaf, noLeaf, leafKinds, Meets}
 use Rattle.tophat.specs.Handling.{Button, continue, left, right, Action, give, press}
 
 -- what an entry offers: a value whose leaves are of these kinds, or a button
@@ -25,7 +24,7 @@ Entry = Path × Offer
 
 -- 01: "An entry covers a readable event of its path and action whose leaves meet its leaf kinds"
 pub data Covers : Entry → Path → Action → Type 0 where
-  c-fill : {p : Path} {ks : List Leaf} {ls : List ℤ} → Meets ks ls → Covers (p, fill ks) p (give ls)
+  c-fill : {p : Path} {ks : List Leaf} {ls : List Given} → Meets ks ls → Covers (p, fill ks) p (give ls)
   c-button : {p : Path} {b : Button} → Covers (p, button b) p (press b)
 
 -- entries behind a mark

@@ -17,9 +17,9 @@ use borrow.Author.Tests.{lt-ltb, eq-eqb, ne-eqb, eqb-true}
 use Rattle.word.specs.Word.{words, eqZ, AllBits}
 use Rattle.word.proofs.Lists.{bits-numbers}
 use Rattle.tophat.specs.Syntax.{maxLeaves, Ty, unit, truth, number, pair, leaves, Val}
-use Rattle.tophat.specs.Leaves.{padded, Leaf, noLeaf, unitLeaf, truthLeaf, numberLeaf, leafKinds, leafNumber, leafAt, valueOf, meetsLeaf, meets, given}
+use Rattle.tophat.specs.Leaves.{padded, Leaf, noLeaf, unitLeaf, truthLeaf, numberLeaf, leafKinds, leafNumber, leafAt, Given, valueOf, meetsLeaf, meets, numberGiven, given}
 use Rattle.tophat.specs.Typing.{ValueType, typeOf}
-use Rattle.tophat.proofs.Leaves.{type-of, given-gives, gives-given}
+use Rattle.tophat.proofs.Leaves.{type-of, given-gives, gives-given, padded-gives, gives-padded}
 use Rattle.tophat.proofs.Basics.{no-some}
 use Rattle.match_laws.proofs.Ranges.{and-false}
 use Rattle.rows.specs.Ground.{isSome}
@@ -37,7 +37,7 @@ use Rattle.value.specs.Fits.{Got, got-none, got-some, valueIn, valueFor,
 module _ (leaf : ℕ) where
   -- the leaf meets the kind of that number
   abbrev pub met : ℕ → Bool
-  met kind = meetsLeaf (leafAt kind) (toZ w32 leaf)
+  met kind = meetsLeaf (leafAt kind) (some (toZ w32 leaf))
 
   pub meets-number : (kind : ℕ) → leaf < words → kind ≡ leafNumber numberLeaf → true ≡ met kind
   unfolding meetsLeaf
@@ -65,24 +65,28 @@ module _ (leaf : ℕ) where
 
 -- ---- the leaves of a value
 
+-- words as leaves of an event: none is blank
+abbrev numbers : List ℕ → List Given
+numbers ls = map some (map (toZ w32) ls)
+
 -- leaf j of ls meets kind j of ks
 abbrev pub metAt : List ℕ → List ℕ → ℕ → Bool
 metAt ks ls j = met (getD ls j 0) (getD ks j 0)
 
-all-met : (ks : List Leaf) (ls : List ℕ) → length ks ≡ length ls → ((j : ℕ) → j < length ks → meetsLeaf (getD ks j noLeaf) (toZ w32 (getD ls j 0)) ≡ true) → meets ks (map (toZ w32) ls) ≡ true
+all-met : (ks : List Leaf) (ls : List ℕ) → length ks ≡ length ls → ((j : ℕ) → j < length ks → meetsLeaf (getD ks j noLeaf) (some (toZ w32 (getD ls j 0))) ≡ true) → meets ks (numbers ls) ≡ true
 unfolding meets
 all-met [] [] e h = refl
 all-met [] (n ∷ ls) e h = absurd (omega arith)
 all-met (k ∷ ks) [] e h = absurd (omega arith)
 all-met (k ∷ ks) (n ∷ ls) e h = ap₂ _&&_ (h 0 (suc-le-suc zero-le)) (all-met ks ls (omega arith) (λ j l. h (suc j) (suc-le-suc l)))
 
-one-unmet : (ks : List Leaf) (ls : List ℕ) (j : ℕ) → j < length ks → j < length ls → meetsLeaf (getD ks j noLeaf) (toZ w32 (getD ls j 0)) ≡ false → meets ks (map (toZ w32) ls) ≡ false
+one-unmet : (ks : List Leaf) (ls : List ℕ) (j : ℕ) → j < length ks → j < length ls → meetsLeaf (getD ks j noLeaf) (some (toZ w32 (getD ls j 0))) ≡ false → meets ks (numbers ls) ≡ false
 unfolding meets
 one-unmet [] ls j l m e = absurd (omega arith)
 one-unmet (k ∷ ks) [] j l m e = absurd (omega arith)
-one-unmet (k ∷ ks) (n ∷ ls) zero l m e = ap (λ b. b && meets ks (map (toZ w32) ls)) e
+one-unmet (k ∷ ks) (n ∷ ls) zero l m e = ap (λ b. b && meets ks (numbers ls)) e
 one-unmet (k ∷ ks) (n ∷ ls) (suc j) l m e =
-    ap (λ b. meetsLeaf k (toZ w32 n) && b) (one-unmet ks ls j (le-of-suc-le-suc l) (le-of-suc-le-suc m) e) ∙ and-false (meetsLeaf k (toZ w32 n))
+    ap (λ b. meetsLeaf k (some (toZ w32 n)) && b) (one-unmet ks ls j (le-of-suc-le-suc l) (le-of-suc-le-suc m) e) ∙ and-false (meetsLeaf k (some (toZ w32 n)))
 
 -- ---- the kinds of a type
 
@@ -138,9 +142,9 @@ module _ (v : Value) (s : ℕ) where
         ap leafAt (ap (λ l. getD l j 0) (kinds-are τ l q) ∙ List·getD-map leafNumber js j noLeaf) ∙ number-back (getD js j noLeaf)
 
     module _ (e : v .shape ≡ s) (o : length ks ≡ maxLeaves) (m : length (v .leaves) ≡ maxLeaves) (n : getD ks 0 0 ≡ 0 → ⊥) where
-      by-leaves : (τ : Ty) → leaves τ ≤ maxLeaves → s ≡ asShape τ → (b : Bool) → meets (padded noLeaf (leafKinds τ)) (map (toZ w32) (v .leaves)) ≡ b → b ≡ fitsIn v s
+      by-leaves : (τ : Ty) → leaves τ ≤ maxLeaves → s ≡ asShape τ → (b : Bool) → meets (padded noLeaf (leafKinds τ)) (numbers (v .leaves)) ≡ b → b ≡ fitsIn v s
       unfolding valueFor valueIn given isSome bind
-      by-leaves τ l q b h = let t = ap asType q ∙ as-type τ l in let c = eq-eqb (v .shape) (asShape τ) (e ∙ q) in sym (rw (t, c, h) (there (valueOf τ (map (toZ w32) (v .leaves))) b))
+      by-leaves τ l q b h = let t = ap asType q ∙ as-type τ l in let c = eq-eqb (v .shape) (asShape τ) (e ∙ q) in sym (rw (t, c, h) (there (valueOf τ (map numberGiven (numbers (v .leaves)))) b))
         where
           there : (x : Val) (b : Bool) → isSome (cond b (some x) none) ≡ b
           there x true = refl
@@ -153,13 +157,13 @@ module _ (v : Value) (s : ℕ) where
       fits-all h =
           let (τ, l, q) = with-kinds n in
           by-leaves τ l q true (all-met (padded noLeaf (leafKinds τ)) (v .leaves) (long τ l q ∙ sym m)
-          (λ j g. ap (λ x. meetsLeaf x (toZ w32 (getD (v .leaves) j 0))) (sym (kind-at τ l q j)) ∙ h j (let z = long τ l q in omega arith)))
+          (λ j g. ap (λ x. meetsLeaf x (some (toZ w32 (getD (v .leaves) j 0)))) (sym (kind-at τ l q j)) ∙ h j (let z = long τ l q in omega arith)))
 
       pub fits-unmet : (j : ℕ) → j < maxLeaves → metAt ks (v .leaves) j ≡ false → false ≡ fitsIn v s
       fits-unmet j g h =
           let (τ, l, q) = with-kinds n in
           by-leaves τ l q false (one-unmet (padded noLeaf (leafKinds τ)) (v .leaves) j (let z = long τ l q in omega arith) (omega arith)
-          (ap (λ x. meetsLeaf x (toZ w32 (getD (v .leaves) j 0))) (sym (kind-at τ l q j)) ∙ h))
+          (ap (λ x. meetsLeaf x (some (toZ w32 (getD (v .leaves) j 0)))) (sym (kind-at τ l q j)) ∙ h))
 
 -- ---- what the answer says
 
@@ -169,14 +173,11 @@ module _ (v : Value) (τ : Ty) where
   unfolding valueIn asValue leafBits
   value-words w u e = by (eqb (v .shape) (asShape τ)) refl e
     where
-      ls : List ℤ
-      ls = map (toZ w32) (v .leaves)
-
-      by : (b : Bool) → eqb (v .shape) (asShape τ) ≡ b → cond b (given τ (map (toZ w32) (v .leaves))) none ≡ some u → v ≡ asValue u
+      by : (b : Bool) → eqb (v .shape) (asShape τ) ≡ b → cond b (given τ (numbers (v .leaves))) none ≡ some u → v ≡ asValue u
       by true q h =
-          let (typed, back) = given-gives τ h in
-          let a : v .shape ≡ asShape (typeOf u) = eqb-true (v .shape) (asShape τ) q ∙ ap asShape (sym (type-of typed)) in
-          let b : v .leaves ≡ leafBits u = sym (bits-numbers (v .leaves) w) ∙ ap (map (ofZ w32)) back in
+          let g = given-gives τ h in
+          let a : v .shape ≡ asShape (typeOf u) = eqb-true (v .shape) (asShape τ) q ∙ ap asShape (sym (type-of (g .typed))) in
+          let b : v .leaves ≡ leafBits u = sym (bits-numbers (v .leaves) w) ∙ ap (map (ofZ w32)) (gives-padded (map (toZ w32) (v .leaves)) g) in
           λ i. record { shape = a i; leaves = b i }
       by false q h = no-some h
 
@@ -185,7 +186,7 @@ module _ (v : Value) (τ : Ty) where
   unfolding valueIn asValue
   value-in u t e =
       ap₂ (λ b o. cond b o none) (eq-eqb (v .shape) (asShape τ) (ap (λ v. v .shape) e ∙ ap asShape (type-of t)))
-      (gives-given (t, ap (λ v. map (toZ w32) (v .leaves)) e ∙ leaves-back t))
+      (ap (given τ) (ap (map some) (ap (λ v. map (toZ w32) (v .leaves)) e ∙ leaves-back t)) ∙ gives-given (padded-gives t))
 
 -- the value for a type's shape
 pub for-type : (v : Value) (τ : Ty) (s : ℕ) → leaves τ ≤ maxLeaves → s ≡ asShape τ → valueFor v s ≡ valueIn v τ

@@ -15,7 +15,7 @@ use Rattle.value.specs.declared.Value.{Value}
 
 -- the value of the type that a shape and leaves are
 unfoldable pub valueIn : Value → Ty → Option Val
-valueIn v τ = cond (eqb (v .shape) (asShape τ)) (given τ (map (toZ w32) (v .leaves))) none
+valueIn v τ = cond (eqb (v .shape) (asShape τ)) (given τ (map some (map (toZ w32) (v .leaves)))) none
 
 -- that of the type which has this shape; a number that is no type's shape has none
 unfoldable pub valueFor : Value → ℕ → Option Val

@@ -18,6 +18,7 @@ use word::less;
 use word::mul;
 use word::sub;
 ghost use mathlib.Core.Path.{_≡_};
+ghost use mathlib.Core.Option.{some};
 ghost use mathlib.Core.Bool.{true};
 ghost use Prim.Native.Nat.{_≤_, _<_};
 ghost use lib.ListN.{getD};
@@ -240,7 +241,7 @@ pub fn second(a: Value) -> Value
 
 // Is the leaf of that kind? Of a unit, and where none is used, it is 0.
 fn meets(kind: u32, leaf: u32) -> bool
-    ensures { λ r. ⌜ (r ≡ meetsLeaf (leafAt kind) (toZ w32 leaf)) × (leaf < words) ⌝ }
+    ensures { λ r. ⌜ (r ≡ meetsLeaf (leafAt kind) (some (toZ w32 leaf))) × (leaf < words) ⌝ }
 {
     if kind == NUMBER {
         return true;

@@ -7,13 +7,16 @@ use core::fmt::{Display, Formatter, Result as Written};
 #[derive(Clone, Copy, Debug, PartialEq, Eq, PartialOrd, Ord, Hash)]
 pub enum Ground {
     Length = 1,
+    /// A blank, a field of spaces alone, is readable in an operand that its kind does not use, and nowhere else in a sheet.
     Unreadable = 2,
     NotListed = 3,
     Sort = 4,
     Naming = 5,
     Limit = 6,
     Typing = 7,
+    /// The path and the leaves may be blank, the action may not.
     Event = 8,
+    /// A blank leaf meets leaf kind 0 alone.
     Handling = 9,
     Rows = 20,
     Memory = 21,

@@ -3,7 +3,7 @@
 #[path = "common/screens.rs"]
 mod screens;
 
-use nannyjiffy::{Flow, Ground, EVENT_BYTES};
+use nannyjiffy::{Flow, Ground, Rest, EVENT_BYTES};
 use reference::compare;
 use screens::screens;
 
@@ -37,6 +37,24 @@ fn edges() {
     assert_eq!(Flow::load(&[b' '; 46]).map(drop), Err(Ground::Length));
     let large = format!("{}{}", line(0, 3, 0), line(1, 41, 0).replacen("           0", "  2147483648", 1));
     assert_eq!(Flow::load(large.as_bytes()).map(drop), Err(Ground::Unreadable));
+}
+
+/// Unused operands, paths and leaves may be left blank (CR 2).
+#[test]
+fn blanks() {
+    let [number, editor] =
+        ["   0   3                                    \n", "   1  41           0                        \n"];
+    let flow = Flow::load([number, editor].concat().as_bytes()).expect("accepted");
+    assert_eq!(flow.rows(), [3, 0, 0, 0, 41, 0, 0, 0]);
+    let missing = [number, &editor.replacen("41           0", "41            ", 1)].concat();
+    assert_eq!(Flow::load(missing.as_bytes()).map(drop), Err(Ground::Unreadable));
+    let mut rest = Rest::start(&flow);
+    let event = |action: &str, leaf: &str| format!("{:16}{action:>2}{leaf:>12}{:36}\n", "", "");
+    assert_eq!(rest.handle(event("", "12").as_bytes()), Err(Ground::Event));
+    assert_eq!(rest.handle(event("1", "").as_bytes()), Err(Ground::Handling));
+    assert_eq!(rest.look().value, None);
+    assert_eq!(rest.handle(event("1", "12").as_bytes()), Ok(()));
+    assert_eq!(rest.look().value, Some([12, 0, 0, 0]));
 }
 
 #[test]

@@ -2,11 +2,11 @@
 
 use super::draft::{Draft, Limits};
 use super::touches::{put, NO_FIELDS};
-use super::{accepted, counted, layout};
+use super::{accepted, blanks, counted, layout, with_count};
 use crate::kinds::{self, Operand};
 use crate::random::Random;
 use crate::session::COUNT;
-use crate::sheet::{Row, LINE, LINES};
+use crate::sheet::{Row, COLUMNS, LINE, LINES};
 use std::cmp::Ordering;
 
 /// A row count and a sheet with a fault or two.
@@ -20,9 +20,10 @@ pub fn sheet(random: &mut Random) -> Vec<u8> {
     for _ in 0..faults[random.below(4)] {
         break_rows(random, &mut rows);
     }
-    let mut input = counted(&rows);
+    let text = blanks::sheet(random, &rows);
+    let mut input = with_count(text);
     if random.chance(if whole { 5 } else { 30 }) {
-        break_text(random, &mut input);
+        break_text(random, &rows, &mut input);
     }
     if random.chance(10) {
         break_count(random, &mut input);
@@ -151,25 +152,20 @@ fn break_binder(random: &mut Random, rows: &mut [Row]) {
 }
 
 /// Breaks a line near ground 2.
-fn break_text(random: &mut Random, input: &mut [u8]) {
-    let lines = (input.len() - COUNT) / LINE;
-    let line = COUNT + LINE * random.below(lines);
-    let columns = [0..4, 4..8, 8..20, 20..32, 32..44];
-    match random.below(4) {
-        0 => input[line + LINE - 1] = *random.pick(b" \r0").expect("bytes"),
-        1 => {
-            let number = random.between(-1, 257).to_string();
-            put(&mut input[line..line + 4], &number);
-        }
+fn break_text(random: &mut Random, rows: &[Row], input: &mut [u8]) {
+    let at = random.below(rows.len());
+    let line = &mut input[COUNT + LINE * at..][..LINE];
+    match random.below(6) {
+        0 => line[LINE - 1] = *random.pick(b" \r0").expect("bytes"),
+        1 => put(&mut line[COLUMNS[0].clone()], &random.between(-1, 257).to_string()),
         2 => {
-            let field = random.pick(&columns).expect("columns").clone();
-            let text = random.pick(&NO_FIELDS).expect("fields");
-            put(&mut input[line + field.start..line + field.end], text);
+            let field = random.pick(&COLUMNS).expect("columns").clone();
+            put(&mut line[field], random.pick(&NO_FIELDS).expect("fields"));
         }
+        3..=4 => blanks::meant(random, &rows[at], line),
         _ => {
             // The same number written in a way that is none.
-            let field = random.pick(&columns).expect("columns").clone();
-            let columns = &mut input[line + field.start..line + field.end];
+            let columns = &mut line[random.pick(&COLUMNS).expect("columns").clone()];
             let text = String::from_utf8_lossy(columns).trim().to_string();
             let other = match random.below(4) {
                 0 => format!("0{text}"),

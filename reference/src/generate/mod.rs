@@ -3,8 +3,10 @@
 //! [`draft`] makes well-typed flows out of [`plain`] expressions and [`tasks`], some of them in
 //! the [`shapes`] and with the [`effects`] that slips hide in; [`layout`] writes them as rows;
 //! [`faults`] breaks sheets near each ground; [`touches`] makes events, most of them from the list
-//! shown. [`states`] makes states of a flow that no session need reach.
+//! shown; [`blanks`] leaves fields of both blank. [`states`] makes states of a flow that no session
+//! need reach.
 
+pub mod blanks;
 pub mod draft;
 pub mod effects;
 pub mod faults;
@@ -20,7 +22,7 @@ use crate::flow::Flow;
 use crate::random::Random;
 use crate::rules::Rules;
 use crate::session;
-use crate::sheet::{self, Row};
+use crate::sheet::{self, Row, LINE};
 use crate::state::State;
 
 /// The inputs of cases 0 to `count` - 1 under a seed.
@@ -30,11 +32,18 @@ pub fn cases(seed: u64, count: u64) -> impl Iterator<Item = Vec<u8>> {
 
 /// One session's input.
 fn case(random: &mut Random) -> Vec<u8> {
-    let mut input = if random.chance(30) { faults::sheet(random) } else { counted(&accepted(random)) };
+    let mut input = if random.chance(30) { faults::sheet(random) } else { sheet(random) };
     if let Ok(Ok(flow)) = session::load(&mut &input[..], Rules::default()) {
         input.extend(events(random, &flow));
     }
     input
+}
+
+/// A row count and an accepted sheet.
+fn sheet(random: &mut Random) -> Vec<u8> {
+    let rows = accepted(random);
+    let text = blanks::sheet(random, &rows);
+    with_count(text)
 }
 
 /// The rows of an accepted sheet.
@@ -47,10 +56,15 @@ pub fn accepted(random: &mut Random) -> Vec<Row> {
     }
 }
 
-/// A row count and a sheet.
+/// A row count and the sheet of these rows.
 pub fn counted(rows: &[Row]) -> Vec<u8> {
-    let mut input = format!("{:>4}\n", rows.len()).into_bytes();
-    input.extend(sheet::write(rows));
+    with_count(sheet::write(rows))
+}
+
+/// A row count in front of a sheet's text.
+pub fn with_count(text: Vec<u8>) -> Vec<u8> {
+    let mut input = format!("{:>4}\n", text.len() / LINE).into_bytes();
+    input.extend(text);
     input
 }
 

@@ -1,28 +1,37 @@
 //! Events: most from the list shown, some near it, some that cannot be read.
 
+use super::blanks;
 use crate::event::{self, Action, Entry, EVENT, PATH};
 use crate::limits::LEAVES;
 use crate::random::Random;
 use crate::value::Leaves;
 
 /// Texts that are no field.
-pub const NO_FIELDS: [&str; 12] =
-    ["", "+1", "01", "-0", "1 ", "\t1", "1x", "-", "2147483648", "-2147483649", "1 1", "00"];
+pub const NO_FIELDS: [&str; 13] =
+    ["+1", "01", "-0", "1 ", "\t1", "1x", "-", "2147483648", "-2147483649", "1 1", "00", "\t", "\0"];
 
-/// An event for a screen with this list.
+/// An event for a screen with this list; in one of four, fields of it are blank by chance.
 pub fn event(random: &mut Random, entries: &[Entry]) -> Vec<u8> {
+    let (mut event, kinds) = filled(random, entries);
+    blanks::event(random, kinds, &mut event);
+    event
+}
+
+/// An event without blanks, or with one that is meant; and the leaf kinds that it was made for.
+fn filled(random: &mut Random, entries: &[Entry]) -> (Vec<u8>, Leaves) {
     // Continue, Left and Right are fewer than editors, so they come first half of the time.
     let moving: Vec<&Entry> = entries.iter().filter(|entry| entry.action != Action::Value).collect();
     let moving = random.pick(&moving).copied().filter(|_| random.chance(50));
-    let Some(entry) = moving.or_else(|| random.pick(entries)) else { return stray(random) };
+    let none = [0; LEAVES];
+    let Some(entry) = moving.or_else(|| random.pick(entries)) else { return (stray(random), none) };
     let path = String::from_utf8_lossy(&entry.path).into_owned();
     let leaves = fitting(random, entry.kinds);
     match random.below(100) {
-        0..=57 => event::write(&path, entry.action.number(), leaves),
-        58..=71 => near(random, path, entry.action, leaves, entry.kinds),
-        72..=86 => pressing(random, entries),
-        87..=91 => stray(random),
-        _ => unreadable(random, event::write(&path, entry.action.number(), leaves)),
+        0..=57 => (event::write(&path, entry.action.number(), leaves), entry.kinds),
+        58..=71 => (near(random, path, entry.action, leaves, entry.kinds), entry.kinds),
+        72..=86 => (pressing(random, entries), none),
+        87..=91 => (stray(random), none),
+        _ => (unreadable(random, event::write(&path, entry.action.number(), leaves)), entry.kinds),
     }
 }
 
@@ -93,7 +102,7 @@ fn stray(random: &mut Random) -> Vec<u8> {
 
 /// An event with something in it that cannot be read, or mostly so.
 fn unreadable(random: &mut Random, mut event: Vec<u8>) -> Vec<u8> {
-    let paths = ["", "00", "01", "10", "3", "1 2", "011", "1x", "-1", "12 "];
+    let paths = ["\t", "00", "01", "10", "3", "1 2", "011", "1x", "-1", "12 "];
     match random.below(5) {
         0 => event[EVENT - 1] = *random.pick(b" \r0").expect("bytes"),
         1 => {

@@ -7,6 +7,37 @@ use reference::rules::Rules;
 use reference::session;
 use reference::sheet::{self, Row};
 
+/// The operands that each kind uses, as places: A 1, B 2, C 3.
+pub const USED: [(i32, &[usize]); 27] = [
+    (1, &[]),
+    (2, &[]),
+    (3, &[]),
+    (4, &[1, 2]),
+    (10, &[1, 2]),
+    (20, &[]),
+    (21, &[1]),
+    (22, &[1]),
+    (23, &[1]),
+    (24, &[1, 2, 3]),
+    (25, &[1, 2, 3]),
+    (26, &[1, 2]),
+    (27, &[1]),
+    (28, &[1]),
+    (29, &[1]),
+    (30, &[1, 2]),
+    (31, &[1, 2]),
+    (40, &[1]),
+    (41, &[1]),
+    (42, &[1]),
+    (43, &[1, 2]),
+    (44, &[1, 2]),
+    (45, &[1]),
+    (46, &[1, 2]),
+    (47, &[1, 2]),
+    (48, &[1, 2]),
+    (49, &[1]),
+];
+
 /// A sheet being written, row by row.
 #[derive(Clone, Default)]
 pub struct Sheet(pub Vec<Row>);
@@ -74,6 +105,41 @@ pub fn numbers() -> Sheet {
     sheet
 }
 
+/// A sheet of these rows: kind, A, B, C.
+pub fn sheet_of(rows: &[[i32; 4]]) -> Sheet {
+    Sheet(rows.iter().map(|&[kind, a, b, c]| Row::new(kind, a, b, c)).collect())
+}
+
+/// The sheet printed in 01.
+pub fn printed() -> Sheet {
+    sheet_of(&[
+        [3, 0, 0, 0],
+        [41, 0, 0, 0],
+        [23, 0, 0, 0],
+        [22, 9, 0, 0],
+        [24, 5, 2, 3],
+        [23, 0, 0, 0],
+        [22, 30, 0, 0],
+        [24, 3, 5, 6],
+        [40, 7, 0, 0],
+        [45, 0, 0, 0],
+        [25, 4, 8, 9],
+        [43, 1, 10, 0],
+    ])
+}
+
+/// The screens printed in 01, after start and its three events.
+pub const PRINTED: &str = concat!(
+    "   0   1 0 0           0           0           0           0   1\n",
+    "               0 1 3 0 0 0\n",
+    "   0   1 0 0           0           0           0           0   1\n",
+    "               0 1 3 0 0 0\n",
+    "   0   2 0 1         120           0           0           0   1\n",
+    "               0 1 3 0 0 0\n",
+    "   9   0 0 1         120           0           0           0   1\n",
+    "               0 1 3 0 0 0\n",
+);
+
 /// What load answers.
 pub fn loads(text: &[u8]) -> i32 {
     Flow::load(text, Rules::default()).map_or_else(|ground| ground.number(), |_| 0)
@@ -124,6 +190,12 @@ impl Screen {
 /// The screens of a session with this sheet and these events.
 pub fn screens(sheet: &Sheet, events: &[Vec<u8>]) -> Vec<Screen> {
     read_screens(&session::screens(&input(&sheet.text(), events), Rules::default()))
+}
+
+/// The answers of a session after start.
+pub fn answers_after_start(sheet: &[u8], events: &[Vec<u8>]) -> Vec<i32> {
+    let output = session::screens(&input(sheet, events), Rules::default());
+    read_screens(&output).iter().skip(1).map(|screen| screen.answer).collect()
 }
 
 /// The last of the screens.

@@ -8,7 +8,7 @@ use Rattle.state.specs.Contracts.{HandleOk}
 use Rattle.state.proofs.Calls.{low-a, fine-at}
 use Rattle.eval.proofs.Arms.{call-a, call-b}
 use Rattle.running.proofs.Handing.{low-part, fine-part, handle-hands}
-use Rattle.handle.specs.Events.{KnownAction, eventPath, eventAction}
+use Rattle.handle.specs.Events.{KnownEvent, eventPath, eventAction}
 use Rattle.decimal.proofs.Answers.{front-empty, front-one, front-two}
 use Rattle.handle.proofs.Passing.{handle-then, handle-next, handle-continue, handle-first, handle-second, handle-unmarked}
 use Rattle.handle.proofs.Choosing.{handle-none}
@@ -127,7 +127,7 @@ pub +handle-spec : {M : Type 1} → statement M
     let if3 = if4 .before in
     let get = if3 .before .before .before in
     let start = get .before .before .before .before in
-    (fine-at (start .pre .1 .0) (start .args .row) 0 (omega arith) (omega arith), omega (arith, get .get .ensures, if3 .if3 .left), omega (arith, get .get .ensures, if4 .if4 .taken)))
+    (fine-at (start .pre .1 .0) (start .args .row) 0 (omega arith) (omega arith), omega (arith, get .get .ensures, if3 .if3 .left), omega (arith, get .get .ensures, if4 .if4 .taken), start .pre .1 .1 .2))
     (λ c κs.
     let start = c .before .before .before .before .before .before .before .before .before .before in
     ((start .pre .1 .0) .low, omega arith))
@@ -141,7 +141,7 @@ pub +handle-spec : {M : Type 1} → statement M
     let get = operand2 .before in
     let start = get .before .before .before .before in
     let q = call-a (start .pre .0, start .pre .1 .0) (get .get .result) (operand2 .operand2 .result) (get .get .ensures) (operand2 .operand2 .ensures) (omega (arith, if5 .if5 .left)) in
-    (q .0, (q .1, subst KnownAction (sym (c .inside .ensures)) (start .pre .1 .1))))
+    (q .0, (q .1, subst KnownEvent (sym (c .inside .ensures)) (start .pre .1 .1))))
     (λ c. search needs)
     (λ c κs. search needs)
     (λ c κs.
@@ -150,7 +150,7 @@ pub +handle-spec : {M : Type 1} → statement M
     let get = if5 .before .before .before .before .before in
     let start = get .before .before .before .before in
     let q = call-b (start .pre .0, start .pre .1 .0) (get .get .result) (operand3 .operand3 .result) (get .get .ensures) (operand3 .operand3 .ensures) (omega (arith, if5 .if5 .left)) in
-    (q .0, (q .1, subst KnownAction (sym (c .inside2 .ensures)) (start .pre .1 .1))))
+    (q .0, (q .1, subst KnownEvent (sym (c .inside2 .ensures)) (start .pre .1 .1))))
     (λ c.
     let match-at = c .before .before in
     let operand2 = match-at .before in

@@ -30,7 +30,7 @@ returns : tie.Need-returns Inv-loop μ-loop
 returns c =
     let loop = c .before .before in
     let start = loop .before in
-    some-leaf (start .args .t1) (loop .loop .k) (omega arith) (c .if1 .taken)
+    λ blank z. some-leaf (start .args .t1) blank z (loop .loop .k) (omega arith) (c .if1 .taken)
 
 add-k : tie.Need-add-k Inv-loop μ-loop
 add-k c = search needs
@@ -48,7 +48,7 @@ returns-2 : tie.Need-returns-2 Inv-loop μ-loop
 returns-2 c =
     let loop = c .before in
     let start = loop .before in
-    no-leaf (start .args .t1) (loop .loop .k) (omega arith) (loop .loop .inv .1)
+    λ blank z. no-leaf (start .args .t1) blank (loop .loop .k) (omega arith) (loop .loop .inv .1)
 
 pub all-zero-spec : {M : Type 1} → statement M
 all-zero-spec =

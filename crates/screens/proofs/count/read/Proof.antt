@@ -4,7 +4,7 @@ use mathlib.Core.Path.{sym, subst}
 use Prim.Native.Nat.{_≤_}
 use native.Mathlib.Omega.{arith}
 use Rattle.rows.specs.Rows.{maxRows}
-use Rattle.screens.proofs.CountLaws.{no-count, no-end, count-number, count-unread, count-few}
+use Rattle.screens.proofs.CountLaws.{no-count, no-end, count-number, count-blank, count-unread, count-few}
 use Rattle.screens.proofs.count.read.Statement.{statement}
 use Rattle.screens.proofs.count.read.Tie as tie
 
@@ -19,6 +19,7 @@ read-spec = tie.close (tie.spec
     (λ c κs. search needs)
     (λ c. search needs)
     (λ c κs. search needs)
+    (λ c. search needs)
     (λ c. search needs)
     (λ c.
     let reading = c .before .before in
@@ -37,4 +38,12 @@ read-spec = tie.close (tie.spec
     let start = if1 .before .before in
     let s = start .args .s .now in
     let q = read .read in
-    (count-unread s (if1 .if1 .left) (if2 .if2 .left) (q .result) (q .ensures) (c .enum-told .given .1), omega arith)))
+    (count-blank s (if1 .if1 .left) (if2 .if2 .left) (q .result) (q .ensures) (c .enum-told .given .1), omega arith))
+    (λ c.
+    let read = c .before .before in
+    let if2 = read .before in
+    let if1 = if2 .before .before in
+    let start = if1 .before .before in
+    let s = start .args .s .now in
+    let q = read .read in
+    (count-unread s (if1 .if1 .left) (if2 .if2 .left) (q .result) (q .ensures) (c .enum-told2 .given .1), omega arith)))

@@ -1,12 +1,13 @@
 -- `read_lines` meets its contract: the first i lines can be read, and their rows are kept; so are the first k words of the next.
 -- Assumes nothing.
-use mathlib.Core.Path.{_≡_, refl, sym, _∙_}
+use mathlib.Core.Path.{_≡_, refl}
 use mathlib.Core.Bool.{true}
 use Prim.Native.Nat.{_-_, _≤_}
 use native.Mathlib.Omega.{arith}
 use borrow.Author.Needs.{needs}
+use borrow.Author.Tests.{not-true, not-false}
 use Rattle.rows.specs.Rows.{rowWords}
-use Rattle.sheet.proofs.ScanLaws.{line-none, line-stops, Kept, kept-none, kept-more, Rows, rows-none, rows-more, rows-stop, rows-all}
+use Rattle.sheet.proofs.ScanLaws.{line-none, line-stops, Kept, kept-none, kept-more, Rows, rows-none, rows-room, rows-more, rows-stop, rows-all}
 use Rattle.sheet.proofs.scan.read_lines.Statement.{statement}
 use Rattle.sheet.proofs.scan.read_lines.Tie as tie
 
@@ -35,13 +36,13 @@ loop-holds c =
 
 loop-again : tie.Need-loop-again Inv-loop μ-loop Inv-lines μ-lines
 loop-again c =
-    let w = c .before in
-    let start-at = w .before .before in
-    let read = start-at in
-    let loop = read .before .before in
+    let read = c .before .before in
+    let test = read .before .before in
+    let loop = test .before in
     let lines = loop .before .before .before .before in
     let start = lines .before .before in
-    (omega arith, loop .loop .inv .1, kept-more (start .args .sheet .now) (lines .lines .i) (lines .lines .own) (w .w .given .0 .0) (read .before .loop-test .taken) (loop .loop .inv .2) (sym (w .w .given .1) ∙ read .read-word .ensures))
+    let few = rows-room (start .args .sheet .now) (lines .lines .i) (omega arith) (lines .lines .inv .2) in
+    (omega arith, loop .loop .inv .1, kept-more (start .args .sheet .now) (lines .lines .i) (lines .lines .own) (test .loop-test .taken) few (loop .loop .inv .2) (read .read-word .result) (read .read-word .ensures) (not-false _ (c .if2 .left)))
 
 lines-again : tie.Need-lines-again Inv-loop μ-loop Inv-lines μ-lines
 lines-again c =
@@ -69,16 +70,18 @@ returns-2 c =
 
 returns-3 : tie.Need-returns-3 Inv-loop μ-loop Inv-lines μ-lines
 returns-3 c =
-    let read-word = c .before .before in
-    let test = read-word .before in
-    let start-at = test .before in
-    let loop = start-at in
-    let lines = loop .before .before .before .before in
+    let read = c .before .before in
+    let test = read .before .before in
+    let loop = test .before in
+    let line = loop .before .before .before in
+    let lines = line .before in
     let start = lines .before .before in
-    rows-stop (start .args .sheet .now) (loop .loop .own) (lines .lines .i) (start .args .n) (loop .before .before .before .lines-test .taken)
-    (line-stops (start .args .sheet .now) (lines .lines .i) (test .loop-test .taken) (sym (c .enum-told .given .1) ∙ read-word .read-word .ensures))
+    let few = rows-room (start .args .sheet .now) (lines .lines .i) (omega arith) (lines .lines .inv .2) in
+    rows-stop (start .args .sheet .now) (loop .loop .own) (lines .lines .i) (start .args .n) (line .lines-test .taken)
+    (line-stops (start .args .sheet .now) (lines .lines .i) (lines .lines .own) (test .loop-test .taken) few (loop .loop .inv .2) (read .read-word .result) (read .read-word .ensures) (not-true _ (c .if2 .taken)))
 
 pub read-lines-spec : {M : Type 1} → statement M
 read-lines-spec = tie.close (tie.spec Inv-loop μ-loop Inv-lines μ-lines
-    lines-holds (λ c κs. search needs) loop-holds (λ c κs. search needs) (λ c. search needs) (λ c. search needs) (λ c. search needs) (λ c. search needs)
-    (λ c. search needs) (λ c. search needs) (λ c. search needs) (λ c. search needs) loop-again (λ c. search needs) (λ c. search needs) lines-again returns returns-2 returns-3)
+    lines-holds (λ c κs. search needs) loop-holds (λ c. search needs) (λ c. search needs) (λ c. search needs) (λ c κs. search needs)
+    (λ c. search needs) (λ c. search needs) (λ c. search needs) (λ c. search needs) (λ c. search needs) (λ c. search needs) loop-again
+    (λ c. search needs) (λ c. search needs) lines-again returns returns-2 returns-3)
