@@ -10,3 +10,5 @@ pub mod HandleAnswered
 -- What stands at a rest, and after every list of calls.
 pub mod Standing
 pub mod EveryTouch
+-- Events with blanks (CR 2).
+pub mod BlankTouches

@@ -11,7 +11,7 @@ use lib.IntN.{ℤ, pos}
 use lib.ListN.{length, replicate, length-replicate, length-map}
 use Rattle.word.specs.Word.{eqZ}
 use Rattle.word.proofs.Order.{eqZ-true}
-use Rattle.decimal.specs.Field.{readsAt, actionColumns, wordColumns}
+use Rattle.decimal.specs.Field.{Field, readsAt, actionColumns, wordColumns}
 use Rattle.decimal.specs.Path.{Path, maxMarks, pathColumns, readsPathAt}
 use Rattle.tophat.specs.Syntax.{maxLeaves}
 use Rattle.tophat.specs.Leaves.{Given, Unused, u-end, u-zero, u-blank, Leaf, noLeaf, unitLeaf, truthLeaf, numberLeaf, Meets, m-end, m-none, m-blank, m-unit, m-false, m-true, m-number}
@@ -32,31 +32,41 @@ use Rattle.formats.proofs.ListsRead.{entry-said}
 abbrev Touch : Type 0
 Touch = Path × Act × List Given
 
-touch-leaves : (s : List ℕ) {t : Touch} → touchIn (readsPathAt s 0) leafSaid wordColumns s ≡ some t → length (t .2) ≡ maxLeaves
+abbrev pub leafFields : List ℕ → List Field
+leafFields s = fieldsAt s (pathColumns + actionColumns) (replicate maxLeaves wordColumns)
+
+pub record Readable (s : List ℕ) (t : Touch) : Type 0 where
+  pub whole : isRecord eventColumns s ≡ true
+  pub leaves : each leafSaid (leafFields s) ≡ some (t .2)
+  pub able : allowed (t .1) (t .2) ≡ true
+
+touch-leaves : (s : List ℕ) {t : Touch} → touchIn (readsPathAt s 0) leafSaid wordColumns s ≡ some t → each leafSaid (leafFields s) ≡ some (t .2)
 unfolding touchIn
 touch-leaves s {t} h =
-    let fs = fieldsAt s (pathColumns + actionColumns) (replicate maxLeaves wordColumns) in
     let (p, _, g) = bind-eq-some-iff (readsPathAt s 0) _ .0 h in
     let (n, _, k) = bind-eq-some-iff (numberSaid (readsAt s pathColumns actionColumns)) _ .0 g in
     let (a, _, l) = bind-eq-some-iff (numbered actNumber actTable n) _ .0 k in
-    let (ls, e, m) = bind-eq-some-iff (each leafSaid fs) _ .0 l in
+    let (ls, e, m) = bind-eq-some-iff (each leafSaid (leafFields s)) _ .0 l in
     let f : (p, a, ls) ≡ t = some-is m in
-    ap (λ t. length (t .2)) (sym f) ∙ each-length leafSaid fs e ∙ fields-length s (pathColumns + actionColumns) (replicate maxLeaves wordColumns) ∙ length-replicate maxLeaves wordColumns
+    e ∙ ap (λ t. some (t .2)) f
 
-says-parts : (s : List ℕ) {t : Touch} → eventSays s ≡ some t → (allowed (t .1) (t .2) ≡ true) × (length (t .2) ≡ maxLeaves)
+pub readable : (s : List ℕ) {t : Touch} → eventSays s ≡ some t → Readable s t
 unfolding eventSays
-says-parts s {t} h = by (isRecord eventColumns s) h
+readable s {t} h = by (isRecord eventColumns s) refl h
   where
     touch : Option Touch
     touch = touchIn (readsPathAt s 0) leafSaid wordColumns s
 
-    test : (u : Touch) (c : Bool) → touch ≡ some u → allowed (u .1) (u .2) ≡ c → cond c (some u) none ≡ some t → (allowed (t .1) (t .2) ≡ true) × (length (t .2) ≡ maxLeaves)
-    test u true e f g = subst (λ t. (allowed (t .1) (t .2) ≡ true) × (length (t .2) ≡ maxLeaves)) (some-is g) (f, touch-leaves s e)
-    test u false e f g = no-some g
+    test : (u : Touch) (c : Bool) → isRecord eventColumns s ≡ true → touch ≡ some u → allowed (u .1) (u .2) ≡ c → cond c (some u) none ≡ some t → Readable s t
+    test u true w e f g = subst (Readable s) (some-is g) (record { whole = w; leaves = touch-leaves s e; able = f })
+    test u false w e f g = no-some g
 
-    by : (b : Bool) → cond b (bind touch λ t. cond (allowed (t .1) (t .2)) (some t) none) none ≡ some t → (allowed (t .1) (t .2) ≡ true) × (length (t .2) ≡ maxLeaves)
-    by true k = let (u, e, g) = bind-eq-some-iff touch _ .0 k in test u (allowed (u .1) (u .2)) e refl g
-    by false k = no-some k
+    by : (b : Bool) → isRecord eventColumns s ≡ b → cond b (bind touch λ t. cond (allowed (t .1) (t .2)) (some t) none) none ≡ some t → Readable s t
+    by true w k = let (u, e, g) = bind-eq-some-iff touch _ .0 k in test u (allowed (u .1) (u .2)) w e refl g
+    by false w k = no-some k
+
+pub leaves-long : (s : List ℕ) {t : Touch} → Readable s t → length (t .2) ≡ maxLeaves
+leaves-long s r = each-length leafSaid (leafFields s) (r .leaves) ∙ fields-length s (pathColumns + actionColumns) (replicate maxLeaves wordColumns) ∙ length-replicate maxLeaves wordColumns
 
 -- leaves that are 0 or blank are unused
 nothing-unused : (ls : List Given) → allNothing ls ≡ true → Unused (length ls) ls
@@ -123,7 +133,7 @@ covers-bytes (c-button {p} {b}) few all event h =
     let (a, ls, e, f) = says-of event h in
     let i = pressed-of a ls f in
     let g : eventSays event ≡ some (p, pressing b, ls) = e ∙ (λ k. some (p, i k, ls)) in
-    let (z, l) = says-parts event g in
+    let z = readable event g in
     record {
       path = p;
       act = pressing b;
@@ -131,7 +141,7 @@ covers-bytes (c-button {p} {b}) few all event h =
       leaves = ls;
       entry-says = entry-said (p, button b) few all;
       event-says = g;
-      meets = button-met b ls z l;
+      meets = button-met b ls (z .able) (leaves-long event z);
     }
 
 -- what an entry's bytes and an event's say alike, the calculus' entry covers

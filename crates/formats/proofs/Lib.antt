@@ -11,3 +11,5 @@ pub mod ListsRead
 pub mod CoversRead
 pub mod ListsCover
 pub mod EntriesFit
+-- Events with blanks (CR 2).
+pub mod BlankEvents

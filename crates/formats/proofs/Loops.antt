@@ -32,7 +32,7 @@ place-is n zero w l = omega arith
 place-is zero (suc k) w l = absurd (omega arith)
 place-is (suc n) (suc k) w l = let e = place-is n k w (omega arith) in omega (arith, e)
 
-field-is : (s : List ℕ) (at k w : ℕ) → k < maxLeaves → getD (fieldsAt s at (alike w)) k unreadable ≡ readsAt s (at + k * w) w
+pub field-is : (s : List ℕ) (at k w : ℕ) → k < maxLeaves → getD (fieldsAt s at (alike w)) k unreadable ≡ readsAt s (at + k * w) w
 field-is s at k w l = field-at s at (alike w) k (omega (arith, length-replicate maxLeaves w, l)) ∙ (λ j. readsAt s (at + place-is maxLeaves k w (omega arith) j) (getD-replicate maxLeaves k w 0 l j))
 
 -- ---- one leaf

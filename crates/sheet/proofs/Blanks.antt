@@ -1,20 +1,20 @@
 -- Blank cells (CR 2), of the call load: a sheet in which any zeros of unused operands are left blank loads as the sheet itself does, number
 -- and rows, in every rows memory; and a blank anywhere else, all operands of a number that is no kind among them, is ground 2. Rests on
 -- formats' laws of lines.
-use mathlib.Core.Path.{_≡_, refl, sym, ap, _∙_}
-use mathlib.Core.Bool.{Bool, true, false, cond, false≢true}
-use mathlib.Core.Option.{none, some, bind}
+use mathlib.Core.Path.{_≡_, refl, sym, ap, subst, _∙_}
+use mathlib.Core.Bool.{Bool, true, false, cond}
+use mathlib.Core.Option.{Option, none, some, bind}
 use mathlib.Core.List.{List, _++_}
 use Prim.Native.Nat.{ℕ, zero, suc, _+_, _*_, _/_, _<_, _≤_}
 use native.Mathlib.Omega.{arith}
 use borrow.Author.Tests.{le-leb, eq-eqb}
-use lib.Dec.{lit<, eqb}
+use lib.Dec.{eqb}
 use lib.IntN.{ℤ, pos}
-use lib.ListN.{length, getD, replicate, length-replicate}
+use lib.ListN.{length, getD, replicate}
 use lib.Seq.{slice, ext-getD}
 use Rattle.decimal.specs.Field.{Field, number, blank, unreadable, space, newline, written, reads, readsAt}
-use Rattle.decimal.proofs.Fields.{written-reads}
-use Rattle.decimal.proofs.Blanks.{reads-blank}
+use Rattle.decimal.proofs.Blanks.{Blanked, kept, left-blank, ZeroBlank, same, zero-blank, spaces-blank, blanked-number}
+use Rattle.tophat.proofs.Basics.{no-some}
 use Rattle.formats.specs.Records.{total, placeOf, fieldsAt, numberSaid, each}
 use Rattle.formats.specs.Lines.{lineColumns, lineBytes, meant, kindWord, unusedFields, lineFields, afterRow, lineSays, linesSay}
 use Rattle.formats.proofs.Records.{field-at}
@@ -36,16 +36,15 @@ allSpaces f = replicate (getD lineColumns f 0) space
 abbrev pub unusedField : List ℕ → ℕ → ℕ → Bool
 unusedField s i f = getD (unusedFields (kindIn s i)) f false
 
--- the bytes cs of a field against bs: the same, or, where the operand is unused, all spaces in place of a 0
-pub data Blanks (u : Bool) (f : ℕ) (bs : List ℕ) : List ℕ → Type 0 where
-  kept : Blanks u f bs bs
-  left-blank : u ≡ true → written (getD lineColumns f 0) (pos 0) ≡ some bs → Blanks u f bs (allSpaces f)
+-- what may be left blank in a field: a 0, where the operand is unused
+abbrev pub zeroWhere : Bool → ℕ → Option (List ℕ)
+zeroWhere u f = cond u (written (getD lineColumns f 0) (pos 0)) none
 
 -- t is the sheet s with zeros of unused operands left blank
-pub record Blanked (s t : List ℕ) : Type 0 where
+pub record BlankedSheet (s t : List ℕ) : Type 0 where
   pub long : length t ≡ length s
   pub ends : (i : ℕ) → i < lines s → getD t (i * lineBytes + total lineColumns) 0 ≡ getD s (i * lineBytes + total lineColumns) 0
-  pub fields : (i f : ℕ) → i < lines s → f < length lineColumns → Blanks (unusedField s i f) f (fieldBytes s i f) (fieldBytes t i f)
+  pub fields : (i f : ℕ) → i < lines s → f < length lineColumns → Blanked (zeroWhere (unusedField s i f) f) (fieldBytes s i f) (fieldBytes t i f)
 
 -- ---- fields
 
@@ -62,26 +61,27 @@ field-reads : (s : List ℕ) (i f : ℕ) → i < lines s → f < length lineColu
 unfolding readsAt
 field-reads s i f l m = rw (le-leb (i * lineBytes + placeOf lineColumns f + getD lineColumns f 0) (length s) (within s i f l m))
 
-spaces-blank : (f : ℕ) → reads (allSpaces f) ≡ blank
-spaces-blank f = reads-blank (allSpaces f) .1 (ap (λ n. replicate n space) (sym (length-replicate (getD lineColumns f 0) space)))
+blank-is-zero : meant true blank ≡ meant true (number (pos 0))
+unfolding meant
+blank-is-zero = refl
+
+-- a field that is used is the same
+never-unused : (f : ℕ) {bs cs : List ℕ} → Blanked (zeroWhere false f) bs cs → reads cs ≡ reads bs
+never-unused f kept = refl
+never-unused f (left-blank e) = no-some e
 
 -- both are meant alike
-meant-alike : {u : Bool} {f : ℕ} {bs cs : List ℕ} → Blanks u f bs cs → meant u (reads cs) ≡ meant u (reads bs)
-unfolding meant
-meant-alike kept = refl
-meant-alike {u} {f} {bs} (left-blank e h) =
-    let a = written-reads (getD lineColumns f 0) bs (pos 0) (lit< tt) h in
-    let b = spaces-blank f in
-    rw (a, b, e)
-
--- a field that is never unused is the same
-never-unused : {u : Bool} {f : ℕ} {bs cs : List ℕ} → u ≡ false → Blanks u f bs cs → reads cs ≡ reads bs
-never-unused n kept = refl
-never-unused n (left-blank e h) = absurd (false≢true (sym n ∙ e))
+meant-alike : (u : Bool) (f : ℕ) {bs cs : List ℕ} → Blanked (zeroWhere u f) bs cs → meant u (reads cs) ≡ meant u (reads bs)
+meant-alike true f b = by (blanked-number (getD lineColumns f 0) b)
+  where
+    by : {g h : Field} → ZeroBlank g h → meant true h ≡ meant true g
+    by same = refl
+    by zero-blank = blank-is-zero
+meant-alike false f b = ap (meant false) (never-unused f b)
 
 -- ---- a blank where nothing is meant
 
-module _ {s t : List ℕ} (b : Blanked s t) where
+module _ {s t : List ℕ} (b : BlankedSheet s t) where
   same-lines : lines t ≡ lines s
   same-lines = ap (λ n. n / lineBytes) (b .long)
 
@@ -90,7 +90,7 @@ module _ {s t : List ℕ} (b : Blanked s t) where
     there = omega (arith, same-lines, l)
 
     field-is : (f : ℕ) → f < length lineColumns → unusedField s i f ≡ false → readsAt t (i * lineBytes + placeOf lineColumns f) (getD lineColumns f 0) ≡ readsAt s (i * lineBytes + placeOf lineColumns f) (getD lineColumns f 0)
-    field-is f m n = field-reads t i f there m ∙ never-unused n (b .fields i f l m) ∙ sym (field-reads s i f l m)
+    field-is f m n = field-reads t i f there m ∙ never-unused f (subst (λ u. Blanked (zeroWhere u f) (fieldBytes s i f) (fieldBytes t i f)) n (b .fields i f l m)) ∙ sym (field-reads s i f l m)
 
     same-kind : kindIn t i ≡ kindIn s i
     same-kind = ap kindWord (field-at t (i * lineBytes) lineColumns 1 (omega arith) ∙ field-is 1 (omega arith) refl ∙ sym (field-at s (i * lineBytes) lineColumns 1 (omega arith)))
@@ -101,7 +101,7 @@ module _ {s t : List ℕ} (b : Blanked s t) where
         by : (f : ℕ) → f < length lineColumns → getD (lineFields t i) f unreadable ≡ getD (lineFields s i) f unreadable
         by f m =
             field-meant t i f m ∙ (λ j. meant (getD (unusedFields (same-kind j)) f false) (field-reads t i f there m j))
-            ∙ meant-alike (b .fields i f l m) ∙ ap (meant (unusedField s i f)) (sym (field-reads s i f l m)) ∙ sym (field-meant s i f m)
+            ∙ meant-alike (unusedField s i f) f (b .fields i f l m) ∙ ap (meant (unusedField s i f)) (sym (field-reads s i f l m)) ∙ sym (field-meant s i f m)
 
     same-line : lineSays t i ≡ lineSays s i
     unfolding lineSays
@@ -126,7 +126,7 @@ pub blank-used : (s : List ℕ) (rows : List ℤ) → sized (length s) ≡ true 
 unfolding loaded loadedLines numberSaid meant
 blank-used s rows z e i f l m h n =
     let a : numberSaid (getD (lineFields s i) f unreadable) ≡ none =
-    ap numberSaid (field-meant s i f m ∙ (λ j. meant (n j) ((field-reads s i f l m ∙ ap reads h ∙ spaces-blank f) j))) in
+    ap numberSaid (field-meant s i f m ∙ (λ j. meant (n j) ((field-reads s i f l m ∙ ap reads h ∙ spaces-blank (getD lineColumns f 0)) j))) in
     let b = lines-none s i (lines s) l (no-field s i f m a) in
     let c = eq-eqb (length rows) (lines s * rowWords) e in
     rw (z, c, b)

@@ -1,9 +1,9 @@
--- Blank leaves (CR 2): an event that is taken is taken alike with a 0 in place of each blank; a blank where the editor's type has a leaf
+-- Blank leaves (CR 2): an event that is taken is taken alike with a 0 in place of any blank; a blank where the editor's type has a leaf
 -- gives no value, and elsewhere it is as 0. Rests on Leaves.
-use mathlib.Core.Path.{_≡_, refl, sym, ap, ap₂, _∙_}
+use mathlib.Core.Path.{_≡_, refl, sym, ap, ap₂, _∙_, subst}
 use mathlib.Core.Bool.{_&&_, cond}
 use mathlib.Core.Option.{Option, none, some}
-use mathlib.Core.List.{List, [], _∷_, _++_, map, map-append}
+use mathlib.Core.List.{List, [], _∷_, _++_, map}
 use Prim.Native.Nat.{ℕ, zero, suc, _-_, _<_, _≤_}
 use native.Mathlib.Omega.{arith}
 use borrow.Author.Tests.{leb-true, leb-false}
@@ -13,56 +13,72 @@ use lib.IntN.{ℤ, pos}
 use lib.ListN.{length, getD, replicate, length-append, length-map}
 use Rattle.decimal.specs.Path.{Path}
 use Rattle.tophat.specs.Syntax.{maxLeaves, Ty, leaves, Code, Val, Env, Store, TaskOf}
-use Rattle.tophat.specs.Leaves.{leavesOf, padded, Given, Unused, u-end, u-zero, u-blank, Gives, Leaf, noLeaf, unitLeaf, truthLeaf, numberLeaf, leafKinds, valueOf, meetsLeaf, meets, numberGiven, given}
-use Rattle.tophat.specs.Handling.{Action, give, press, Handles, h-change, h-fill, h-update, h-pass-then, h-pass-next, h-next}
+use Rattle.tophat.specs.Leaves.{leavesOf, padded, Given, Unused, u-end, u-zero, u-blank, Gives, Leaf, noLeaf, unitLeaf, truthLeaf, numberLeaf, leafKinds, Meets, m-end, m-none, m-blank, m-unit, m-false, m-true, m-number, valueOf, meetsLeaf, meets, numberGiven, given}
+use Rattle.tophat.specs.Handling.{Button, Action, give, press, Handles, h-change, h-fill, h-update, h-pass-then, h-pass-next, h-next}
 use Rattle.tophat.specs.Handling.{h-first-and, h-second-and, h-first-or, h-second-or, h-pick-left, h-pick-right, h-became}
 use Rattle.tophat.proofs.Leaves.{length-kinds, length-leaves, given-gives}
 
--- a 0 in place of each blank
-unfoldable pub zeroed : Given → Given
-zeroed none = some (pos 0)
-zeroed (some n) = some n
+-- ---- any zeros left blank
 
-unfoldable pub zeroedAction : Action → Action
-zeroedAction (give ls) = give (map zeroed ls)
-zeroedAction (press b) = press b
+pub data Blanked : List Given → List Given → Type 0 where
+  all : Blanked [] []
+  kept : (l : Given) {ls ms : List Given} → Blanked ls ms → Blanked (l ∷ ls) (l ∷ ms)
+  left-blank : {ls ms : List Given} → Blanked ls ms → Blanked (some (pos 0) ∷ ls) (none ∷ ms)
 
--- ---- what is taken with blanks is taken with zeros, and comes to the same
+pub data BlankedAction : Action → Action → Type 0 where
+  in-leaves : {ls ms : List Given} → Blanked ls ms → BlankedAction (give ls) (give ms)
+  in-none : {b : Button} → BlankedAction (press b) (press b)
 
-zeroed-numbers : (ns : List ℤ) → map zeroed (map some ns) ≡ map some ns
-unfolding zeroed
-zeroed-numbers [] = refl
-zeroed-numbers (n ∷ ns) = ap (λ ls. some n ∷ ls) (zeroed-numbers ns)
+-- what is taken with blanks is taken with the zeros, and comes to the same
 
-zeroed-unused : {n : ℕ} {ls : List Given} → Unused n ls → Unused n (map zeroed ls)
-unfolding zeroed
-zeroed-unused u-end = u-end
-zeroed-unused (u-zero u) = u-zero (zeroed-unused u)
-zeroed-unused (u-blank u) = u-zero (zeroed-unused u)
+unused-filled : {n : ℕ} {ls ms : List Given} → Unused n ms → Blanked ls ms → Unused n ls
+unused-filled u-end all = u-end
+unused-filled (u-zero u) (kept _ d) = u-zero (unused-filled u d)
+unused-filled (u-blank u) (kept _ d) = u-blank (unused-filled u d)
+unused-filled (u-blank u) (left-blank d) = u-zero (unused-filled u d)
 
-gives-zeroed : {ls : List Given} {τ : Ty} {v : Val} → Gives ls τ v → Gives (map zeroed ls) τ v
-gives-zeroed {v = v} g = record {
-  typed = g .typed;
-  others = map zeroed (g .others);
-  split = ap (map zeroed) (g .split) ∙ map-append zeroed (map some (leavesOf v)) (g .others) ∙ ap (λ ls. ls ++ map zeroed (g .others)) (zeroed-numbers (leavesOf v));
-  unused = zeroed-unused (g .unused);
-}
+record Behind (ns : List ℤ) (us ls : List Given) : Type 0 where
+  rest : List Given
+  is : ls ≡ map some ns ++ rest
+  blanked : Blanked rest us
 
-pub handles-zeroed : {c : Code} {ρ : Env} {s s₁ : Store} {t t₁ : TaskOf c} {p : Path} {x : Action} → Handles c ρ s t p x t₁ s₁ → Handles c ρ s t p (zeroedAction x) t₁ s₁
-unfolding zeroedAction
-handles-zeroed (h-change h g) = h-change h (gives-zeroed g)
-handles-zeroed (h-fill g) = h-fill (gives-zeroed g)
-handles-zeroed (h-update a h g) = h-update a h (gives-zeroed g)
-handles-zeroed (h-pass-then d) = h-pass-then (handles-zeroed d)
-handles-zeroed (h-pass-next d) = h-pass-next (handles-zeroed d)
-handles-zeroed (h-next v e f) = h-next v e f
-handles-zeroed (h-first-and d) = h-first-and (handles-zeroed d)
-handles-zeroed (h-second-and d) = h-second-and (handles-zeroed d)
-handles-zeroed (h-first-or d) = h-first-or (handles-zeroed d)
-handles-zeroed (h-second-or d) = h-second-or (handles-zeroed d)
-handles-zeroed (h-pick-left e n f) = h-pick-left e n f
-handles-zeroed (h-pick-right e n f) = h-pick-right e n f
-handles-zeroed (h-became b d) = h-became b (handles-zeroed d)
+behind : (ns : List ℤ) (us : List Given) {ls : List Given} → Blanked ls (map some ns ++ us) → Behind ns us ls
+behind [] us {ls} d = record { rest = ls; is = refl; blanked = d }
+behind (n ∷ ns) us (kept _ d) = let p = behind ns us d in record { rest = p .rest; is = ap (λ ls. some n ∷ ls) (p .is); blanked = p .blanked }
+
+gives-filled : {ls ms : List Given} {τ : Ty} {v : Val} → Gives ms τ v → Blanked ls ms → Gives ls τ v
+gives-filled {ls} {v = v} g d =
+    let p = behind (leavesOf v) (g .others) (subst (Blanked ls) (g .split) d) in
+    record { typed = g .typed; others = p .rest; split = p .is; unused = unused-filled (g .unused) (p .blanked) }
+
+pub handles-filled : {c : Code} {ρ : Env} {s s₁ : Store} {t t₁ : TaskOf c} {p : Path} {x y : Action} → Handles c ρ s t p y t₁ s₁ → BlankedAction x y → Handles c ρ s t p x t₁ s₁
+handles-filled (h-change h g) (in-leaves d) = h-change h (gives-filled g d)
+handles-filled (h-fill g) (in-leaves d) = h-fill (gives-filled g d)
+handles-filled (h-update a h g) (in-leaves d) = h-update a h (gives-filled g d)
+handles-filled (h-pass-then k) b = h-pass-then (handles-filled k b)
+handles-filled (h-pass-next k) b = h-pass-next (handles-filled k b)
+handles-filled (h-next v e f) in-none = h-next v e f
+handles-filled (h-first-and k) b = h-first-and (handles-filled k b)
+handles-filled (h-second-and k) b = h-second-and (handles-filled k b)
+handles-filled (h-first-or k) b = h-first-or (handles-filled k b)
+handles-filled (h-second-or k) b = h-second-or (handles-filled k b)
+handles-filled (h-pick-left e n f) in-none = h-pick-left e n f
+handles-filled (h-pick-right e n f) in-none = h-pick-right e n f
+handles-filled (h-became m k) b = h-became m (handles-filled k b)
+
+-- leaves that meet kinds meet them still, where only leaves of kind 0 are left blank
+pub meets-blanked : {ks : List Leaf} {ls ms : List Given} → Meets ks ls → Blanked ls ms → ((j : ℕ) → getD ms j (some (pos 0)) ≡ none → getD ks j noLeaf ≡ noLeaf) → Meets ks ms
+meets-blanked m-end all h = m-end
+meets-blanked (m-none d) (kept _ b) h = m-none (meets-blanked d b (λ j. h (suc j)))
+meets-blanked (m-none d) (left-blank b) h = m-blank (meets-blanked d b (λ j. h (suc j)))
+meets-blanked (m-blank d) (kept _ b) h = m-blank (meets-blanked d b (λ j. h (suc j)))
+meets-blanked (m-unit d) (kept _ b) h = m-unit (meets-blanked d b (λ j. h (suc j)))
+meets-blanked (m-unit d) (left-blank b) h = let e = h 0 refl in let z : _≡_ {A = ℕ} 0 1 = cc in absurd (omega arith)
+meets-blanked (m-false d) (kept _ b) h = m-false (meets-blanked d b (λ j. h (suc j)))
+meets-blanked (m-false d) (left-blank b) h = let e = h 0 refl in let z : _≡_ {A = ℕ} 0 1 = cc in absurd (omega arith)
+meets-blanked (m-true d) (kept _ b) h = m-true (meets-blanked d b (λ j. h (suc j)))
+meets-blanked (m-number w d) (kept _ b) h = m-number w (meets-blanked d b (λ j. h (suc j)))
+meets-blanked (m-number w d) (left-blank b) h = let e = h 0 refl in let z : _≡_ {A = ℕ} 0 1 = cc in absurd (omega arith)
 
 -- ---- a blank where the type has a leaf gives no value
 
@@ -84,6 +100,11 @@ blank-refused τ ls j l e = by (given τ ls) refl
         absurd (leaf-there (leavesOf v) (g .others) j (omega (arith, n, l)) (ap (λ ls. getD ls j (some (pos 0))) (sym (g .split)) ∙ e (omega (arith, n, m, k, l))))
 
 -- ---- elsewhere it is as 0
+
+-- a 0 in place of each blank
+unfoldable pub zeroed : Given → Given
+zeroed none = some (pos 0)
+zeroed (some n) = some n
 
 same-leaf : (k : Leaf) (l : Given) → (l ≡ none → k ≡ noLeaf) → meetsLeaf k (zeroed l) ≡ meetsLeaf k l
 unfolding meetsLeaf zeroed
