@@ -142,6 +142,12 @@ module _ (s : List ℕ) (i : ℕ) where
   unfolding lineSays
   no-field k l e = by-end (eqb (getD s (i * lineBytes + total lineColumns) 0) newline) (each numberSaid (lineFields s i)) (each-none numberSaid (lineFields s i) k unreadable (omega (arith, fields-long, l)) e)
 
+  -- a blank where the field is used: row number, kind, or a used operand
+  pub blank-unread : (k : ℕ) → k < length lineColumns → getD (unusedFields kindIn) k false ≡ false
+      → readsAt s (i * lineBytes + placeOf lineColumns k) (getD lineColumns k 0) ≡ blank → lineSays s i ≡ none
+  unfolding meant numberSaid
+  blank-unread k l u e = no-field k l (ap numberSaid (field-meant k l ∙ (λ j. meant (u j) (e j))))
+
   -- its first number is not i
   by-row : (b : Bool) (z : ℤ) (o : Option (List ℤ)) → eqZ z (pos i) ≡ false → cond b (bind (bind o λ zs. some (z ∷ zs)) λ zs. afterRow i zs) none ≡ none
   unfolding bind afterRow

@@ -9,7 +9,7 @@ use lib.IntN.{ℤ, pos}
 use lib.ListN.{length, take, drop, length-append, length-map}
 use lib.Seq.{take-at, drop-at, drop-drop}
 use Rattle.decimal.specs.Field.{number, actionColumns}
-use Rattle.decimal.specs.Path.{maxMarks}
+use Rattle.decimal.specs.Path.{Path, maxMarks}
 use Rattle.tophat.specs.Syntax.{maxLeaves}
 use Rattle.tophat.specs.Typing.{At, here, there}
 use Rattle.tophat.specs.Leaves.{Leaf, leafNumber, leafTable}
@@ -35,19 +35,26 @@ module _ (e : Entry) (few : length (e .0) ≤ maxMarks) (all : length (offerKind
   abbrev kinds : List ℤ
   kinds = map pos (map leafNumber (offerKinds (e .1)))
 
+  -- the path as it is written
+  abbrev path : Path
+  path = e .0
+
+  path-few : length path ≤ maxMarks
+  path-few = few
+
   kinds-all : length (map number kinds) ≡ maxLeaves
   kinds-all = length-map kinds number ∙ length-map (map leafNumber (offerKinds (e .1))) pos ∙ length-map (offerKinds (e .1)) leafNumber ∙ all
 
   parts : Parts actionColumns (map number kinds) (itemsText (fields actionColumns kinds))
   parts = number-parts actionColumns kinds (kinds-fit (offerKinds (e .1)))
 
-  text-is : entryText e ≡ text (e .0) few (offerAct (e .1)) actionColumns parts kinds-all
+  text-is : entryText e ≡ text path path-few (offerAct (e .1)) actionColumns parts kinds-all
   unfolding entryText
-  text-is = text-of (e .0) (offerAct (e .1)) actionColumns kinds
+  text-is = text-of path (offerAct (e .1)) actionColumns kinds
 
   -- 27 bytes
   pub entry-length : length (entryText e) ≡ entryBytes
-  entry-length = ap length text-is ∙ text-length (e .0) few (offerAct (e .1)) actionColumns parts kinds-all
+  entry-length = ap length text-is ∙ text-length path path-few (offerAct (e .1)) actionColumns parts kinds-all
 
   -- that say its path, action and leaf kinds
   pub entry-said : entrySays (entryText e) ≡ some (e .0, offerAct (e .1), offerKinds (e .1))
@@ -55,8 +62,8 @@ module _ (e : Entry) (few : length (e .0) ≤ maxMarks) (all : length (offerKind
   entry-said =
       let ks = offerKinds (e .1) in
       let a = offerAct (e .1) in
-      let r = text-record (e .0) few a actionColumns parts kinds-all in
-      let t = touch-said (e .0) few a actionColumns parts kinds-all numberSaid (entry-path-said (e .0) few a actionColumns parts kinds-all) (numbers-said kinds) in
+      let r = text-record path path-few a actionColumns parts kinds-all in
+      let t = touch-said path path-few a actionColumns parts kinds-all numberSaid (entry-path-said path path-few a actionColumns parts kinds-all) (numbers-said kinds) in
       let l : each (numbered leafNumber leafTable) kinds ≡ some ks = ap (each (numbered leafNumber leafTable)) (twice ks) ∙ leaves-numbered ks in
       ap entrySays text-is ∙ rw (r, t, l)
 

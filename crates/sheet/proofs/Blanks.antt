@@ -18,7 +18,9 @@ use Rattle.tophat.proofs.Basics.{no-some}
 use Rattle.formats.specs.Records.{total, placeOf, fieldsAt, numberSaid, each}
 use Rattle.formats.specs.Lines.{lineColumns, lineBytes, meant, kindWord, unusedFields, lineFields, afterRow, lineSays, linesSay}
 use Rattle.formats.proofs.Records.{field-at}
-use Rattle.formats.proofs.LinesRead.{kindIn, fields-long, field-meant, no-field, lines-none}
+use Rattle.formats.proofs.LinesRead.{kindIn, fields-long, field-meant, blank-unread, lines-none}
+use Rattle.rows.specs.Kinds.{noAsks, asksOf}
+use Rattle.rows.proofs.Unused.{unknown-uses-all}
 use Rattle.rows.specs.GroundNumbers.{notSized, notRead, wrongMemory}
 use Rattle.rows.specs.Rows.{rowWords}
 use Rattle.sheet.specs.Sheet.{lines, sized, loadedLines, loaded}
@@ -123,10 +125,20 @@ module _ {s t : List ℕ} (b : BlankedSheet s t) where
 
 pub blank-used : (s : List ℕ) (rows : List ℤ) → sized (length s) ≡ true → length rows ≡ lines s * rowWords
     → (i f : ℕ) → i < lines s → f < length lineColumns → fieldBytes s i f ≡ allSpaces f → unusedField s i f ≡ false → loaded s rows ≡ (notRead, rows)
-unfolding loaded loadedLines numberSaid meant
+unfolding loaded loadedLines
 blank-used s rows z e i f l m h n =
-    let a : numberSaid (getD (lineFields s i) f unreadable) ≡ none =
-    ap numberSaid (field-meant s i f m ∙ (λ j. meant (n j) ((field-reads s i f l m ∙ ap reads h ∙ spaces-blank (getD lineColumns f 0)) j))) in
-    let b = lines-none s i (lines s) l (no-field s i f m a) in
+    let b = lines-none s i (lines s) l (blank-unread s i f m n (field-reads s i f l m ∙ ap reads h ∙ spaces-blank (getD lineColumns f 0))) in
     let c = eq-eqb (length rows) (lines s * rowWords) e in
     rw (z, c, b)
+
+-- what is never unused: a row number, a kind, and any operand of a number that is no kind
+pub row-number-used : (s : List ℕ) (i : ℕ) → unusedField s i 0 ≡ false
+row-number-used s i = refl
+
+pub kind-used : (s : List ℕ) (i : ℕ) → unusedField s i 1 ≡ false
+kind-used s i = refl
+
+pub no-kind-used : (s : List ℕ) (i f : ℕ) → asksOf (kindIn s i) ≡ noAsks → unusedField s i f ≡ false
+no-kind-used s i zero e = refl
+no-kind-used s i (suc zero) e = refl
+no-kind-used s i (suc (suc k)) e = unknown-uses-all (kindIn s i) e k
