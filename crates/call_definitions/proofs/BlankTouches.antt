@@ -23,7 +23,7 @@ use Rattle.decimal.specs.Field.{space, wordColumns}
 use Rattle.decimal.specs.Path.{Path}
 use Rattle.tophat.specs.Syntax.{maxLeaves, Ty, Code}
 use Rattle.tophat.specs.Leaves.{Given, noLeaf}
-use Rattle.tophat.specs.Handling.{Button, Act, giving, pressing, Action, press}
+use Rattle.tophat.specs.Handling.{Button, Act, giving, pressing, Action}
 use Rattle.tophat.proofs.Basics.{no-some, some-is}
 use Rattle.tophat.proofs.Blanks.{Blanked, BlankedAction, in-leaves, in-none, handles-filled, meets-blanked}
 use Rattle.formats.specs.Touches.{eventSays, actionOf, eventOf, CoversBytes}

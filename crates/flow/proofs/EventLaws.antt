@@ -16,7 +16,7 @@ use mir.Val.{toZ, sel}
 use Rattle.word.specs.Word.{words, eqZ}
 use Rattle.word.proofs.Order.{equal-number}
 use Rattle.word.proofs.TwosComplement.{number-bits}
-use Rattle.decimal.specs.Field.{number, readsAt, reading, actionColumns, wordColumns, newline}
+use Rattle.decimal.specs.Field.{readsAt, reading, actionColumns, wordColumns, newline}
 use Rattle.decimal.specs.declared.field.Reading.the-variants.{Number, Blank, Unreadable}
 use Rattle.decimal.specs.Path.{Path, pathColumns, pathOf, readsPathAt, pathReading}
 use Rattle.decimal.specs.declared.path.PathReading.the-variants.{Marks}
@@ -43,23 +43,19 @@ not-zero x h = by (ltb x (2 ^ 31))
     by true = ne-eqb x 0 h
     by false = refl
 
+later : (b x : Bool) → false ≡ x → false ≡ b && x
+later true x e = e
+later false x e = refl
+
 pub some-leaf : (ls : List ℕ) (bs : List Bool) → ZeroBlanks ls bs → (k : ℕ) → k < length ls → (getD ls k 0 ≡ 0 → ⊥) → false ≡ allNothing (leavesBy ls bs)
 unfolding allNothing isNothing leavesBy
 some-leaf [] bs z k l h = absurd (omega arith)
 some-leaf (x ∷ ls) [] z zero l h = let e = not-zero x h in rw e
-some-leaf (x ∷ ls) [] z (suc k) l h = later (eqZ (toZ w32 x) (pos 0)) (some-leaf ls [] (λ k e. absurd (false≢true e)) k (omega arith) h)
-  where
-    later : (b : Bool) → false ≡ allNothing (leavesBy ls []) → false ≡ b && allNothing (leavesBy ls [])
-    later true e = e
-    later false e = refl
+some-leaf (x ∷ ls) [] z (suc k) l h = later (eqZ (toZ w32 x) (pos 0)) (allNothing (leavesBy ls [])) (some-leaf ls [] (λ k e. absurd (false≢true e)) k (omega arith) h)
 some-leaf (x ∷ ls) (true ∷ bs) z zero l h = absurd (h (z 0 refl))
 some-leaf (x ∷ ls) (false ∷ bs) z zero l h = let e = not-zero x h in rw e
 some-leaf (x ∷ ls) (true ∷ bs) z (suc k) l h = some-leaf ls bs (λ k. z (suc k)) k (omega arith) h
-some-leaf (x ∷ ls) (false ∷ bs) z (suc k) l h = later (eqZ (toZ w32 x) (pos 0)) (some-leaf ls bs (λ k. z (suc k)) k (omega arith) h)
-  where
-    later : (b : Bool) → false ≡ allNothing (leavesBy ls bs) → false ≡ b && allNothing (leavesBy ls bs)
-    later true e = e
-    later false e = refl
+some-leaf (x ∷ ls) (false ∷ bs) z (suc k) l h = later (eqZ (toZ w32 x) (pos 0)) (allNothing (leavesBy ls bs)) (some-leaf ls bs (λ k. z (suc k)) k (omega arith) h)
 
 pub no-leaf : (ls : List ℕ) (bs : List Bool) (k : ℕ) → length ls ≤ k → ((i : ℕ) → i < k → getD ls i 0 ≡ 0) → true ≡ allNothing (leavesBy ls bs)
 unfolding allNothing isNothing leavesBy

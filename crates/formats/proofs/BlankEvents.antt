@@ -13,7 +13,7 @@ use lib.IntN.{ℤ, pos}
 use lib.ListN.{length, getD, replicate, length-replicate}
 use lib.Seq.{slice, length-slice}
 use Rattle.decimal.specs.Field.{Field, number, blank, unreadable, space, actionColumns, wordColumns, newline, written, reads, readsAt}
-use Rattle.decimal.specs.Path.{Path, pathColumns, writtenPath, readsPath, readsPathAt}
+use Rattle.decimal.specs.Path.{Path, pathColumns, writtenPath, readsPathAt}
 use Rattle.decimal.proofs.Blanks as decimal
 use Rattle.decimal.proofs.Blanks.{reads-blank, ZeroBlank, same, zero-blank, blanked-number, blanked-path}
 use Rattle.tophat.specs.Syntax.{maxLeaves}

@@ -9,7 +9,6 @@ use lib.IntN.{ℤ}
 use lib.ListN.{length, getD, take}
 use lib.Seq.{take-suc}
 use Rattle.decimal.specs.Field.{Field, number, blank, unreadable}
-use Rattle.tophat.specs.Leaves.{Given}
 use Rattle.tophat.proofs.Basics.{no-some, some-is}
 use Rattle.formats.specs.Records.{numberSaid, each}
 use Rattle.formats.specs.Touches.{leafSaid}

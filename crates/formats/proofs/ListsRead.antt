@@ -1,21 +1,22 @@
 -- The bytes of a list are read back as the entries that they were written for, 27 each; and an entry's bytes cover an event's exactly
 -- where the calculus' entry covers what the event says. Rests on TouchesRead.
 use mathlib.Core.Path.{_≡_, refl, sym, ap, _∙_}
-use mathlib.Core.Option.{some, bind}
+use mathlib.Core.Bool.{Bool, true, false, cond}
+use mathlib.Core.Option.{Option, none, some, bind}
 use mathlib.Core.List.{List, [], _∷_, _++_, map}
 use Prim.Native.Nat.{ℕ, zero, suc, _+_, _*_, _<_, _≤_}
 use native.Mathlib.Omega.{arith}
 use lib.IntN.{ℤ, pos}
 use lib.ListN.{length, take, drop, length-append, length-map}
 use lib.Seq.{take-at, drop-at, drop-drop}
-use Rattle.decimal.specs.Field.{number, actionColumns}
-use Rattle.decimal.specs.Path.{Path, maxMarks}
+use Rattle.decimal.specs.Field.{number, blank, readsAt, actionColumns}
+use Rattle.decimal.specs.Path.{Path, maxMarks, pathColumns}
 use Rattle.tophat.specs.Syntax.{maxLeaves}
 use Rattle.tophat.specs.Typing.{At, here, there}
 use Rattle.tophat.specs.Leaves.{Leaf, leafNumber, leafTable}
 use Rattle.tophat.specs.Showing.{Entry}
-use Rattle.formats.specs.Records.{numberSaid, each, itemsText}
-use Rattle.formats.specs.Touches.{entryBytes, numbered, entrySays}
+use Rattle.formats.specs.Records.{isRecord, numberSaid, each, itemsText}
+use Rattle.formats.specs.Touches.{entryColumns, entryBytes, numbered, touchIn, unlessBlank, entrySays}
 use Rattle.formats.specs.Lists.{offerAct, offerKinds, entryText, listText, entryAt, Fits, fit-none, fit-more}
 use Rattle.formats.proofs.Records.{AllFit, fit-none as items-none, fit-more as items-more}
 use Rattle.formats.proofs.Each.{numbers-said}
@@ -66,6 +67,15 @@ module _ (e : Entry) (few : length (e .0) ≤ maxMarks) (all : length (offerKind
       let t = touch-said path path-few a actionColumns parts kinds-all numberSaid (entry-path-said path path-few a actionColumns parts kinds-all) (numbers-said kinds) in
       let l : each (numbered leafNumber leafTable) kinds ≡ some ks = ap (each (numbered leafNumber leafTable)) (twice ks) ∙ leaves-numbered ks in
       ap entrySays text-is ∙ rw (r, t, l)
+
+both-none : {X : Type 0} (b : Bool) → _≡_ {A = Option X} (cond b none none) none
+both-none true = refl
+both-none false = refl
+
+-- bytes whose path's columns are all spaces say no entry: what is shown has a 0 there
+pub blank-entry : (s : List ℕ) → readsAt s 0 pathColumns ≡ blank → entrySays s ≡ none
+unfolding entrySays touchIn unlessBlank bind
+blank-entry s h = rw h (both-none (isRecord entryColumns s))
 
 -- ---- a list of them
 

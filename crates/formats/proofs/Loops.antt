@@ -9,7 +9,7 @@ use native.Mathlib.Omega.{arith}
 use lib.ListN.{length, getD, take, set, replicate, getD-replicate, length-map, length-append, length-replicate}
 use lib.Seq.{take-all, take-suc, length-take-le, set-at, append-snoc}
 use mir.Syntax.{w32}
-use mir.Val.{toZ, ofZ}
+use mir.Val.{toZ}
 use Rattle.decimal.specs.Field.{Field, unreadable, written, readsAt, reading, putAt}
 use Rattle.decimal.specs.declared.field.Reading.the-variants.{Number, Blank, Unreadable}
 use Rattle.decimal.proofs.Answers.{number-read, blank-said, nothing-said}

@@ -9,7 +9,7 @@ use native.Mathlib.Omega.{arith}
 use borrow.Author.Tests.{eq-eqb}
 use lib.Dec.{lit<}
 use lib.IntN.{ℤ, pos}
-use lib.ListN.{length, getD, replicate, length-append, length-replicate}
+use lib.ListN.{length, getD, replicate, length-append}
 use lib.Seq.{getD-at}
 use Rattle.decimal.specs.Field.{Field, number, blank, unreadable, reads, readsAt, space, actionColumns, wordColumns, newline}
 use Rattle.decimal.specs.Path.{Path, maxMarks, pathColumns, readsPathAt}

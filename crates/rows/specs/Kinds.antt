@@ -1,6 +1,7 @@
 -- The kinds of rows (01, "The sheet") and the one table of them. A kind belongs to the group of what its rows read as. Its line
 -- in the table says its number, what its operands must be, its own sort, and what it puts around the rows below it. Number to
--- kind, kind to number, grounds 3 to 6, and where a blank is 0 are readings of the table: a new kind is a constructor and a line. Rests on nothing.
+-- kind, kind to number, grounds 3 to 6 and which operands are unused are readings of the table: a new kind is a constructor and a
+-- line. Rests on nothing.
 use mathlib.Core.Bool.{Bool, true, false, cond}
 use mathlib.Core.Option.{Option, none, some}
 use mathlib.Core.List.{List, [], _∷_}

@@ -15,7 +15,7 @@ use lib.Seq.{slice, ext-getD}
 use Rattle.decimal.specs.Field.{Field, number, blank, unreadable, space, newline, written, reads, readsAt}
 use Rattle.decimal.proofs.Blanks.{Blanked, kept, left-blank, ZeroBlank, same, zero-blank, spaces-blank, blanked-number}
 use Rattle.tophat.proofs.Basics.{no-some}
-use Rattle.formats.specs.Records.{total, placeOf, fieldsAt, numberSaid, each}
+use Rattle.formats.specs.Records.{total, placeOf, numberSaid, each}
 use Rattle.formats.specs.Lines.{lineColumns, lineBytes, meant, kindWord, unusedFields, lineFields, afterRow, lineSays, linesSay}
 use Rattle.formats.proofs.Records.{field-at}
 use Rattle.formats.proofs.LinesRead.{kindIn, fields-long, field-meant, blank-unread, lines-none}

@@ -1,5 +1,4 @@
 -- `handle::fill` meets its contract, a way by its law. Assumes nothing.
-use mathlib.Core.Path.{_≡_}
 use borrow.Author.Needs.{needs}
 use borrow.Author.Tests.{not-true, not-false}
 use Rattle.handle.proofs.Editing.{fill-not-given, fill-blank, fill-unfit, fill-fits}
