@@ -2,7 +2,7 @@
 -- and left blank in the other. In every rows and state memory:
 --
 -- - what is accepted with the blanks is accepted with the zeros, and all that is answered and left is the same;
--- - at actions 2 to 4, and where only the path is left blank, the answers are equal, refusals too;
+-- - at actions 2 to 4, where only the path is left blank, and where the events cannot be read, the answers are equal, refusals too;
 -- - where an entry of the list shown covers the event with the zeros, and only leaves whose kind is 0 there are left blank, the answers
 --   are equal: a blank is as 0 where the value has no leaf. Elsewhere it is refused (tophat's blank-refused).
 --
@@ -40,6 +40,10 @@ use Rattle.call_definitions.proofs.HandleAnswered.{handle-derived, hand
 same-answer : (rows ws : List ℤ) (e f : List ℕ) → eventOf f ≡ eventOf e → handleCall rows ws f ≡ handleCall rows ws e
 unfolding handleCall
 same-answer rows ws e f h = ap (λ o. handleIn rows ws o (opened rows ws true)) h
+
+same-touch : (e f : List ℕ) → eventSays f ≡ eventSays e → eventOf f ≡ eventOf e
+unfolding eventOf
+same-touch e f h = ap (λ o. bind o λ t. some (t .0, actionOf (t .1) (t .2))) h
 
 module _ {e f : List ℕ} (b : BlankedEvent e f) where
   -- what the event with the zeros says, by what the other says
@@ -80,11 +84,15 @@ module _ {e f : List ℕ} (b : BlankedEvent e f) where
 
   -- only the path is left blank
   pub blank-path : (rows ws : List ℤ) → ((k : ℕ) → k < maxLeaves → leafBytes f k ≡ leafBytes e k) → handleCall rows ws f ≡ handleCall rows ws e
-  unfolding eventOf
-  blank-path rows ws h = same-answer rows ws e f (ap says (path-blank b h))
+  blank-path rows ws h = same-answer rows ws e f (same-touch e f (path-blank b h))
+
+  -- neither can be read
+  pub blank-unread : (rows ws : List ℤ) → eventSays e ≡ none → handleCall rows ws f ≡ handleCall rows ws e
+  blank-unread rows ws h = same-answer rows ws e f (same-touch e f (by (says-blanked b) refl h ∙ sym h))
     where
-      says : Option (Path × Act × List Given) → Option (Path × Action)
-      says o = bind o λ t. some (t .0, actionOf (t .1) (t .2))
+      by : {o q : Option (Path × Act × List Given)} → BlankedTouch o q → eventSays f ≡ q → o ≡ none → eventSays f ≡ none
+      by both-unread g k = g
+      by (both-say d) g k = no-some (sym k)
 
   module _ (rows ws : List ℤ) (wr : AllWords rows) (ww : AllWords ws) where
     shut-number : {F : Type 0} {g : ℕ} → Shut rows ws F g → g ≡ 0 → ⊥
