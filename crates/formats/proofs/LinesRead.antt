@@ -61,6 +61,10 @@ unused-long n = by (asksOf n)
     by (asks a b c o x) = refl
     by noAsks = refl
 
+-- row number and kind are never unused
+pub number-and-kind-used : (n : ℕ) → (getD (unusedFields n) 0 false ≡ false) × (getD (unusedFields n) 1 false ≡ false)
+number-and-kind-used n = (refl, refl)
+
 -- words stay words
 pub meant-words : (us : List Bool) {fs : List Field} → OfWords fs → OfWords (meantAll us fs)
 unfolding meantAll meant

@@ -18,7 +18,7 @@ use Rattle.tophat.proofs.Basics.{no-some}
 use Rattle.formats.specs.Records.{total, placeOf, numberSaid, each}
 use Rattle.formats.specs.Lines.{lineColumns, lineBytes, meant, kindWord, unusedFields, lineFields, afterRow, lineSays, linesSay}
 use Rattle.formats.proofs.Records.{field-at}
-use Rattle.formats.proofs.LinesRead.{kindIn, fields-long, field-meant, blank-unread, lines-none}
+use Rattle.formats.proofs.LinesRead.{number-and-kind-used, kindIn, fields-long, field-meant, blank-unread, lines-none}
 use Rattle.rows.specs.Kinds.{noAsks, asksOf}
 use Rattle.rows.proofs.Unused.{unknown-uses-all}
 use Rattle.rows.specs.GroundNumbers.{notSized, notRead, wrongMemory}
@@ -133,10 +133,10 @@ blank-used s rows z e i f l m h n =
 
 -- what is never unused: a row number, a kind, and any operand of a number that is no kind
 pub row-number-used : (s : List ℕ) (i : ℕ) → unusedField s i 0 ≡ false
-row-number-used s i = refl
+row-number-used s i = number-and-kind-used (kindIn s i) .0
 
 pub kind-used : (s : List ℕ) (i : ℕ) → unusedField s i 1 ≡ false
-kind-used s i = refl
+kind-used s i = number-and-kind-used (kindIn s i) .1
 
 pub no-kind-used : (s : List ℕ) (i f : ℕ) → asksOf (kindIn s i) ≡ noAsks → unusedField s i f ≡ false
 no-kind-used s i zero e = refl
