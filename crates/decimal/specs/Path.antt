@@ -69,7 +69,7 @@ unfoldable pub pathIn : List ℕ → Option Path
 pathIn [] = some []  -- CR 2: a blank path is the empty one
 pathIn (b ∷ bs) = cond (eqb b nought) (emptyAlone bs) (marks (b ∷ bs))
 
--- what the bytes of a path's field say; they are that path's writing (proofs/Paths.antt)
+-- what the bytes of a path's field say; they are that path's writing, or all spaces for the empty one (proofs/Paths.antt)
 abbrev pub readsPath : List ℕ → Option Path
 readsPath bs = pathIn (trimmed bs)
 

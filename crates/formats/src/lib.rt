@@ -1,5 +1,5 @@
 // The formats of 01's texts: records of fields in columns, read and written. What an event, an entry and a list say stands in specs/;
-// here is the code for a number for each leaf, in fields of one width.
+// here is the code for leaves in fields of one width: an event's, read, and a number for each, written.
 use decimal::field;
 use decimal::field::ACTION_COLUMNS;
 use decimal::field::ROW_COLUMNS;
@@ -36,10 +36,10 @@ pub const HEAD_ENTRIES_AT: usize = HEAD_LEAVES_AT + MAX_LEAVES * WORD_COLUMNS;
 pub const HEAD_BYTES: usize = HEAD_ENTRIES_AT + ROW_COLUMNS + 1;
 
 // A leaf of an event, where its field can be read: a number's bits, or blank and the bits 0.
-pub struct Leaf {
-    pub readable: bool,
-    pub bits: u32,
-    pub blank: bool,
+struct Leaf {
+    readable: bool,
+    bits: u32,
+    blank: bool,
 }
 
 // All leaves of an event, where each can be read; else zeros.

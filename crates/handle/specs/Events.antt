@@ -31,7 +31,7 @@ rightNumber = actNumber (pressing right)
 abbrev pub ZeroBlanks : List ℕ → List Bool → Type 0
 ZeroBlanks ns bs = (k : ℕ) → getD bs k false ≡ true → getD ns k 0 ≡ 0
 
--- the event's action is one of these, and its blank leaves are as they should be
+-- the event's action is one of these, and the bits of its blank leaves are 0
 abbrev pub KnownEvent : Event → Type 0
 KnownEvent e = (giveNumber ≤ e .action) × (e .action ≤ rightNumber) × ZeroBlanks (e .leaves) (e .blank)
 
