@@ -3,7 +3,8 @@
  * cut into memories as it is. Every lent memory ends at a page that may not be touched, with guard bytes before it.
  *
  * Each call is asked: does it answer a number of its list; does a refusal change nothing and answer 0 beside its number; is what
- * start and handle leave a rest; are entries whole, and none where the flow fails; are strides within their bound.
+ * start and handle leave a rest; are entries whole, and none where the flow fails; does a last row that failed as a whole show a
+ * flow that fails, without a value; are strides within their bound.
  *
  * The archive tells libFuzzer nothing of its branches, so the answers do: libFuzzer keeps an input that sets a new counter. */
 #define _DEFAULT_SOURCE /* MAP_ANONYMOUS */
@@ -105,6 +106,13 @@ static uint32_t load(void) {
     return number;
 }
 
+/* Whether the last row is tagged as failed as a whole. */
+static int failed_whole(void) {
+    int32_t tag = 0;
+    if (state.count >= 16) memcpy(&tag, state.own + 4 * (state.count - 16), 4);
+    return tag == 4;
+}
+
 static uint32_t look(void) {
     uint32_t valued = 7, fails = 7;
     size_t written = 7;
@@ -118,6 +126,7 @@ static uint32_t look(void) {
     ask(kept(&list, written), "look changed the list after its part");
     ask(number == 0 || (!valued && !fails && !written && kept(&value, 0)), "a refused look left something");
     ask(!fails || written == 0, "entries where the flow fails");
+    ask(number != 0 || !failed_whole() || (fails && !valued), "a last row that failed as a whole is no fail");
     ask(number != 0 || valued || !(lent_value[0] | lent_value[1] | lent_value[2] | lent_value[3]), "leaves without a value");
     kept(&value, 0); /* for its guard bytes */
     shown(2, number, (uint32_t)written * 4 + valued * 2 + fails);

@@ -56,10 +56,12 @@ enum nannyjiffy_number {
     NANNYJIFFY_EVENT = 8,      /* event length, byte 10, field, path digit or action bad, or a leaf not 0 at actions 2 to 4; a
                                 * blank action, but no blank leaf and no blank path */
     NANNYJIFFY_HANDLING = 9,   /* no handling rule derives a step: the flow does not take this event now; a blank leaf meets
-                                * leaf kind 0 alone */
+                                * leaf kind 0 alone; a Continue, Left or Right whose sums leave the range is not taken, and a
+                                * flow whose start left it takes no event */
     NANNYJIFFY_ROWS = 20,      /* rows that no accepted sheet loads to */
     NANNYJIFFY_MEMORY = 21,    /* rows memory at load, state or value memory not of its exact length */
-    NANNYJIFFY_NO_STATE = 22,  /* not the writing of a state */
+    NANNYJIFFY_NO_STATE = 22,  /* not the writing of a state; a last row that failed as a whole is one where start fails so and
+                                * the cells have their first contents, and nowhere else */
     NANNYJIFFY_NO_REST = 23,   /* normalising would change the state */
     NANNYJIFFY_LIST = 24       /* list memory under 27 bytes an entry */
 };
@@ -70,6 +72,9 @@ enum nannyjiffy_number {
 uint32_t nannyjiffy_load(const uint8_t *sheet, size_t sheet_bytes, int32_t *rows, size_t rows_words);
 
 /* Starts a flow: the cells' first contents, and the last row evaluated and normalised. Asks 20, 21.
+ * A failed start is an accepted one: where a sum, difference or product of the last row leaves the signed 32 bits, the row fails
+ * as a whole, with the cells' first contents. The number is 0 and strides is 1; look then shows a flow that fails, without a
+ * value and without entries, and handle answers 9 to every event that can be read.
  *   rows     read: what load wrote; any count and content that no accepted sheet loads to is 20
  *   state    accepted: every word written, whatever it held; 16 words a row exactly, else 21
  *   strides  how many strides normalising took, at most 1 more than the rows of kind 43 and 47; refused: 0 */
@@ -83,7 +88,8 @@ uint32_t nannyjiffy_start(const int32_t *rows, size_t rows_words, int32_t *state
  *           Too short for the entries: 24. NANNYJIFFY_LIST_BYTES(rows) always suffice; a quiet flow, one without entries,
  *           needs none
  *   valued  1 with a value, else 0; refused: 0
- *   fails   1 where the flow fails, else 0; a flow that fails is quiet, a quiet one need not fail; refused: 0
+ *   fails   1 where the flow fails, else 0; a flow that fails is quiet, a quiet one need not fail; it is 1 after a failed
+ *           start; refused: 0
  *   bytes   how many bytes of the list the entries are, a multiple of 27; refused: 0 */
 uint32_t nannyjiffy_look(const int32_t *rows, size_t rows_words, const int32_t *state, size_t state_words, int32_t *value,
                          size_t value_words, uint8_t *list, size_t list_bytes, uint32_t *valued, uint32_t *fails,

@@ -1,19 +1,26 @@
 /* Each export from C with memory that is wrong in one way: the number that it answers, its single answers, and that lent memory, and
- * what stands beside it, keeps its content; blanks, where they are read as 0 and where not; and a look at a quiet flow, which needs no
- * list memory. Prints nothing where all is as nannyjiffy.h says. */
+ * what stands beside it, keeps its content; blanks, where they are read as 0 and where not; a look at a quiet flow, which needs no
+ * list memory; and a start that leaves the range, which is accepted and fails as a whole. Prints nothing where all is as
+ * nannyjiffy.h says. */
 #include "nannyjiffy.h"
 
 #include <stdio.h>
 #include <stdlib.h>
 #include <string.h>
 
-enum { ROWS = 2 };
+enum { ROWS = 2, BEYOND_ROWS = 4 };
 
 static const char sheet[] = "   0   3           0           0           0\n"
                             "   1  41           0           0           0\n";
 /* A shown 5: a value, no entry, and it does not fail. */
 static const char quiet[] = "   0  22           5           0           0\n"
                             "   1  49           0           0           0\n";
+/* 2147483647 + 1 in a filled editor, and the same with + 0. */
+static const char beyond[] = "   0  22  2147483647           0           0\n"
+                             "   1  22           1           0           0\n"
+                             "   2  24           1           0           1\n"
+                             "   3  40           2           0           0\n";
+static const int32_t within[BEYOND_ROWS * NANNYJIFFY_ROW_WORDS] = {22, INT32_MAX, 0, 0, 22, 0, 0, 0, 24, 1, 0, 1, 40, 2, 0, 0};
 static const char entry[] = "               0 1 3 0 0 0\n";
 static const char give[] = "               0 1          12           0           0           0\n";
 /* The same with blanks: where nothing is meant, and where something is. */
@@ -81,9 +88,42 @@ static void check_look(uint32_t number, uint32_t expected)
     CHECK(memcmp(&lent, &kept, sizeof lent) == 0);
 }
 
+/* A failed start: the state is the tag 4 in the last row, and so it stays. */
+static void check_failed_start(void)
+{
+    int32_t rows[BEYOND_ROWS * NANNYJIFFY_ROW_WORDS], state[BEYOND_ROWS * NANNYJIFFY_STATE_WORDS];
+    int32_t failed[BEYOND_ROWS * NANNYJIFFY_STATE_WORDS] = {0}, value[NANNYJIFFY_VALUE_WORDS] = {7, 7, 7, 7};
+    const size_t rows_words = BEYOND_ROWS * NANNYJIFFY_ROW_WORDS, state_words = BEYOND_ROWS * NANNYJIFFY_STATE_WORDS;
+    const int32_t no_value[NANNYJIFFY_VALUE_WORDS] = {0};
+    uint32_t strides = 99, valued = 99, fails = 99;
+    size_t bytes = 99;
+    uint8_t list[1] = {7};
+
+    memset(state, 0x77, sizeof state);
+    failed[(BEYOND_ROWS - 1) * NANNYJIFFY_STATE_WORDS] = 4;
+    CHECK(nannyjiffy_load((const uint8_t *)beyond, sizeof beyond - 1, rows, rows_words) == NANNYJIFFY_ACCEPTED);
+    CHECK(nannyjiffy_start(rows, rows_words, state, state_words, &strides) == NANNYJIFFY_ACCEPTED && strides == 1);
+    CHECK(memcmp(state, failed, sizeof state) == 0);
+    CHECK(nannyjiffy_look(rows, rows_words, state, state_words, value, NANNYJIFFY_VALUE_WORDS, list, 0, &valued, &fails,
+                          &bytes) == NANNYJIFFY_ACCEPTED);
+    CHECK(valued == 0 && fails == 1 && bytes == 0 && list[0] == 7 && memcmp(value, no_value, sizeof value) == 0);
+    CHECK(nannyjiffy_handle(rows, rows_words, state, state_words, (const uint8_t *)give, NANNYJIFFY_EVENT_BYTES,
+                            &strides) == NANNYJIFFY_HANDLING && strides == 0);
+    CHECK(nannyjiffy_handle(rows, rows_words, state, state_words, (const uint8_t *)no_action, NANNYJIFFY_EVENT_BYTES,
+                            &strides) == NANNYJIFFY_EVENT && strides == 0);
+    CHECK(memcmp(state, failed, sizeof state) == 0);
+    /* The same words are no state of a flow that starts well, nor with a word changed. */
+    CHECK(nannyjiffy_handle(within, rows_words, state, state_words, (const uint8_t *)give, NANNYJIFFY_EVENT_BYTES,
+                            &strides) == NANNYJIFFY_NO_STATE && strides == 0);
+    state[(BEYOND_ROWS - 1) * NANNYJIFFY_STATE_WORDS + 1] = 3;
+    CHECK(nannyjiffy_handle(rows, rows_words, state, state_words, (const uint8_t *)give, NANNYJIFFY_EVENT_BYTES,
+                            &strides) == NANNYJIFFY_NO_STATE && strides == 0);
+}
+
 int main(void)
 {
     uint32_t strides;
+    check_failed_start();
     memset(&lent, 0x77, sizeof lent);
     kept = lent;
 

@@ -150,9 +150,12 @@ fn run(random: &mut Random, lent: &mut Lent) {
     }
 }
 
-/// A state of the flow, a rest or not.
+/// A state of the flow, a rest or not; now and then the words of a last row that failed as a whole, a state or not.
 fn drawn(random: &mut Random, lent: &mut Lent) {
     let Ok(flow) = calls::flow_of(&lent.rows) else { return };
+    if random.chance(25) {
+        return lent::fail_whole(random, &flow, &mut lent.state);
+    }
     let state = if random.chance(50) { states::rest(random, &flow) } else { states::state(random, &flow) };
     lent.state = words::write(&flow, &state);
 }
@@ -168,7 +171,7 @@ pub fn shown(lent: &Lent, answers: &Answers) -> Vec<u64> {
     ];
     let rows = lent.rows.chunks(ROW).zip(lent.state.chunks(STATE_ROW)).filter(|(_, state)| state[0] != 0);
     // Words that no row has are one.
-    let [kind, tag] = [|word: i32| word.clamp(0, 50) as u64, |word: i32| word.clamp(0, 4) as u64];
+    let [kind, tag] = [|word: i32| word.clamp(0, 50) as u64, |word: i32| word.clamp(0, 5) as u64];
     shown.extend(rows.map(|(row, state)| hash([kind(row[0]), tag(state[0]), look, handle + 3000])));
     shown
 }

@@ -1,5 +1,7 @@
-//! What cases cover: counts over kinds, operators, grounds, strides, lists, events, rows, blanks.
+//! What cases cover: counts over kinds, operators, grounds, strides, lists, events, rows, blanks, numbers beyond the
+//! range.
 
+use crate::binders::Binders;
 use crate::event::{leaf_columns, Event, EVENT, PATH};
 use crate::field;
 use crate::flow::Flow;
@@ -9,8 +11,10 @@ use crate::rules::Rules;
 use crate::session::{self, COUNT};
 use crate::sheet::{COLUMNS, LINE};
 use crate::slips::Slip;
-use crate::state::State;
-use std::collections::BTreeMap;
+use crate::state::{LastRow, State};
+use crate::syntax::Going;
+use crate::task::{Env, Store, Task};
+use std::collections::{BTreeMap, BTreeSet};
 use std::fmt;
 
 /// How often each number came up.
@@ -81,7 +85,14 @@ pub struct Coverage {
     /// Answers to events with a blank leaf, and to events with a blank path.
     pub blank_leaves: Tally,
     pub blank_paths: Tally,
+    /// Accepted sheets that leave the range (CR 3), once for each place where they do at some screen: at start
+    /// ([`AT_START`]), in a right side ([`RIGHT_SIDE`], and by itself 43 or 44), in a branch (48).
+    pub overflows: Tally,
 }
+
+/// The places that are no kind, of [`Coverage::overflows`].
+pub const AT_START: usize = 0;
+pub const RIGHT_SIDE: usize = 1;
 
 impl Coverage {
     pub fn of(cases: impl Iterator<Item = Vec<u8>>) -> Self {
@@ -105,6 +116,8 @@ impl Coverage {
         let (mut state, strides) = State::start(&flow);
         self.strides.add(strides);
         self.add_screen(&state);
+        let mut places = BTreeSet::new();
+        add_overflows(&state, &mut places);
         for event in input.chunks(EVENT) {
             let handled = state.handle(event);
             self.add_event(event, answer(handled.as_ref().err()));
@@ -114,7 +127,9 @@ impl Coverage {
                 self.paths.add(event.path.len());
             }
             self.add_screen(&state);
+            add_overflows(&state, &mut places);
         }
+        places.into_iter().for_each(|place| self.overflows.add(place));
     }
 
     fn add_event(&mut self, event: &[u8], answer: usize) {
@@ -153,6 +168,39 @@ impl Coverage {
     }
 }
 
+/// Adds the places where this state leaves the range.
+fn add_overflows(state: &State, places: &mut BTreeSet<usize>) {
+    match &state.last_row {
+        LastRow::FailedWhole => drop(places.insert(AT_START)),
+        LastRow::Task(task) => add_tried(&Binders::NONE, &state.store, task, places),
+    }
+}
+
+/// Adds the kinds whose right side or branch leaves the range when it is tried.
+fn add_tried(env: &Env, store: &Store, task: &Task, places: &mut BTreeSet<usize>) {
+    let rules = Rules::default();
+    match task {
+        Task::Step(going, left, right) => {
+            add_tried(env, store, left, places);
+            let value = rules.value(store, left);
+            if value.is_some_and(|value| rules.right_side(env, store, &value, right).overflows) {
+                places.extend([RIGHT_SIDE, if *going == Going::ByItself { 43 } else { 44 }]);
+            }
+        }
+        Task::Both(left, right) | Task::Choice(left, right) => {
+            add_tried(env, store, left, places);
+            add_tried(env, store, right, places);
+        }
+        Task::Pick(left, right) => {
+            if [left, right].into_iter().any(|code| rules.whole(env, store, code).overflows) {
+                places.insert(48);
+            }
+        }
+        Task::Became(origin, task) => add_tried(&origin.within(env), store, task, places),
+        Task::Filled(_) | Task::Empty(_) | Task::Shared(_) | Task::Fail | Task::View(_) => {}
+    }
+}
+
 /// The rows of a sheet's text that have a blank operand, once for each.
 fn blank_operands(text: &[u8]) -> impl Iterator<Item = usize> + '_ {
     text.chunks_exact(LINE).enumerate().flat_map(|(row, line)| {
@@ -187,6 +235,7 @@ impl fmt::Display for Coverage {
             ("kinds with a blank operand", &self.blank_operands),
             ("events with a blank leaf by answer", &self.blank_leaves),
             ("events with a blank path by answer", &self.blank_paths),
+            ("sheets that leave the range, at start 0, in a right side 1, in kinds", &self.overflows),
         ];
         for (name, tally) in tallies {
             writeln!(out, "{name} ({}):{tally}", tally.total())?;

@@ -1,9 +1,11 @@
 //! Sessions at the edges: 01's own (lines, binders, a field too large, an empty text), and those of
-//! row counts, events cut short, marks, depth, shown values and [blanks](crate::blank_edges).
+//! row counts, events cut short, marks, depth, shown values, [blanks](crate::blank_edges) and [numbers beyond the
+//! range](crate::overflow_edges).
 
 use crate::blank_edges;
 use crate::event;
 use crate::generate::counted;
+use crate::overflow_edges;
 use crate::sheet::{Row, LINES};
 
 /// Rows being added. Row 0 is the type number.
@@ -46,6 +48,7 @@ pub fn inputs() -> Vec<(String, Vec<u8>)> {
     inputs.extend(short_events());
     inputs.extend(shown());
     inputs.extend(blank_edges::inputs());
+    inputs.extend(overflow_edges::inputs());
     for levels in [1, 2, 16, 64, 126] {
         inputs.push((format!("{levels} choices deep"), with(&picks(levels), &vec![press(3); levels])));
     }

@@ -1,5 +1,6 @@
 //! Handling an event (01, "The rules"; the paper's rules H-).
 
+use crate::evaluate::Whole;
 use crate::event::{Action, Event};
 use crate::observe::Attempt;
 use crate::rules::Rules;
@@ -106,8 +107,7 @@ impl Rules {
     fn pick<'c>(&self, env: &Env, store: &Store, code: &'c Code) -> Option<Attempt<'c>> {
         let mut picked = self.branch(env, store, code);
         if self.slip == Slip::LeftEvaluates {
-            picked.store = store.clone();
-            picked.task = self.evaluate(env, &mut picked.store, code);
+            Whole { task: picked.task, store: picked.store, .. } = self.whole(env, store, code);
         }
         (!picked.fails || self.slip == Slip::LeftTakenThoughFailing).then_some(picked)
     }

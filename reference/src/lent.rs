@@ -4,7 +4,6 @@
 //! states that are no rests. Then words are changed, lengths are made wrong, and contents are drawn;
 //! in most inputs nothing or one thing, in some several, so that the order of the grounds shows.
 
-use crate::binders::Binders;
 use crate::calls::{self, ENTRY, ROW};
 use crate::event::{Event, EVENT};
 use crate::flow::Flow;
@@ -16,7 +15,6 @@ use crate::session::COUNT;
 use crate::sheet::{Row, LINE, LINES};
 use crate::slips::Slip;
 use crate::state::State;
-use crate::task::Store;
 use crate::words::{self, STATE_ROW};
 
 /// What is lent: `text` and `room`, the rows memory, to load; `rows` and `state` to start; these,
@@ -130,25 +128,17 @@ fn reached<'f>(random: &mut Random, flow: &'f Flow) -> State<'f> {
 /// What stands before normalising has come to its end: the last row evaluated, or an event handled,
 /// and a stride or two. Some are rests.
 fn unrested<'f>(random: &mut Random, flow: &'f Flow) -> State<'f> {
-    let rules = flow.rules;
-    let State { mut store, mut task, .. } = if random.chance(50) {
-        let mut store = Store::new(&flow.contents);
-        let task = rules.evaluate(&Binders::NONE, &mut store, &flow.code);
-        State::new(flow, store, task)
-    } else {
-        reached(random, flow)
-    };
+    let mut state = if random.chance(50) { State::evaluated(flow) } else { reached(random, flow) };
     for _ in 0..random.below(8) {
-        let entries = rules.inputs(&Binders::NONE, &store, &task);
-        let event = touches::event(random, &entries);
+        let event = touches::event(random, &state.look().entries);
         if let Some(event) = Event::read(&event, Slip::None) {
-            rules.handle(&Binders::NONE, &mut store, &mut task, event);
+            state.take(event);
         }
     }
     for _ in 0..random.below(3) {
-        rules.stride(&Binders::NONE, &mut store, &mut task);
+        state.stride();
     }
-    State::new(flow, store, task)
+    state
 }
 
 /// Another length: a word or a row too few or too many, or any.
@@ -213,7 +203,10 @@ fn break_state(random: &mut Random, flow: &Flow, state: &mut Vec<i32>) {
         return break_length(random, state, STATE_ROW);
     }
     let row = random.below(rows) * STATE_ROW;
-    match random.below(20) {
+    if state[(rows - 1) * STATE_ROW] == words::WHOLE && random.chance(50) {
+        return fail_whole(random, flow, state);
+    }
+    match random.below(22) {
         0..=3 => break_length(random, state, STATE_ROW),
         4..=10 => break_word(random, state),
         11 => state[row..row + STATE_ROW].fill(0),
@@ -237,11 +230,23 @@ fn break_state(random: &mut Random, flow: &Flow, state: &mut Vec<i32>) {
         }
         17 => state.fill(0),
         18 => *state = drawn(random, state.len()),
+        19..=20 => fail_whole(random, flow, state),
         _ => {
             let at = random.below(state.len());
             state[at] = random.word();
         }
     }
+}
+
+/// The words of a last row that failed as a whole (CR 3), whether start fails so or not, with the cells of start or of
+/// any state; now and then the tag stands in another row.
+pub fn fail_whole(random: &mut Random, flow: &Flow, state: &mut Vec<i32>) {
+    let of_cells = if random.chance(40) { State::start(flow).0 } else { states::state(random, flow) };
+    *state = words::write(flow, &of_cells);
+    let rows = state.chunks_exact_mut(STATE_ROW).zip(&flow.rows);
+    rows.filter(|(_, row)| row.kind != 10).for_each(|(words, _)| words.fill(0));
+    let at = if random.chance(80) { flow.rows.len() - 1 } else { random.below(flow.rows.len()) };
+    state[at * STATE_ROW] = words::WHOLE;
 }
 
 /// Changes a word, most often of a live row: tag, shape, leaf or what is always 0.

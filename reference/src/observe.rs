@@ -1,6 +1,7 @@
 //! What is seen of a task: its value (the paper's Fig. 9) and whether it fails (Fig. 10), and
 //! the tentative work that failing, striding, handling and the list share.
 
+use crate::evaluate::Whole;
 use crate::rules::{Asking, Rules};
 use crate::slips::Slip;
 use crate::syntax::{Code, Type};
@@ -15,6 +16,8 @@ pub struct Attempt<'c> {
     /// The strides that it took, which 01 does not count.
     pub strides: usize,
     pub fails: bool,
+    /// Whether it fails since evaluating it left the range (CR 3).
+    pub overflows: bool,
 }
 
 impl Rules {
@@ -70,24 +73,22 @@ impl Rules {
     /// A branch of a 48, normalised from this store. Whether it fails is asked in the store that
     /// normalising gave; after more than one stride it does not (see [`Asking`]).
     pub fn branch<'c>(&self, env: &Env, store: &Store, code: &'c Code) -> Attempt<'c> {
-        let mut after = store.clone();
-        let mut task = self.evaluate(env, &mut after, code);
+        let Whole { mut task, store: mut after, overflows } = self.whole(env, store, code);
         let strides = self.normalise(env, &mut after, &mut task);
         let asked_in = if self.slip == Slip::BranchFailsInOldStore { store } else { &after };
         let known = self.asking == Asking::ByLemma && strides > 1;
         let fails = !known && self.failing(env, asked_in, &task);
-        Attempt { task, store: after, strides, fails }
+        Attempt { task, store: after, strides, fails, overflows }
     }
 
     /// The right side of a step, evaluated under `value`. Whether it fails is asked in the store
     /// after evaluating it.
     pub fn right_side<'c>(&self, env: &Env, store: &Store, value: &Value, code: &'c Code) -> Attempt<'c> {
         let scope = env.with(value);
-        let mut after = store.clone();
-        let task = self.evaluate(&scope, &mut after, code);
+        let Whole { task, store: after, overflows } = self.whole(&scope, store, code);
         let asked_in = if self.slip == Slip::RightSideFailsInOldStore { store } else { &after };
         let fails = self.failing(&scope, asked_in, &task);
-        Attempt { task, store: after, strides: 0, fails }
+        Attempt { task, store: after, strides: 0, fails, overflows }
     }
 }
 

@@ -35,22 +35,22 @@ impl Operator {
         self as i32
     }
 
-    /// The result on two values.
-    pub fn apply(self, left: &Value, right: &Value, slip: Slip) -> Value {
-        match self {
+    /// The result on two values; none where a sum, difference or product is beyond the range (CR 3).
+    pub fn apply(self, left: &Value, right: &Value, slip: Slip) -> Option<Value> {
+        Some(match self {
             Operator::Sum | Operator::Difference | Operator::Product => {
-                Value::Number(self.reckon(left.number(), right.number(), slip))
+                Value::Number(self.reckon(left.number(), right.number(), slip)?)
             }
             Operator::Less | Operator::LessOrEqual | Operator::Equal => {
                 Value::Truth(self.compare(left.number(), right.number(), slip))
             }
             Operator::And => Value::Truth(left.truth() && right.truth()),
             Operator::Or => Value::Truth(left.truth() || right.truth()),
-        }
+        })
     }
 
-    /// Sum, difference and product wrap modulo 2^32 into the signed range.
-    fn reckon(self, left: i32, right: i32, slip: Slip) -> i32 {
+    /// The exact sum, difference or product, where it is within the signed 32 bits.
+    fn reckon(self, left: i32, right: i32, slip: Slip) -> Option<i32> {
         let (left, right) = (i64::from(left), i64::from(right));
         let exact = match self {
             Operator::Sum => left + right,
@@ -58,10 +58,12 @@ impl Operator {
             Operator::Difference => left - right,
             _ => left * right,
         };
-        if slip == Slip::WrapMissing {
-            return exact.clamp(i32::MIN.into(), i32::MAX.into()) as i32;
+        match slip {
+            Slip::Wraps => Some(exact as i32),
+            Slip::Saturates => Some(exact.clamp(i32::MIN.into(), i32::MAX.into()) as i32),
+            Slip::EndsAreBeyond => i32::try_from(exact).ok().filter(|word| !matches!(*word, i32::MIN | i32::MAX)),
+            _ => i32::try_from(exact).ok(),
         }
-        exact as i32
     }
 
     fn compare(self, left: i32, right: i32, slip: Slip) -> bool {

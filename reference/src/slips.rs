@@ -65,7 +65,11 @@ slips! {
     ShortCircuit: "and, or evaluate the right side only where it decides",
     BothSidesOfCondition: "both sides of a plain 25 are evaluated",
     PickEvaluates: "a 48 evaluates its left branch and keeps its writes",
-    WrapMissing: "sum, difference and product stop at the range's end",
+    Wraps: "a sum, difference or product beyond the range wraps modulo 2^32",
+    Saturates: "a sum, difference or product beyond the range stops at its end",
+    EndsAreBeyond: "a sum, difference or product at an end of the range counts as beyond it",
+    OverflowFailsOperandOnly: "a number beyond the range fails the part that it stands in, and not the whole expression",
+    OverflowUnusedIgnored: "a number beyond the range does not count in a bound value that nothing asks for",
     DifferenceReversed: "the difference is taken the other way round",
     ComparisonUnsigned: "less compares unsigned",
     LessOrEqualStrict: "less or equal is less",
@@ -88,6 +92,8 @@ slips! {
 
     // Striding
     KeepsFailedWrites: "the writes of a step that failed are kept",
+    OverflowKeepsWrites: "an expression that leaves the range keeps what it wrote before",
+    OverflowFailsStep: "a 43 whose right side leaves the range fails in place of waiting",
     OneStride: "one stride in place of striding to rest",
     RestOfStoreIsEnough: "striding ends where the store does not change, though the task does",
     LastStrideNotCounted: "the last stride is not counted",

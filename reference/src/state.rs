@@ -1,6 +1,7 @@
 //! Start, look and handle on a flow.
 
 use crate::binders::Binders;
+use crate::evaluate::Whole;
 use crate::event::{Action, Entry, Event};
 use crate::flow::Flow;
 use crate::grounds::Ground;
@@ -14,7 +15,26 @@ use crate::value::Value;
 pub struct State<'f> {
     rules: Rules,
     pub store: Store,
-    pub task: Task<'f>,
+    pub last_row: LastRow<'f>,
+}
+
+/// What a state holds of the last row.
+#[derive(Clone, Debug, PartialEq, Eq)]
+pub enum LastRow<'f> {
+    /// A task of it.
+    Task(Task<'f>),
+    /// It failed as a whole at start, since evaluating it left the range; "handled as 45" (CR 3).
+    FailedWhole,
+}
+
+impl<'f> LastRow<'f> {
+    /// The task that it is, or is handled as.
+    pub fn task(&self) -> &Task<'f> {
+        match self {
+            LastRow::Task(task) => task,
+            LastRow::FailedWhole => &Task::Fail,
+        }
+    }
 }
 
 /// What a look shows.
@@ -28,26 +48,33 @@ pub struct Look {
 impl<'f> State<'f> {
     /// The state of these cells and this task, which are the flow's.
     pub fn new(flow: &Flow, store: Store, task: Task<'f>) -> Self {
-        State { rules: flow.rules, store, task }
+        State { rules: flow.rules, store, last_row: LastRow::Task(task) }
+    }
+
+    /// The last row evaluated from the cells' first contents.
+    pub fn evaluated(flow: &'f Flow) -> Self {
+        let Whole { task, store, overflows } =
+            flow.rules.whole(&Binders::NONE, &Store::new(&flow.contents), &flow.code);
+        let last_row = if overflows { LastRow::FailedWhole } else { LastRow::Task(task) };
+        State { rules: flow.rules, store, last_row }
     }
 
     /// The last row normalised from the cells' first contents, and its strides.
     pub fn start(flow: &'f Flow) -> (Self, usize) {
-        let rules = flow.rules;
-        let mut store = Store::new(&flow.contents);
-        let mut task = rules.evaluate(&Binders::NONE, &mut store, &flow.code);
-        let strides = rules.normalise(&Binders::NONE, &mut store, &mut task);
-        (State { rules, store, task }, strides)
+        let mut state = State::evaluated(flow);
+        let strides = state.normalise();
+        (state, strides)
     }
 
     pub fn look(&self) -> Look {
-        let entries = self.rules.inputs(&Binders::NONE, &self.store, &self.task);
+        let task = self.last_row.task();
+        let entries = self.rules.inputs(&Binders::NONE, &self.store, task);
         // CR 1: a screen without an entry need not fail.
         let failing = match self.rules.slip {
             Slip::FailingByTheList => entries.is_empty(),
-            _ => self.rules.failing(&Binders::NONE, &self.store, &self.task),
+            _ => self.rules.failing(&Binders::NONE, &self.store, task),
         };
-        Look { value: self.rules.value(&self.store, &self.task), failing, entries }
+        Look { value: self.rules.value(&self.store, task), failing, entries }
     }
 
     /// Handles an event and normalises the result. Gives the strides of the latter; on a refusal
@@ -55,8 +82,7 @@ impl<'f> State<'f> {
     pub fn handle(&mut self, event: &[u8]) -> Result<usize, Ground> {
         let rules = self.rules;
         let event = Event::read(event, rules.slip).ok_or(Ground::Event)?;
-        let inside = rules.handle(&Binders::NONE, &mut self.store, &mut self.task, event);
-        let inside = inside.ok_or_else(|| self.refusal(event))?;
+        let inside = self.take(event).ok_or_else(|| self.refusal(event))?;
         if rules.slip == Slip::ResultNotNormalised {
             return Ok(1);
         }
@@ -64,9 +90,30 @@ impl<'f> State<'f> {
         Ok(if rules.slip == Slip::LeftStridesCounted { strides + inside } else { strides })
     }
 
+    /// Handles an event, before normalising; see [`Rules::handle`].
+    pub fn take(&mut self, event: Event) -> Option<usize> {
+        let rules = self.rules;
+        self.run(|store, task| rules.handle(&Binders::NONE, store, task, event))
+    }
+
     /// Normalises and gives the strides.
     pub fn normalise(&mut self) -> usize {
-        self.rules.normalise(&Binders::NONE, &mut self.store, &mut self.task)
+        let rules = self.rules;
+        self.run(|store, task| rules.normalise(&Binders::NONE, store, task))
+    }
+
+    /// One stride; see [`Rules::stride`].
+    pub fn stride(&mut self) -> bool {
+        let rules = self.rules;
+        self.run(|store, task| rules.stride(&Binders::NONE, store, task))
+    }
+
+    /// Follows a rule on the cells and the task. No rule changes a fail, so what failed whole stays so.
+    fn run<T>(&mut self, rule: impl FnOnce(&mut Store, &mut Task<'f>) -> T) -> T {
+        match &mut self.last_row {
+            LastRow::Task(task) => rule(&mut self.store, task),
+            LastRow::FailedWhole => rule(&mut self.store, &mut Task::Fail),
+        }
     }
 
     /// Whether normalising changes nothing.

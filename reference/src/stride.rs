@@ -74,12 +74,16 @@ impl Rules {
     }
 
     /// What replaces a 43 whose A, strided, is `left`: B evaluated under its value, unless there
-    /// is none or B fails; then B's store is dropped.
+    /// is none or B fails; then B's store is dropped. A B that leaves the range fails, so the step waits (CR 3).
     fn step<'c>(&self, env: &Env, store: &mut Store, left: &Task, right: &'c Code) -> Option<Task<'c>> {
         let value = self.value(store, left)?;
         let mut tried = self.right_side(env, store, &value, right);
+        if tried.overflows && self.slip == Slip::OverflowFailsStep {
+            return Some(Task::Fail);
+        }
         if tried.fails && self.slip != Slip::StepsIntoFailing {
-            if self.slip == Slip::KeepsFailedWrites {
+            let keeps_overflow = tried.overflows && self.slip == Slip::OverflowKeepsWrites;
+            if keeps_overflow || self.slip == Slip::KeepsFailedWrites {
                 *store = tried.store;
             }
             return None;

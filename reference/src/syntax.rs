@@ -45,6 +45,20 @@ pub enum Plain {
     Bind(Box<Plain>, Box<Plain>),
 }
 
+impl Plain {
+    /// Whether the value of binder `outward` stands in it.
+    pub fn asks(&self, outward: i32) -> bool {
+        match self {
+            Plain::Binder(asked) => *asked == outward,
+            Plain::Unit | Plain::Truth(_) | Plain::Number(_) | Plain::Read(_) => false,
+            Plain::First(a) | Plain::Second(a) | Plain::Write(_, a) => a.asks(outward),
+            Plain::Operation(_, a, b) | Plain::Pair(a, b) => a.asks(outward) || b.asks(outward),
+            Plain::Condition(a, b, c) => a.asks(outward) || b.asks(outward) || c.asks(outward),
+            Plain::Bind(a, b) => a.asks(outward) || b.asks(outward + 1),
+        }
+    }
+}
+
 /// Whether a step goes on by itself (43) or waits for Continue (44).
 #[derive(Clone, Copy, Debug, PartialEq, Eq)]
 pub enum Going {
@@ -69,4 +83,18 @@ pub enum Code {
     View(Plain),
     Condition(Plain, Box<Code>, Box<Code>),
     Bind(Plain, Box<Code>),
+}
+
+impl Code {
+    /// Whether the value of binder `outward` stands in it.
+    pub fn asks(&self, outward: i32) -> bool {
+        match self {
+            Code::Empty(_) | Code::Shared(_) | Code::Fail(_) => false,
+            Code::Filled(a) | Code::View(a) => a.asks(outward),
+            Code::Both(a, b) | Code::Choice(a, b) | Code::Pick(a, b) => a.asks(outward) || b.asks(outward),
+            Code::Condition(a, b, c) => a.asks(outward) || b.asks(outward) || c.asks(outward),
+            Code::Step(_, a, b) => a.asks(outward) || b.asks(outward + 1),
+            Code::Bind(a, b) => a.asks(outward) || b.asks(outward + 1),
+        }
+    }
 }

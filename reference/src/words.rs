@@ -5,7 +5,7 @@ use crate::flow::Flow;
 use crate::limits::LEAVES;
 use crate::sheet::Row;
 use crate::slips::Slip;
-use crate::state::State;
+use crate::state::{LastRow, State};
 use crate::syntax::{Code, Type};
 use crate::task::{Origin, Side, Store, Task};
 use crate::typing::Typing;
@@ -41,6 +41,9 @@ fn digits(of: &Type) -> (i32, i32) {
     }
 }
 
+/// The tag of a last row that failed as a whole (CR 3); no other row has it.
+pub const WHOLE: i32 = 4;
+
 /// The tag of what became of a row by this side.
 const fn tag_of(side: Side) -> i32 {
     match side {
@@ -55,7 +58,11 @@ pub fn write(flow: &Flow, state: &State) -> Vec<i32> {
     for (cell, at) in cell_rows(flow).enumerate() {
         writer.put(at, 1, Some(state.store.read(cell)));
     }
-    writer.task(flow.rows.len() - 1, &state.task);
+    let last = flow.rows.len() - 1;
+    match &state.last_row {
+        LastRow::Task(task) => writer.task(last, task),
+        LastRow::FailedWhole => writer.put(last, WHOLE, None),
+    }
     writer.words.concat()
 }
 
@@ -127,6 +134,9 @@ pub fn read<'f>(flow: &'f Flow, words: &[i32]) -> Option<State<'f>> {
     if words.len() != flow.rows.len() {
         return None;
     }
+    if words.last()?[TAG] == WHOLE {
+        return read_failed(flow, words);
+    }
     let cells: Vec<Type> = flow.contents.iter().map(Value::type_of).collect();
     let typing = Typing { cells: &cells, slip: Slip::None };
     let mut reader = Reader { rows: &flow.rows, words, typing, live: vec![false; words.len()] };
@@ -134,6 +144,13 @@ pub fn read<'f>(flow: &'f Flow, words: &[i32]) -> Option<State<'f>> {
     let store = Store::new(&contents?);
     let task = reader.task(flow.rows.len() - 1, &flow.code, &Binders::NONE)?;
     reader.others_are_empty().then(|| State::new(flow, store, task))
+}
+
+/// The state that holds the last row as failed whole. "It is a state only where start fails so and the cells have
+/// their first contents" (CR 3): so a flow has one such state, that of its start, or none.
+fn read_failed<'f>(flow: &'f Flow, words: &[RowWords]) -> Option<State<'f>> {
+    let first = State::evaluated(flow);
+    (first.last_row == LastRow::FailedWhole && write(flow, &first) == words.concat()).then_some(first)
 }
 
 struct Reader<'r> {

@@ -89,13 +89,15 @@ fn p11_strides_to_rest() {
     assert_eq!((screen.value, screen.strides), (Some([1, 0, 0, 0]), 3));
 }
 
+/// CR 3: "P12 becomes a filled editor of that sum, which fails".
 #[test]
-fn p12_sums_wrap() {
+fn p12_a_sum_beyond_the_range_fails() {
     let mut sheet = Sheet::default();
     let (most, one) = (sheet.row(22, i32::MAX, 0, 0), sheet.row(22, 1, 0, 0));
     let sum = sheet.row(24, 1, most, one);
     sheet.row(40, sum, 0, 0);
-    assert_eq!(last_screen(&sheet, &[]).leaf(), Some(i32::MIN));
+    let failed = Screen { answer: 0, strides: 1, failing: true, value: None, entries: vec![] };
+    assert_eq!(screens(&sheet, &[]), [failed]);
 }
 
 /// A filled editor under unused types, `lines` rows in all.

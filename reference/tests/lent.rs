@@ -12,6 +12,8 @@ use reference::limits::LEAVES;
 use reference::random::Random;
 use reference::rules::{Asking, Rules};
 use reference::slips::Slip;
+use reference::state::{LastRow, State};
+use reference::task::Store;
 use reference::words::{self, STATE_ROW};
 
 const SEED: u64 = 1;
@@ -106,6 +108,10 @@ faults! {
     HandleClearsOnRefusal,
     HandleCountsOneMore,
     NineIsAccepted,
+    FailedStartCountsNone,
+    FailedStateRefused,
+    FailedStateAnywhere,
+    FailedStateAnyCells,
 }
 
 use Fault::*;
@@ -129,6 +135,40 @@ fn misread(fault: Fault, rows: &[i32], state: &[i32]) -> Vec<i32> {
         return normalised.unwrap_or(state);
     }
     state
+}
+
+/// Whether the words, which are no state, are that of a last row that failed as a whole (CR 3) to an engine that reads it
+/// in every flow, or with whatever the cells hold.
+fn reads_failed(fault: Fault, rows: &[i32], state: &[i32]) -> bool {
+    let flow = calls::flow_of(rows).expect("accepted");
+    let (first, _) = State::start(&flow);
+    let is_cell = |at: usize| flow.rows[at].kind == 10;
+    let last = flow.rows.len() - 1;
+    let mut failed = vec![0; state.len()];
+    failed[last * STATE_ROW] = words::WHOLE;
+    let tasks_are_so = (0..=last).filter(|&at| !is_cell(at)).all(|at| row(state, at) == row(&failed, at));
+    // Words of some task, with these cells: read exactly where the cells can be.
+    let mut with_cells = words::write(&flow, &states::state(&mut Random::new(SEED), &flow));
+    (0..=last).filter(|&at| is_cell(at)).for_each(|at| {
+        with_cells[at * STATE_ROW..][..STATE_ROW].copy_from_slice(row(state, at));
+    });
+    let cells = words::read(&flow, &with_cells).map(|read| read.store);
+    tasks_are_so
+        && match fault {
+            FailedStateAnywhere => cells == Some(Store::new(&flow.contents)),
+            FailedStateAnyCells => cells.is_some() && first.last_row == LastRow::FailedWhole,
+            _ => false,
+        }
+}
+
+/// The words of row `at`.
+fn row(state: &[i32], at: usize) -> &[i32] {
+    &state[at * STATE_ROW..][..STATE_ROW]
+}
+
+/// Whether the state's last row is tagged as one that failed as a whole.
+fn is_failed(state: &[i32]) -> bool {
+    state.len().checked_sub(STATE_ROW).is_some_and(|last| state[last] == words::WHOLE)
 }
 
 /// The entries of a state, at rest or not.
@@ -189,6 +229,8 @@ impl Engine for Fault {
             RowsUnasked if rows.len() > 1024 => (0, 1),
             _ => {
                 let (number, strides) = calls::start(rows, state);
+                let counted = *self != FailedStartCountsNone || number != 0 || !is_failed(state);
+                let strides = if counted { strides } else { 0 };
                 (number, strides + u32::from(*self == StartCountsOneMore && number == 0))
             }
         }
@@ -215,6 +257,14 @@ impl Engine for Fault {
             }
             ListClearedBehind if !refuse => list[looked.bytes..].fill(0),
             ListFilledAsFarAsItGoes if looked.number == 24 => list.fill(b' '),
+            FailedStateRefused if !refuse && is_failed(state) => {
+                value.copy_from_slice(&value_before);
+                looked = refused(22);
+            }
+            FailedStateAnywhere | FailedStateAnyCells if looked.number == 22 && reads_failed(*self, rows, state) => {
+                value.fill(0);
+                looked = Looked { fails: true, ..Looked::default() };
+            }
             _ => {}
         }
         looked
@@ -233,6 +283,10 @@ impl Engine for Fault {
             EventBeforeState if Event::read(event, Slip::None).is_none() => return (8, 0),
             HandleClearsOnRefusal if number == 9 => state.fill(0),
             NineIsAccepted if number == 9 => return (0, 1),
+            FailedStateRefused if matches!(number, 8 | 9) && is_failed(state) => return (22, 0),
+            FailedStateAnywhere | FailedStateAnyCells if number == 22 && reads_failed(*self, rows, state) => {
+                return (if Event::read(event, Slip::None).is_some() { 9 } else { 8 }, 0);
+            }
             HandleCountsOneMore if number == 0 => {
                 state.copy_from_slice(&after);
                 return (0, strides + 1);

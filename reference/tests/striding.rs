@@ -40,8 +40,9 @@ fn operators_evaluate_left_to_right_and_both_sides() {
     }
 }
 
+/// Numbers beyond the range are in `overflow.rs`.
 #[test]
-fn numbers_wrap_and_compare_signed() {
+fn numbers_are_reckoned_and_compared_signed() {
     let result = |operator, left, right| {
         let mut sheet = Sheet::default();
         let (left, right) = (sheet.row(22, left, 0, 0), sheet.row(22, right, 0, 0));
@@ -49,12 +50,9 @@ fn numbers_wrap_and_compare_signed() {
         sheet.row(40, result, 0, 0);
         last_screen(&sheet, &[]).leaf().expect("a filled editor")
     };
-    assert_eq!(result(1, -1, i32::MIN), i32::MAX);
+    assert_eq!(result(1, -1, i32::MAX), i32::MAX - 1);
     assert_eq!(result(2, 3, 5), -2);
-    assert_eq!(result(2, i32::MIN, 1), i32::MAX);
-    assert_eq!(result(3, 65536, 65536), 0);
-    assert_eq!(result(3, i32::MIN, -1), i32::MIN);
-    assert_eq!(result(3, 46341, 46341), 46341_i32.wrapping_mul(46341));
+    assert_eq!(result(3, -7, 6), -42);
     for (left, right) in [(-1, 1), (1, -1), (2, 2), (i32::MIN, i32::MAX)] {
         assert_eq!(result(4, left, right), i32::from(left < right));
         assert_eq!(result(5, left, right), i32::from(left <= right));

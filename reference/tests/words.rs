@@ -59,6 +59,8 @@ fn lines() -> Vec<Line> {
     let chosen = "| 47 | the left, the right | 2, 3 | | A, B |";
     let picked = "| 48 | a side and its task | 2, 3 | | A, B |";
     let decided = "| 25 | a side and its task | 2, 3 | | B, C |";
+    // P12's sum, beside a cell.
+    let beyond = [NUMBER, [10, 0, 6, 0], [22, i32::MAX, 0, 0], [22, 1, 0, 0], [24, 1, 2, 3], [40, 4, 0, 0]];
     let in_cells = [number(2, 1, -7), (3, 1, 2, [1, 0, 0, 0]), bare(4, 1)];
     vec![
         line("| 10 | cell | 1 | its content | |", &cells, &[], &in_cells),
@@ -87,6 +89,7 @@ fn lines() -> Vec<Line> {
             &[],
             &[(2, 1, 2, [1, 0, 0, 0]), (3, 2, 2, [1, 0, 0, 0])],
         ),
+        line("| last row | failed as a whole | 4 | | |", &beyond, &[], &[number(1, 1, 6), bare(5, 4)]),
     ]
 }
 

@@ -23,7 +23,7 @@ use Rattle.value.specs.Values.{leafBits}
 use Rattle.value.proofs.Meaning.{leaves-words}
 use Rattle.rows.specs.Kinds.{cellK}
 use Rattle.rows.specs.Rows.{opA, opB, opC, isKind}
-use Rattle.state.specs.Layout.{stateWords, place, own, valueWords, putWords, valued, writeTask, writeCells, encode}
+use Rattle.state.specs.Layout.{stateWords, place, own, valueWords, putWords, valued, writeTask, writeCells, encode, encodeFailed}
 
 -- a list of bits, by name
 record Bits (l : List ℕ) : Type 0 where
@@ -128,3 +128,7 @@ cells-bits rs {s = s} g h (suc i) w =
 pub encode-bits : (rs : List ℕ) (n : ℕ) {Σ : List Ty} (c : Code) (t : TaskOf c) (s : Store) {τ : Ty} → AllSmall Σ → TaskType Σ [] c t τ → ValueTypes s Σ → AllBits (encode rs n c t s)
 unfolding encode
 encode-bits rs n c t s g k h = task-bits rs g (n - 1) k small-nil (cells-bits rs g h n (record { bits = bits-replicate (n * stateWords) 0 (lit< tt) })) .bits
+
+pub failed-bits : (rs : List ℕ) (n : ℕ) {Σ : List Ty} (s : Store) → AllSmall Σ → ValueTypes s Σ → AllBits (encodeFailed rs n s)
+unfolding encodeFailed
+failed-bits rs n s g h = tag-bits (n - 1) (lit< tt) (cells-bits rs g h n (record { bits = bits-replicate (n * stateWords) 0 (lit< tt) })) .bits

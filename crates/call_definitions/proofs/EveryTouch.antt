@@ -5,8 +5,9 @@
 -- or not. Make any list of calls of look and handle, each lent whatever event bytes, value memory and list memory it may be. Then
 -- (`Stands`, specs/Touches):
 --
--- - the state words are the writing of a task of type τ and of a store of the cells' types, and of no other; normalising does not
---   change them; the typing rules give the task, as a sheet could have it, the type τ;
+-- - the state words are the writing of one state (specs/States), and of no other: a task of type τ and a store of the cells' types, which
+--   normalising does not change; the typing rules give the task, as a sheet could have it, the type τ. The task is one of c; or c, evaluated in
+--   the cells' first contents, leaves the words (CR 3), and it is 45 of the type τ in these;
 -- - look answers 21 where its value memory is not 4 words, else 24 where its list memory is under 27 bytes an entry, else 0; then
 --   it hands back the list shown, and all that it answers is derived by the rules (`LookAnswers`, specs/Answers);
 -- - handle answers 8 to an event that cannot be read; to a readable one 9 exactly when no handling rule derives a step, and 0
@@ -32,8 +33,8 @@ use native.Mathlib.Omega.{arith}
 use lib.IntN.{ℤ}
 use lib.ListN.{length}
 use Rattle.tophat.specs.Syntax.{Ty, Code}
-use Rattle.tophat.specs.Quiet.{Quiet}
 use Rattle.formats.specs.Touches.{entryBytes}
+use Rattle.call_definitions.specs.States.{QuietIn}
 use Rattle.call_definitions.specs.Answers.{AcceptedFlow, IsRest}
 use Rattle.call_definitions.specs.Calls.{handleCall}
 use Rattle.call_definitions.specs.Touches.{Call, run, Started, Stands}
@@ -52,7 +53,7 @@ module _ {rows : List ℤ} {c : Code} {Σ : List Ty} {τ : Ty} (a : AcceptedFlow
 
 -- so a screen is quiet exactly when no event at all is accepted there: what `Quiet` says in the calculus' terms is what a touch meets
 pub quiet-takes-none : {rows ws : List ℤ} {c : Code} {Σ : List Ty} {τ : Ty} (z : Stands rows ws c Σ τ)
-    → Quiet c [] (z .rest .store) (z .rest .task) ↔ ((event : List ℕ) → handleCall rows ws event .number ≡ 0 → ⊥)
+    → QuietIn (z .rest .state) ↔ ((event : List ℕ) → handleCall rows ws event .number ≡ 0 → ⊥)
 quiet-takes-none z = (
   λ q event h.
       let (i, k) = z .accepted-iff-covered event .0 h in

@@ -2,9 +2,11 @@
 -- open to is the ground that the rules derive, and no other, or a rest of an accepted flow. Rests on Opening.
 use mathlib.Core.Path.{_≡_, refl, sym, ap, subst, _∙_}
 use mathlib.Core.Bool.{Bool, true, false, _&&_}
+use mathlib.Core.Logic.{_↔_}
 use mathlib.Core.Option.{Option, none, some}
 use mathlib.Core.List.{List, []}
 use Prim.Native.Nat.{ℕ, _*_}
+use native.Mathlib.Omega.{arith}
 use borrow.Author.Tests.{eq-eqb, eqb-true}
 use borrow.Table.Steps.{cases}
 use lib.Dec.{eqb}
@@ -12,19 +14,20 @@ use lib.IntN.{ℤ}
 use lib.ListN.{length}
 use Rattle.word.specs.Word.{AllWords}
 use Rattle.tophat.specs.Syntax.{Ty, Code, TaskOf, Store}
-use Rattle.tophat.specs.Normalising.{Normalises}
+use Rattle.tophat.specs.Normalising.{s-fail, n-done}
 use Rattle.tophat.proofs.Basics.{apart}
 use Rattle.tophat.proofs.ComputeNormalising.{stride}
-use Rattle.rows.specs.GroundNumbers.{notAccepted, wrongMemory}
+use Rattle.rows.specs.GroundNumbers.{notAccepted, wrongMemory, notState, notAtRest}
 use Rattle.rows.specs.Lent.{rowCount}
 use Rattle.rows.proofs.Basics.{no}
 use Rattle.word.specs.Decides.{Decides}
 use Rattle.sheet.specs.Accepted.{acceptsRows}
 use Rattle.state.specs.Layout.{stateWords}
-use Rattle.call_definitions.specs.Answers.{Loads, AcceptedFlow, HasRoom, Writes, IsRest, Shut, shut-20, shut-21, shut-22, shut-23}
+use Rattle.call_definitions.specs.States.{FlowState, taskState, failedState, AtRest}
+use Rattle.call_definitions.specs.Answers.{Loads, AcceptedFlow, HasRoom, WritesTask, Writes, as-task, as-failed, IsRest, Shut, shut-20, shut-21, shut-22, shut-23}
 use Rattle.call_definitions.specs.Calls.{Opened, refusedBy, restOf, atRest, decoded, opened}
 use Rattle.call_definitions.proofs.Flows.{loads-accepts, accepts-loads, accepts-not, flow-of}
-use Rattle.call_definitions.proofs.Opening.{decodedFrom, opened-is, unmoved, still-of, state-length, decodes, decoded-writes, undecoded}
+use Rattle.call_definitions.proofs.Opening.{decodedFrom, opened-is, unmoved, still-of, moved-not, rest-of, opens, state-room, decodes, decoded-writes, heldFailed, failed-opens, failed-writes, unwritten}
 
 decided : {b : Bool} {P : Type 0} → Decides b P → P → b ≡ true
 decided {b} d p = cases b (λ t. t) (λ f. absurd (d .no f p))
@@ -33,7 +36,7 @@ module _ (rows ws : List ℤ) (Fits : Type 0) where
   -- what rows and words open to
   pub data Opens : Opened → Type 0 where
     open-shut : {g : ℕ} → Shut rows ws Fits g → Opens (refusedBy g)
-    open-rest : {c : Code} {Σ : List Ty} {τ : Ty} → AcceptedFlow rows c Σ τ → Fits → (r : IsRest rows ws c Σ τ) → Opens (restOf c (r .task) (r .store))
+    open-rest : {c : Code} {Σ : List Ty} {τ : Ty} → AcceptedFlow rows c Σ τ → Fits → (r : IsRest rows ws c Σ τ) → Opens (restOf (r .state))
 
   -- ---- by the tests
 
@@ -54,14 +57,19 @@ module _ (rows ws : List ℤ) (Fits : Type 0) where
     -- ---- what is opened is derived
 
     module _ {c : Code} {Σ : List Ty} {τ : Ty} (a : AcceptedFlow rows c Σ τ) (l : HasRoom rows ws) (fits : Fits) where
-      by-flag : (t : TaskOf c) (s : Store) → Writes rows ws c Σ τ t s → (m : Bool) → stride c [] s t .2 ≡ m → Opens (atRest c t s)
+      by-flag : (t : TaskOf c) (s : Store) → WritesTask rows ws c Σ τ t s → (m : Bool) → stride c [] s t .2 ≡ m → Opens (atRest c t s)
       unfolding atRest
-      by-flag t s w true e = rw e (open-shut (shut-23 a fits w (λ d. apart e (unmoved a (w .typed) (w .stored) d))))
-      by-flag t s w false e = rw e (open-rest a fits (record { task = t; store = s; writes = w; still = still-of a (w .typed) (w .stored) e }))
+      by-flag t s w true e = rw e (open-shut (shut-23 a fits (as-task w) (λ d. apart e (unmoved a (w .typed) (w .stored) d))))
+      by-flag t s w false e = rw e (open-rest a fits (record { state = taskState c t s; writes = as-task w; still = still-of a (w .typed) (w .stored) e }))
 
-      by-read : (o : Option (TaskOf c × Store)) → decodedFrom a ws ≡ o → Opens (decoded c o)
+      -- nothing is decoded: the words hold the last row as failed whole where it is a state, or are none
+      by-failed : decodedFrom a ws ≡ none → (x : Bool) → heldFailed a ws ≡ x → Opens (decoded rows ws c none)
+      by-failed e true h = subst Opens (sym (failed-opens a ws true h)) (open-rest a fits (record { state = failedState τ (a .first); writes = failed-writes a l ww h; still = n-done s-fail }))
+      by-failed e false h = subst Opens (sym (failed-opens a ws false h)) (open-shut (shut-22 a l fits (λ z w. unwritten a e h w)))
+
+      by-read : (o : Option (TaskOf c × Store)) → decodedFrom a ws ≡ o → Opens (decoded rows ws c o)
       unfolding decoded
-      by-read none e = open-shut (shut-22 a l fits (λ t s w. undecoded a e w))
+      by-read none e = by-failed e (heldFailed a ws) refl
       by-read (some q) e = by-flag (q .0) (q .1) (decoded-writes a l ww e) _ refl
 
     pub opened-derived : (b : Bool) → Decides b Fits → Opens (opened rows ws b)
@@ -90,25 +98,51 @@ module _ (rows ws : List ℤ) (Fits : Type 0) where
     -- ---- and no other ground
 
     module _ {c : Code} {Σ : List Ty} {τ : Ty} (a : AcceptedFlow rows c Σ τ) where
-      no-state : HasRoom rows ws → ((t : TaskOf c) (s : Store) → Writes rows ws c Σ τ t s → ⊥) → decodedFrom a ws ≡ none
+      no-state : HasRoom rows ws → ((z : FlowState) → Writes rows ws c Σ τ z → ⊥) → decoded rows ws c (decodedFrom a ws) ≡ refusedBy notState
       no-state l n = by (decodedFrom a ws) refl
         where
-          by : (o : Option (TaskOf c × Store)) → decodedFrom a ws ≡ o → o ≡ none
-          by none e = refl
-          by (some q) e = absurd (n (q .0) (q .1) (decoded-writes a l ww e))
+          by : (o : Option (TaskOf c × Store)) → decodedFrom a ws ≡ o → decoded rows ws c o ≡ refusedBy notState
+          by none e = cases (heldFailed a ws) (λ h. absurd (n _ (failed-writes a l ww h))) (λ h. failed-opens a ws false h)
+          by (some q) e = absurd (n _ (as-task (decoded-writes a l ww e)))
 
-      no-rest : {t : TaskOf c} {s : Store} → Writes rows ws c Σ τ t s → (Normalises c [] s t t s 1 → ⊥) → stride c [] s t .2 ≡ true
-      no-rest {t} {s} w n = cases (stride c [] s t .2) (λ y. y) (λ f. absurd (n (still-of a (w .typed) (w .stored) f)))
+      -- a state that is not at rest is a task, and strides
+      no-rest : (b : Bool) → b ≡ true → {z : FlowState} → Writes rows ws c Σ τ z → (AtRest z → ⊥) → opened rows ws b ≡ refusedBy notAtRest
+      unfolding decoded atRest
+      no-rest b f (as-task {t} {s} w) n =
+          let o : decodedFrom a ws ≡ some (t, s) = ap (decodedFrom a) (w .written) ∙ decodes a (w .typed) (w .stored) in
+          let y : stride c [] s t .2 ≡ true = cases (stride c [] s t .2) (λ y. y) (λ f. absurd (n (still-of a (w .typed) (w .stored) f))) in
+          ap (opened rows ws) f ∙ opened-is a ws (state-room a (as-task w)) ∙ ap (decoded rows ws c) o ∙ rw y
+      no-rest b f (as-failed g o e) n = absurd (n (n-done s-fail))
 
     pub shut-only : {g : ℕ} (b : Bool) → Decides b Fits → Shut rows ws Fits g → opened rows ws b ≡ refusedBy g
-    unfolding decoded atRest
     shut-only b d (shut-20 n) = opened-20 (accepts-not n wr) b
     shut-only b d (shut-21 l n) = opened-21 (loads-accepts l) b (both-false _ b (λ p q. n (eqb-true _ _ p, d .yes q)))
-    shut-only b d (shut-22 {c} a l f n) = ap (opened rows ws) (decided d f) ∙ opened-is a ws l ∙ ap (decoded c) (no-state a l n)
-    shut-only b d (shut-23 {c} {t = t} {s = s} a f w n) =
-        let o : decodedFrom a ws ≡ some (t, s) = ap (decodedFrom a) (w .written) ∙ decodes a (w .typed) (w .stored) in
-        let y = no-rest a w n in
-        ap (opened rows ws) (decided d f) ∙ opened-is a ws (ap length (w .written) ∙ state-length a (w .typed) (w .stored)) ∙ ap (decoded c) o ∙ rw y
+    shut-only b d (shut-22 a l f n) = ap (opened rows ws) (decided d f) ∙ opened-is a ws l ∙ no-state a l n
+    shut-only b d (shut-23 a f w n) = no-rest a b (decided d f) w n
+
+-- ground 22, exactly: accepted rows and words of the right length are no state exactly where they are the writing of none
+pub ground-22-exactly : {rows ws : List ℤ} {c : Code} {Σ : List Ty} {τ : Ty} → AllWords rows → AllWords ws → AcceptedFlow rows c Σ τ → HasRoom rows ws
+    → (opened rows ws true ≡ refusedBy notState) ↔ ((z : FlowState) → Writes rows ws c Σ τ z → ⊥)
+ground-22-exactly {rows} {ws} {c} {Σ} {τ} wr ww a l = (by, (λ n. shut-only rows ws (Unit {0}) wr ww true always (shut-22 a l tt n)))
+  where
+    always : Decides true (Unit {0})
+    always = record { yes = λ e. tt; no = λ e u. no (sym e) }
+
+    ground : Opened → ℕ
+    ground (refusedBy g) = g
+    ground (restOf z) = 0
+
+    shuts : refusedBy notAtRest ≡ refusedBy notState → ⊥
+    shuts e = let n = ap ground e in omega (arith, n)
+
+    rests : {z : FlowState} → restOf z ≡ refusedBy notState → ⊥
+    rests e = let n = ap ground e in omega (arith, n)
+
+    -- a state is opened to itself, or gets 23
+    by : opened rows ws true ≡ refusedBy notState → (z : FlowState) → Writes rows ws c Σ τ z → ⊥
+    by e z w = cases (stride (z .code) [] (z .store) (z .task) .2)
+        (λ m. shuts (sym (shut-only rows ws (Unit {0}) wr ww true always (shut-23 a tt w (λ d. apart m (moved-not a w d)))) ∙ e))
+        (λ m. rests (sym (opens a w (rest-of a w m)) ∙ e))
 
 -- accepted rows, where a memory does not fit
 pub opened-misfit : (rows ws : List ℤ) (b : Bool) → Loads rows → (HasRoom rows ws → b ≡ true → ⊥) → opened rows ws b ≡ refusedBy wrongMemory

@@ -10,7 +10,7 @@ use Rattle.word.specs.Word.{AllWords}
 use Rattle.word.specs.Decides.{Decides}
 use Rattle.decimal.specs.Path.{Path}
 use Rattle.tophat.specs.Syntax.{Ty, Code, TaskOf, Store}
-use Rattle.tophat.specs.Typing.{v-nil}
+use Rattle.tophat.specs.Typing.{TaskType, ValueTypes, v-nil}
 use Rattle.tophat.specs.Normalising.{Normalises}
 use Rattle.tophat.specs.Handling.{Action, Handles}
 use Rattle.tophat.specs.Runs.{Refuses}
@@ -20,49 +20,62 @@ use Rattle.tophat.proofs.NormalisingSound.{normalise-sound}
 use Rattle.tophat.proofs.NormalisingComplete.{normalises-is}
 use Rattle.tophat.proofs.Bound.{normal-rest}
 use Rattle.tophat.proofs.HandlingSound.{GoodHandling, handles-sound}
-use Rattle.tophat.proofs.HandlingComplete.{handles-is, refuses}
+use Rattle.tophat.proofs.HandlingComplete.{handles-is, refuses, fail-refuses}
 use Rattle.formats.specs.Touches.{eventOf}
 use Rattle.rows.proofs.Basics.{no}
 use Rattle.rows.specs.GroundNumbers.{eventNotRead, notHandled}
 use Rattle.call_definitions.specs.Memory.{stateOf, CallAnswer, refusal}
-use Rattle.call_definitions.specs.Answers.{AcceptedFlow, IsRest, HandleAnswers, handle-shut, handle-8, handle-9, handle-0}
+use Rattle.call_definitions.specs.States.{FlowState, taskState, AtRest}
+use Rattle.call_definitions.specs.Answers.{AcceptedFlow, Writes, as-task, as-failed, IsRest, HandleAnswers, handle-shut, handle-8, handle-9, handle-0}
 use Rattle.call_definitions.specs.Calls.{Opened, refusedBy, restOf, opened, handled, handleRead, handleIn, handleCall}
-use Rattle.call_definitions.proofs.Opening.{opens}
+use Rattle.call_definitions.proofs.Opening.{opens, state-typed}
 use Rattle.call_definitions.proofs.Grounds.{Opens, open-shut, open-rest, opened-derived, shut-only}
 
+-- what an event that is taken comes to is a state of the flow's own code: 45 takes none
+taken-rest : {rows ws : List ℤ} {c : Code} {Σ : List Ty} {τ : Ty} {z : FlowState} {p : Path} {x : Action} {t₁ t₂ : TaskOf (z .code)} {s₁ s₂ : Store}
+    → Writes rows ws c Σ τ z → Handles (z .code) [] (z .store) (z .task) p x t₁ s₁
+    → TaskType Σ [] (z .code) t₂ τ → ValueTypes s₂ Σ → AtRest (taskState (z .code) t₂ s₂) → IsRest rows (stateOf rows (z .code) t₂ s₂) c Σ τ
+taken-rest (as-task w) h k v d = record { state = _; writes = as-task (record { typed = k; stored = v; written = refl }); still = d }
+taken-rest (as-failed {s} f o e) h k v d = absurd (fail-refuses h)
+
 module _ {rows ws : List ℤ} {c : Code} {Σ : List Ty} {τ : Ty} (a : AcceptedFlow rows c Σ τ) (r : IsRest rows ws c Σ τ) (event : List ℕ) where
-  abbrev t : TaskOf c
-  t = r .task
+  abbrev k : Code
+  k = r .state .code
+
+  abbrev t : TaskOf k
+  t = r .state .task
 
   abbrev s : Store
-  s = r .store
+  s = r .state .store
 
   -- ---- at a rest
 
-  pub rest-handle : handleCall rows ws event ≡ handleRead rows ws c t s (eventOf event)
+  pub rest-handle : handleCall rows ws event ≡ handleRead rows ws (r .state) (eventOf event)
   unfolding handleCall handleIn
   rest-handle = ap (handleIn rows ws (eventOf event)) (opens a (r .writes) (r .still))
 
   -- what a readable event comes to: no rule and the same words, or what the rules derive, at rest
   pub data Outcome (p : Path) (x : Action) : CallAnswer → Type 0 where
-    kept : Refuses c t s p x → Outcome p x (refusal notHandled ws)
-    went : {t₁ t₂ : TaskOf c} {s₁ s₂ : Store} {n : ℕ} → Handles c [] s t p x t₁ s₁ → Normalises c [] s₁ t₁ t₂ s₂ n → IsRest rows (stateOf rows c t₂ s₂) c Σ τ
-        → Outcome p x (record { number = 0; strides = n; state = stateOf rows c t₂ s₂ })
+    kept : Refuses k t s p x → Outcome p x (refusal notHandled ws)
+    went : {t₁ t₂ : TaskOf k} {s₁ s₂ : Store} {n : ℕ} → Handles k [] s t p x t₁ s₁ → Normalises k [] s₁ t₁ t₂ s₂ n → IsRest rows (stateOf rows k t₂ s₂) c Σ τ
+        → Outcome p x (record { number = 0; strides = n; state = stateOf rows k t₂ s₂ })
 
-  by-handling : (p : Path) (x : Action) (o : Option (TaskOf c × Store)) → compute.handle c [] s t p x ≡ o → All (GoodHandling Σ [] τ c [] s t p x) o → Outcome p x (handled rows ws c o)
+  by-handling : (p : Path) (x : Action) (o : Option (TaskOf k × Store)) → compute.handle k [] s t p x ≡ o → All (GoodHandling Σ [] τ k [] s t p x) o → Outcome p x (handled rows ws k o)
   unfolding handled
-  by-handling p x none h all-none = kept (refuses c s t p x h)
+  by-handling p x none h all-none = kept (refuses k s t p x h)
   by-handling p x (some q) h (all-some g) =
-      let n = normalise-sound c [] (q .1) (q .0) (g .task) v-nil (g .store) in
-      went (g .derived) (n .derived) (record { task = _; store = _; writes = record { typed = n .task; stored = n .store; written = refl }; still = normal-rest (n .derived) })
+      let n = normalise-sound k [] (q .1) (q .0) (g .task) v-nil (g .store) in
+      went (g .derived) (n .derived) (taken-rest (r .writes) (g .derived) (n .task) (n .store) (normal-rest (n .derived)))
 
   pub outcome : {p : Path} {x : Action} → eventOf event ≡ some (p, x) → Outcome p x (handleCall rows ws event)
   unfolding handleRead
-  outcome {p} {x} e = subst (Outcome p x) (sym (rest-handle ∙ ap (handleRead rows ws c t s) e)) (by-handling p x _ refl (handles-sound c [] s t p x (r .writes .typed) v-nil (r .writes .stored)))
+  outcome {p} {x} e =
+      let (d, h) = state-typed a (r .writes) in
+      subst (Outcome p x) (sym (rest-handle ∙ ap (handleRead rows ws (r .state)) e)) (by-handling p x _ refl (handles-sound k [] s t p x d v-nil h))
 
   pub answer-8 : eventOf event ≡ none → handleCall rows ws event ≡ refusal eventNotRead ws
   unfolding handleRead
-  answer-8 e = rest-handle ∙ ap (handleRead rows ws c t s) e
+  answer-8 e = rest-handle ∙ ap (handleRead rows ws (r .state)) e
 
   -- all that it answers is derived
   pub rest-handled : HandleAnswers rows ws event (handleCall rows ws event)
@@ -77,7 +90,7 @@ module _ {rows ws : List ℤ} {c : Code} {Σ : List Ty} {τ : Ty} (a : AcceptedF
       by (some q) e = by-outcome e (outcome e)
 
   -- what the rules derive is answered
-  pub answer-9 : {p : Path} {x : Action} → eventOf event ≡ some (p, x) → Refuses c t s p x → handleCall rows ws event ≡ refusal notHandled ws
+  pub answer-9 : {p : Path} {x : Action} → eventOf event ≡ some (p, x) → Refuses k t s p x → handleCall rows ws event ≡ refusal notHandled ws
   answer-9 {p} {x} e n = by (outcome e)
     where
       by : {z : CallAnswer} → Outcome p x z → z ≡ refusal notHandled ws
@@ -93,7 +106,7 @@ module _ (rows ws : List ℤ) (event : List ℕ) (wr : AllWords rows) (ww : AllW
   by-opened : (o : Opened) → opened rows ws true ≡ o → Opens rows ws (Unit {0}) o → HandleAnswers rows ws event (handleIn rows ws (eventOf event) o)
   unfolding handleIn
   by-opened (refusedBy g) e (open-shut d) = handle-shut d
-  by-opened (restOf c t s) e (open-rest a f r) = subst (HandleAnswers rows ws event) (rest-handle a r event) (rest-handled a r event)
+  by-opened (restOf z) e (open-rest a f r) = subst (HandleAnswers rows ws event) (rest-handle a r event) (rest-handled a r event)
 
   -- what handle answers is derived
   pub handle-derived : HandleAnswers rows ws event (handleCall rows ws event)
@@ -106,6 +119,6 @@ module _ (rows ws : List ℤ) (event : List ℕ) (wr : AllWords rows) (ww : AllW
   handle-only (handle-shut d) = ap (handleIn rows ws (eventOf event)) (shut-only rows ws (Unit {0}) wr ww true always d)
   handle-only (handle-8 a r e) = answer-8 a r event e
   handle-only (handle-9 a r e n) = answer-9 a r event e n
-  handle-only (handle-0 {c} a r e h d) =
-      rest-handle a r event ∙ ap (handleRead rows ws c (r .task) (r .store)) e ∙ ap (handled rows ws c) (handles-is h)
-      ∙ ap (λ (x : TaskOf c × Store × ℕ). record { number = 0; strides = x .2; state = stateOf rows c (x .0) (x .1) }) (normalises-is d)
+  handle-only (handle-0 a r e h d) =
+      rest-handle a r event ∙ ap (handleRead rows ws (r .state)) e ∙ ap (handled rows ws (r .state .code)) (handles-is h)
+      ∙ ap (λ (x : TaskOf (r .state .code) × Store × ℕ). record { number = 0; strides = x .2; state = stateOf rows (r .state .code) (x .0) (x .1) }) (normalises-is d)

@@ -11,10 +11,9 @@ use lib.IntN.{ℤ}
 use lib.ListN.{length, drop}
 use Rattle.word.specs.Word.{AllWords}
 use Rattle.word.specs.Decides.{Decides}
-use Rattle.tophat.specs.Syntax.{maxLeaves, Ty, Code, TaskOf, Store}
+use Rattle.tophat.specs.Syntax.{maxLeaves, Ty, Code}
 use Rattle.tophat.specs.Typing.{v-nil}
-use Rattle.tophat.specs.Normalising.{value, Fails}
-use Rattle.tophat.specs.Showing.{Entry, Shows}
+use Rattle.tophat.specs.Showing.{Entry}
 use Rattle.tophat.proofs.ComputeNormalising.{failing}
 use Rattle.tophat.proofs.ComputeEntries.{entries}
 use Rattle.tophat.proofs.NormalisingSound.{fails-sound}
@@ -24,56 +23,57 @@ use Rattle.formats.specs.Touches.{entryBytes}
 use Rattle.formats.specs.Lists.{listText}
 use Rattle.rows.specs.GroundNumbers.{listTooShort}
 use Rattle.call_definitions.specs.Memory.{LookAnswer, lookRefusal, flag, valueMemory, hasOne}
+use Rattle.call_definitions.specs.States.{FlowState, valueIn, FailsIn, ShowsIn}
 use Rattle.call_definitions.specs.Answers.{AcceptedFlow, IsRest, LookAnswers, look-shut, look-24, look-0}
 use Rattle.call_definitions.specs.Calls.{Opened, refusedBy, restOf, opened, lookIn, lookCall}
-use Rattle.call_definitions.proofs.Opening.{opens}
+use Rattle.call_definitions.proofs.Opening.{opens, state-typed}
 use Rattle.call_definitions.proofs.Grounds.{Opens, open-shut, open-rest, opened-derived, shut-only}
 
 -- what a look with room answers
-abbrev pub looking : (c : Code) → TaskOf c → Store → List Entry → Bool → List ℕ → LookAnswer
-looking c t s es x list = record {
+abbrev pub looking : FlowState → List Entry → Bool → List ℕ → LookAnswer
+looking z es x list = record {
   number = 0;
-  hasValue = hasOne (value c t s);
+  hasValue = hasOne (valueIn z);
   fails = flag x;
-  value = valueMemory (value c t s);
+  value = valueMemory (valueIn z);
   part = listText es;
   list = listText es ++ drop (length (listText es)) list;
 }
 
 module _ {rows ws : List ℤ} {c : Code} {Σ : List Ty} {τ : Ty} (a : AcceptedFlow rows c Σ τ) (r : IsRest rows ws c Σ τ) (values : List ℤ) (list : List ℕ) (l : length values ≡ maxLeaves) where
-  abbrev t : TaskOf c
-  t = r .task
+  abbrev z : FlowState
+  z = r .state
 
-  abbrev s : Store
-  s = r .store
+  abbrev es : List Entry
+  es = entries (z .code) [] (z .store) (z .task)
 
-  shows : Shows c [] s t (entries c [] s t)
-  shows = shows-sound c [] s t (r .writes .typed) v-nil (r .writes .stored)
+  shows : ShowsIn z es
+  shows = let (k, h) = state-typed a (r .writes) in shows-sound (z .code) [] (z .store) (z .task) k v-nil h
 
-  fails : Fails c [] s t (failing c [] s t)
-  fails = fails-sound c [] s t (r .writes .typed) v-nil (r .writes .stored)
+  fails : FailsIn z (failing (z .code) [] (z .store) (z .task))
+  fails = let (k, h) = state-typed a (r .writes) in fails-sound (z .code) [] (z .store) (z .task) k v-nil h
 
   -- ---- at a rest, with value memory of its size
 
-  rest-look : lookCall rows ws values list ≡ lookIn values list (restOf c t s)
+  rest-look : lookCall rows ws values list ≡ lookIn values list (restOf z)
   unfolding lookCall
   rest-look = ap (λ b. lookIn values list (opened rows ws b)) (eq-eqb (length values) maxLeaves l) ∙ ap (lookIn values list) (opens a (r .writes) (r .still))
 
-  module _ {es : List Entry} (d : Shows c [] s t es) where
-    pub answer-24 : length list < length es * entryBytes → lookCall rows ws values list ≡ lookRefusal listTooShort values list
+  module _ {xs : List Entry} (d : ShowsIn z xs) where
+    pub answer-24 : length list < length xs * entryBytes → lookCall rows ws values list ≡ lookRefusal listTooShort values list
     unfolding lookIn
     answer-24 m =
-        let b : leb (length (entries c [] s t) * entryBytes) (length list) ≡ false = ap (λ es. leb (length es * entryBytes) (length list)) (shows-is d) ∙ lt-leb _ _ m in
+        let b : leb (length es * entryBytes) (length list) ≡ false = ap (λ es. leb (length es * entryBytes) (length list)) (shows-is d) ∙ lt-leb _ _ m in
         rest-look ∙ rw b refl
 
-    pub answer-0 : {x : Bool} → length es * entryBytes ≤ length list → Fails c [] s t x → lookCall rows ws values list ≡ looking c t s es x list
+    pub answer-0 : {x : Bool} → length xs * entryBytes ≤ length list → FailsIn z x → lookCall rows ws values list ≡ looking z xs x list
     unfolding lookIn
     answer-0 m f =
-        let b : leb (length (entries c [] s t) * entryBytes) (length list) ≡ true = ap (λ es. leb (length es * entryBytes) (length list)) (shows-is d) ∙ le-leb _ _ m in
-        rest-look ∙ rw b (λ j. looking c t s (shows-is d j) (fails-is f j) list)
+        let b : leb (length es * entryBytes) (length list) ≡ true = ap (λ es. leb (length es * entryBytes) (length list)) (shows-is d) ∙ le-leb _ _ m in
+        rest-look ∙ rw b (λ j. looking z (shows-is d j) (fails-is f j) list)
 
   pub rest-looked : LookAnswers rows ws values list (lookCall rows ws values list)
-  rest-looked = cases (leb (length (entries c [] s t) * entryBytes) (length list))
+  rest-looked = cases (leb (length es * entryBytes) (length list))
       (λ y. let m = leb-true _ _ y in subst (LookAnswers rows ws values list) (sym (answer-0 shows m fails)) (look-0 a r l shows m fails))
       (λ n. let m = leb-false _ _ n in subst (LookAnswers rows ws values list) (sym (answer-24 shows m)) (look-24 a r l shows m))
 
@@ -89,7 +89,7 @@ module _ (rows ws values : List ℤ) (list : List ℕ) (wr : AllWords rows) (ww 
   by-opened : (o : Opened) → opened rows ws fits ≡ o → Opens rows ws (length values ≡ maxLeaves) o → LookAnswers rows ws values list (lookIn values list o)
   unfolding lookIn
   by-opened (refusedBy g) e (open-shut d) = look-shut d
-  by-opened (restOf c t s) e (open-rest a l r) = subst (LookAnswers rows ws values list) (rest-look a r values list l) (rest-looked a r values list l)
+  by-opened (restOf z) e (open-rest a l r) = subst (LookAnswers rows ws values list) (rest-look a r values list l) (rest-looked a r values list l)
 
   -- what look answers is derived
   pub look-derived : LookAnswers rows ws values list (lookCall rows ws values list)

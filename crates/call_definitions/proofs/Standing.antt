@@ -13,12 +13,11 @@ use lib.Dec.{eqb}
 use lib.IntN.{ℤ}
 use lib.ListN.{length}
 use Rattle.decimal.specs.Path.{Path}
-use Rattle.tophat.specs.Syntax.{maxLeaves, Ty, Code, TaskOf, Store}
+use Rattle.tophat.specs.Syntax.{maxLeaves, Ty, Code}
 use Rattle.tophat.specs.Typing.{small-nil}
-use Rattle.tophat.specs.Normalising.{Fails}
 use Rattle.tophat.specs.Handling.{Action}
 use Rattle.tophat.specs.Showing.{Entry}
-use Rattle.tophat.specs.Runs.{Accepts, Refuses, Stands as TreeStands}
+use Rattle.tophat.specs.Runs.{Stands as TreeStands}
 use Rattle.tophat.proofs.Basics.{no-some}
 use Rattle.tophat.proofs.NormalisingComplete.{fails-one}
 use Rattle.tophat.proofs.EntriesAgree.{shows-is}
@@ -35,29 +34,30 @@ use Rattle.rows.proofs.Basics.{no, le-or-lt}
 use Rattle.rows.proofs.CellsAt.{cells-small}
 use Rattle.rows.specs.GroundNumbers.{notHandled, wrongMemory, listTooShort}
 use Rattle.call_definitions.specs.Memory.{CallAnswer, refusal, LookAnswer, lookRefusal, flag}
+use Rattle.call_definitions.specs.States.{FlowState, TypedState, FailsIn, AcceptsIn, RefusesIn}
 use Rattle.call_definitions.specs.Answers.{AcceptedFlow, IsRest, LookAnswers, look-shut, shut-21}
 use Rattle.call_definitions.specs.Calls.{opened, lookIn, lookCall, handleCall}
 use Rattle.call_definitions.specs.Touches.{Call, look, handle, after, Bounded, Stands}
-use Rattle.call_definitions.proofs.Opening.{moving, marks-fit, state-once}
+use Rattle.call_definitions.proofs.Opening.{state-typed, state-moves, state-marks, state-once}
 use Rattle.call_definitions.proofs.Grounds.{opened-misfit}
 use Rattle.call_definitions.proofs.LookAnswered.{looking, answer-24, answer-0, rest-looked}
 use Rattle.call_definitions.proofs.HandleAnswered.{Outcome, kept, went, outcome, answer-8, rest-handled}
 
 module _ {rows ws : List ℤ} {c : Code} {Σ : List Ty} {τ : Ty} (a : AcceptedFlow rows c Σ τ) (r : IsRest rows ws c Σ τ) where
-  abbrev t : TaskOf c
-  t = r .task
+  abbrev at : FlowState
+  at = r .state
 
-  abbrev s : Store
-  s = r .store
+  typed : TypedState Σ τ at
+  typed = state-typed a (r .writes)
 
-  tree : TreeStands Σ c τ t s
-  tree = rest-stands (record { task = r .writes .typed; store = r .writes .stored; still = r .still })
+  tree : TreeStands Σ (at .code) τ (at .task) (at .store)
+  tree = rest-stands (record { task = typed .0; store = typed .1; still = r .still })
 
   abbrev es : List Entry
   es = tree .shown
 
   es-fit : Fits 0 es
-  es-fit = subst (Fits 0) (shows-is (tree .shows)) (entries-fit (cells-small (a .flow .cells)) (r .writes .stored) 0 [] (r .writes .typed) small-nil (omega arith) (marks-fit a))
+  es-fit = subst (Fits 0) (shows-is (tree .shows)) (entries-fit (cells-small (a .flow .cells)) (typed .1) 0 [] (typed .0) small-nil (omega arith) (state-marks a (r .writes)))
 
   abbrev shown : List ℕ
   shown = listText es
@@ -73,9 +73,9 @@ module _ {rows ws : List ℤ} {c : Code} {Σ : List Ty} {τ : Ty} (a : AcceptedF
     shorts l m = let e = list-length es-fit in answer-24 a r values list l (tree .shows) (omega (arith, e, m))
 
     abbrev seen : Bool → LookAnswer
-    seen x = looking c t s es x list
+    seen x = looking at es x list
 
-    shows-all : length values ≡ maxLeaves → length shown ≤ length list → (x : Bool) × Fails c [] s t x × (lookCall rows ws values list ≡ seen x)
+    shows-all : length values ≡ maxLeaves → length shown ≤ length list → (x : Bool) × FailsIn at x × (lookCall rows ws values list ≡ seen x)
     shows-all l m =
         let e = list-length es-fit in
         ⊎-elim (λ d. (true, d, answer-0 a r values list l (tree .shows) (omega (arith, e, m)) d)) (λ d. (false, d, answer-0 a r values list l (tree .shows) (omega (arith, e, m)) d)) (tree .fails-decided)
@@ -87,7 +87,7 @@ module _ {rows ws : List ℤ} {c : Code} {Σ : List Ty} {τ : Ty} (a : AcceptedF
     data Looked : LookAnswer → Type 0 where
       seen-21 : Looked (lookRefusal wrongMemory values list)
       seen-24 : Looked (lookRefusal listTooShort values list)
-      seen-0 : (x : Bool) → Fails c [] s t x → Looked (seen x)
+      seen-0 : (x : Bool) → FailsIn at x → Looked (seen x)
 
     looked : Looked (lookCall rows ws values list)
     looked = cases (eqb (length values) maxLeaves)
@@ -105,7 +105,7 @@ module _ {rows ws : List ℤ} {c : Code} {Σ : List Ty} {τ : Ty} (a : AcceptedF
         by (seen-0 x d) h = refl
 
     -- the failing flag is that of x exactly where the rules say x
-    fails-is : (x : Bool) → lookCall rows ws values list .number ≡ 0 → (lookCall rows ws values list .fails ≡ flag x) ↔ Fails c [] s t x
+    fails-is : (x : Bool) → lookCall rows ws values list .number ≡ 0 → (lookCall rows ws values list .fails ≡ flag x) ↔ FailsIn at x
     fails-is x = by looked
       where
         flag-one : (x y : Bool) → flag x ≡ flag y → x ≡ y
@@ -114,10 +114,10 @@ module _ {rows ws : List ℤ} {c : Code} {Σ : List Ty} {τ : Ty} (a : AcceptedF
         flag-one false true e = absurd (omega (arith, e))
         flag-one false false e = refl
 
-        by : {z : LookAnswer} → Looked z → z .number ≡ 0 → (z .fails ≡ flag x) ↔ Fails c [] s t x
+        by : {z : LookAnswer} → Looked z → z .number ≡ 0 → (z .fails ≡ flag x) ↔ FailsIn at x
         by seen-21 h = absurd (omega (arith, h))
         by seen-24 h = absurd (omega (arith, h))
-        by (seen-0 y d) h = ((λ e. subst (λ z. Fails c [] s t z) (flag-one y x e) d), (λ f. ap flag (fails-one d f)))
+        by (seen-0 y d) h = ((λ e. subst (FailsIn at) (flag-one y x e) d), (λ f. ap flag (fails-one d f)))
 
     look-answers : LookAnswers rows ws values list (lookCall rows ws values list)
     look-answers = cases (eqb (length values) maxLeaves)
@@ -135,18 +135,18 @@ module _ {rows ws : List ℤ} {c : Code} {Σ : List Ty} {τ : Ty} (a : AcceptedF
     answer-of (went h d k) = inr refl
 
     -- 9 exactly where no rule derives a step
-    refused-of : {event : List ℕ} {z : CallAnswer} → Outcome a r event p x z → (z .number ≡ notHandled) ↔ Refuses c t s p x
+    refused-of : {event : List ℕ} {z : CallAnswer} → Outcome a r event p x z → (z .number ≡ notHandled) ↔ RefusesIn at p x
     refused-of (kept n) = ((λ h. n), (λ h. refl))
     refused-of (went h d k) = ((λ e. absurd (omega (arith, e))), (λ n. absurd (n _ _ h)))
 
     -- 0 exactly where one does
-    taken-of : {event : List ℕ} {z : CallAnswer} → Outcome a r event p x z → (z .number ≡ 0) ↔ Accepts c t s p x
+    taken-of : {event : List ℕ} {z : CallAnswer} → Outcome a r event p x z → (z .number ≡ 0) ↔ AcceptsIn at p x
     taken-of (kept n) = ((λ e. absurd (omega (arith, e))), (λ (t₁, s₁, d). absurd (n t₁ s₁ d)))
     taken-of (went h d k) = ((λ e. (_, _, h)), (λ g. refl))
 
     few-of : {event : List ℕ} {z : CallAnswer} → Outcome a r event p x z → Bounded rows (z .strides)
     few-of (kept n) = omega arith
-    few-of (went h d k) = let m = moving a in let b = normalises-bound d in omega (arith, m, b)
+    few-of (went h d k) = let m = state-moves a (r .writes) in let b = normalises-bound d in omega (arith, m, b)
 
     -- the state left is a rest
     next-of : {event : List ℕ} {z : CallAnswer} → Outcome a r event p x z → IsRest rows (z .state) c Σ τ
@@ -200,8 +200,9 @@ module _ {rows ws : List ℤ} {c : Code} {Σ : List Ty} {τ : Ty} (a : AcceptedF
   pub stands : Stands rows ws c Σ τ
   stands = record {
     rest = r;
-    only = λ t₁ s₁ w. state-once a w (r .writes);
-    residual-typed = residual-typed (cells-small (a .flow .cells)) small-nil (r .writes .typed);
+    only = λ y w. state-once a w (r .writes);
+    typed = typed;
+    residual-typed = residual-typed (cells-small (a .flow .cells)) small-nil (typed .0);
     shown = shown;
     misfit = misfits;
     short = shorts;

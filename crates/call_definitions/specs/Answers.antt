@@ -13,11 +13,10 @@ use lib.ListN.{length, drop}
 use Rattle.decimal.specs.Path.{Path}
 use Rattle.tophat.specs.Syntax.{maxLeaves, Ty, Code, TaskOf, Store}
 use Rattle.tophat.specs.Typing.{TaskType, ValueTypes}
-use Rattle.tophat.specs.Evaluation.{EvaluatesTask}
-use Rattle.tophat.specs.Normalising.{value, Fails, Normalises}
+use Rattle.tophat.specs.Evaluation.{EvaluatesTask, OverflowsTask}
+use Rattle.tophat.specs.Normalising.{Normalises}
 use Rattle.tophat.specs.Handling.{Action, Handles}
-use Rattle.tophat.specs.Showing.{Entry, Shows}
-use Rattle.tophat.specs.Runs.{Refuses}
+use Rattle.tophat.specs.Showing.{Entry}
 use Rattle.formats.specs.Lines.{lineBytes, linesSay}
 use Rattle.formats.specs.Touches.{entryBytes, eventOf}
 use Rattle.formats.specs.Lists.{listText}
@@ -27,7 +26,8 @@ use Rattle.rows.specs.Lent.{ownRows, rowCount}
 use Rattle.rows.specs.Trees.{Flow}
 use Rattle.rows.specs.Ground.{WellFormed, Small, RowsGround}
 use Rattle.state.specs.Layout.{stateWords}
-use Rattle.call_definitions.specs.Memory.{stateOf, CallAnswer, refusal, LookAnswer, lookRefusal, flag, valueMemory, hasOne}
+use Rattle.call_definitions.specs.Memory.{stateOf, failedOf, CallAnswer, refusal, LookAnswer, lookRefusal, flag, valueMemory, hasOne}
+use Rattle.call_definitions.specs.States.{FlowState, taskState, failedState, AtRest, valueIn, FailsIn, ShowsIn, RefusesIn}
 
 -- ---- load: 1, 21, 2 to 7
 
@@ -73,17 +73,23 @@ abbrev pub HasRoom : List ℤ → List ℤ → Type 0
 HasRoom rows ws = length ws ≡ rowCount rows * stateWords
 
 -- the words are the writing of a task of the flow's type and of a store of the cells' types
-pub record Writes (rows ws : List ℤ) (c : Code) (Σ : List Ty) (τ : Ty) (t : TaskOf c) (s : Store) : Type 0 where
+pub record WritesTask (rows ws : List ℤ) (c : Code) (Σ : List Ty) (τ : Ty) (t : TaskOf c) (s : Store) : Type 0 where
   pub typed : TaskType Σ [] c t τ
   pub stored : ValueTypes s Σ
   pub written : ws ≡ stateOf rows c t s
 
+-- the words are the writing of a state
+pub data Writes (rows ws : List ℤ) (c : Code) (Σ : List Ty) (τ : Ty) : FlowState → Type 0 where
+  as-task : {t : TaskOf c} {s : Store} → WritesTask rows ws c Σ τ t s → Writes rows ws c Σ τ (taskState c t s)
+  -- CR 3: "it is a state only where start fails so and the cells have their first contents"
+  as-failed : {s : Store} → Flow (ownRows rows) (rowCount rows) c Σ s τ → OverflowsTask c [] s → ws ≡ failedOf rows s
+      → Writes rows ws c Σ τ (failedState τ s)
+
 -- 01: "A rest is a state of it that normalising does not change"
 pub record IsRest (rows ws : List ℤ) (c : Code) (Σ : List Ty) (τ : Ty) : Type 0 where
-  pub task : TaskOf c
-  pub store : Store
-  pub writes : Writes rows ws c Σ τ task store
-  pub still : Normalises c [] store task task store 1
+  pub state : FlowState
+  pub writes : Writes rows ws c Σ τ state
+  pub still : AtRest state
 
 -- ---- start: 20, 21
 
@@ -94,6 +100,10 @@ pub data StartAnswers (rows memory : List ℤ) : CallAnswer → Type 0 where
   start-0 : {c : Code} {Σ : List Ty} {τ : Ty} {t₁ t₂ : TaskOf c} {s₁ s₂ : Store} {n : ℕ} (a : AcceptedFlow rows c Σ τ)
       → HasRoom rows memory → EvaluatesTask c [] (a .first) t₁ s₁ → Normalises c [] s₁ t₁ t₂ s₂ n
       → StartAnswers rows memory (record { number = 0; strides = n; state = stateOf rows c t₂ s₂ })
+  -- CR 3: the last row leaves the words, so that it is 45, in the cells' first contents
+  start-failed : {c : Code} {Σ : List Ty} {τ : Ty} (a : AcceptedFlow rows c Σ τ)
+      → HasRoom rows memory → OverflowsTask c [] (a .first)
+      → StartAnswers rows memory (record { number = 0; strides = 1; state = failedOf rows (a .first) })
 
 -- ---- look and handle: 20 to 23 first, where Fits says that the other memory is of its exact length
 
@@ -101,26 +111,26 @@ pub data Shut (rows ws : List ℤ) (Fits : Type 0) : ℕ → Type 0 where
   shut-20 : (Loads rows → ⊥) → Shut rows ws Fits notAccepted
   shut-21 : Loads rows → (HasRoom rows ws × Fits → ⊥) → Shut rows ws Fits wrongMemory
   shut-22 : {c : Code} {Σ : List Ty} {τ : Ty}
-      → AcceptedFlow rows c Σ τ → HasRoom rows ws → Fits → ((t : TaskOf c) (s : Store) → Writes rows ws c Σ τ t s → ⊥)
+      → AcceptedFlow rows c Σ τ → HasRoom rows ws → Fits → ((z : FlowState) → Writes rows ws c Σ τ z → ⊥)
       → Shut rows ws Fits notState
-  shut-23 : {c : Code} {Σ : List Ty} {τ : Ty} {t : TaskOf c} {s : Store}
-      → AcceptedFlow rows c Σ τ → Fits → Writes rows ws c Σ τ t s → (Normalises c [] s t t s 1 → ⊥)
+  shut-23 : {c : Code} {Σ : List Ty} {τ : Ty} {z : FlowState}
+      → AcceptedFlow rows c Σ τ → Fits → Writes rows ws c Σ τ z → (AtRest z → ⊥)
       → Shut rows ws Fits notAtRest
 
 pub data LookAnswers (rows ws values : List ℤ) (list : List ℕ) : LookAnswer → Type 0 where
   look-shut : {g : ℕ} → Shut rows ws (length values ≡ maxLeaves) g → LookAnswers rows ws values list (lookRefusal g values list)
   look-24 : {c : Code} {Σ : List Ty} {τ : Ty} {es : List Entry} → AcceptedFlow rows c Σ τ → (r : IsRest rows ws c Σ τ)
-      → length values ≡ maxLeaves → Shows c [] (r .store) (r .task) es → length list < length es * entryBytes
+      → length values ≡ maxLeaves → ShowsIn (r .state) es → length list < length es * entryBytes
       → LookAnswers rows ws values list (lookRefusal listTooShort values list)
   -- 01: "Bytes after it keep their content"
   look-0 : {c : Code} {Σ : List Ty} {τ : Ty} {es : List Entry} {x : Bool} → AcceptedFlow rows c Σ τ → (r : IsRest rows ws c Σ τ)
-      → length values ≡ maxLeaves → Shows c [] (r .store) (r .task) es → length es * entryBytes ≤ length list
-      → Fails c [] (r .store) (r .task) x
+      → length values ≡ maxLeaves → ShowsIn (r .state) es → length es * entryBytes ≤ length list
+      → FailsIn (r .state) x
       → LookAnswers rows ws values list (record {
         number = 0;
-        hasValue = hasOne (value c (r .task) (r .store));
+        hasValue = hasOne (valueIn (r .state));
         fails = flag x;
-        value = valueMemory (value c (r .task) (r .store));
+        value = valueMemory (valueIn (r .state));
         part = listText es;
         list = listText es ++ drop (length (listText es)) list;
       })
@@ -132,9 +142,10 @@ pub data HandleAnswers (rows ws : List ℤ) (event : List ℕ) : CallAnswer → 
       → AcceptedFlow rows c Σ τ → IsRest rows ws c Σ τ → eventOf event ≡ none → HandleAnswers rows ws event (refusal eventNotRead ws)
   -- no handling rule derives a step
   handle-9 : {c : Code} {Σ : List Ty} {τ : Ty} {p : Path} {x : Action} → AcceptedFlow rows c Σ τ → (r : IsRest rows ws c Σ τ)
-      → eventOf event ≡ some (p, x) → Refuses c (r .task) (r .store) p x → HandleAnswers rows ws event (refusal notHandled ws)
+      → eventOf event ≡ some (p, x) → RefusesIn (r .state) p x → HandleAnswers rows ws event (refusal notHandled ws)
   -- 01: "Then the result is normalised"
-  handle-0 : {c : Code} {Σ : List Ty} {τ : Ty} {p : Path} {x : Action} {t₁ t₂ : TaskOf c} {s₁ s₂ : Store} {n : ℕ}
+  handle-0 : {c : Code} {Σ : List Ty} {τ : Ty} {p : Path} {x : Action} {n : ℕ}
       → AcceptedFlow rows c Σ τ → (r : IsRest rows ws c Σ τ) → eventOf event ≡ some (p, x)
-      → Handles c [] (r .store) (r .task) p x t₁ s₁ → Normalises c [] s₁ t₁ t₂ s₂ n
-      → HandleAnswers rows ws event (record { number = 0; strides = n; state = stateOf rows c t₂ s₂ })
+      → {t₁ t₂ : TaskOf (r .state .code)} {s₁ s₂ : Store}
+      → Handles (r .state .code) [] (r .state .store) (r .state .task) p x t₁ s₁ → Normalises (r .state .code) [] s₁ t₁ t₂ s₂ n
+      → HandleAnswers rows ws event (record { number = 0; strides = n; state = stateOf rows (r .state .code) t₂ s₂ })

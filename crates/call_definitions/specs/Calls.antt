@@ -9,9 +9,10 @@ use lib.Dec.{eqb, leb}
 use lib.IntN.{ℤ}
 use lib.ListN.{length, drop}
 use Rattle.decimal.specs.Path.{Path}
-use Rattle.tophat.specs.Syntax.{maxLeaves, Code, TaskOf, Store}
-use Rattle.tophat.specs.Normalising.{value}
+use Rattle.tophat.specs.Syntax.{maxLeaves, Ty, Code, TaskOf, Store}
 use Rattle.tophat.specs.Handling.{Action}
+use Rattle.tophat.proofs.ComputeTyping.{inferTask}
+use Rattle.tophat.proofs.ComputeEvaluation.{overflowsTask}
 use Rattle.tophat.proofs.ComputeNormalising.{failing, normalise, settle, stride}
 use Rattle.tophat.proofs.ComputeHandling.{handle}
 use Rattle.tophat.proofs.ComputeEntries.{entries}
@@ -21,22 +22,29 @@ use Rattle.rows.specs.GroundNumbers.{eventNotRead, notHandled, notAccepted, wro
 use Rattle.rows.specs.Lent.{ownRows, rowCount}
 use Rattle.rows.specs.ComputeTrees.{codeAt, cellTypes, firstStore}
 use Rattle.sheet.specs.Accepted.{acceptsRows}
-use Rattle.state.specs.Layout.{stateWords}
+use Rattle.state.specs.Layout.{stateWords, encodeFailed}
 use Rattle.state.specs.Lent.{ownOf}
-use Rattle.state.specs.Reading.{decode}
-use Rattle.call_definitions.specs.Memory.{stateOf, CallAnswer, refusal, LookAnswer, lookRefusal, flag, valueMemory, hasOne}
+use Rattle.state.specs.Reading.{same, decode}
+use Rattle.call_definitions.specs.Memory.{stateOf, failedOf, CallAnswer, refusal, LookAnswer, lookRefusal, flag, valueMemory, hasOne}
+use Rattle.call_definitions.specs.States.{FlowState, taskState, failedState, valueIn}
 
 -- the code that accepted rows are
 abbrev pub codeOf : List ℤ → Option Code
 codeOf rows = codeAt (ownRows rows) (rowCount rows) (rowCount rows - 1)
+
+-- the cells' first contents
+abbrev pub firstOf : List ℤ → Store
+firstOf rows = firstStore (ownRows rows) (rowCount rows)
 
 -- ---- start
 
 unfoldable pub startWith : List ℤ → List ℤ → Option Code → CallAnswer
 startWith rows ws none = refusal notAccepted ws
 startWith rows ws (some c) =
-    let (t, s, n) = settle c [] (firstStore (ownRows rows) (rowCount rows)) in
-    record { number = 0; strides = n; state = stateOf rows c t s }
+    let (t, s, n) = settle c [] (firstOf rows) in
+    cond (overflowsTask c [] (firstOf rows))
+    (record { number = 0; strides = 1; state = failedOf rows (firstOf rows) })
+    (record { number = 0; strides = n; state = stateOf rows c t s })
 
 -- 01: "start 20, 21"
 unfoldable pub startCall : List ℤ → List ℤ → CallAnswer
@@ -47,23 +55,31 @@ startCall rows ws =
 
 -- ---- look and handle: grounds 20 to 23
 
--- what rows and state words are: the flow's code, its task and its store, or the ground that refuses them
+-- what rows and state words are: a state of the flow, or the ground that refuses them
 pub data Opened : Type 0 where
   refusedBy : ℕ → Opened
-  restOf : (c : Code) → TaskOf c → Store → Opened
+  restOf : FlowState → Opened
 
 -- ground 23: normalising would change it
 unfoldable pub atRest : (c : Code) → TaskOf c → Store → Opened
-atRest c t s = cond (stride c [] s t .2) (refusedBy notAtRest) (restOf c t s)
+atRest c t s = cond (stride c [] s t .2) (refusedBy notAtRest) (restOf (taskState c t s))
+
+-- CR 3: the words hold the last row of this type as failed whole, start fails so, and the cells have their first contents: else ground 22
+unfoldable pub failedAs : List ℤ → List ℤ → Code → Option Ty → Opened
+failedAs rows ws c none = refusedBy notState
+failedAs rows ws c (some τ) =
+    cond (overflowsTask c [] (firstOf rows) && same (encodeFailed (ownRows rows) (rowCount rows) (firstOf rows)) (ownOf (rowCount rows) ws))
+    (restOf (failedState τ (firstOf rows)))
+    (refusedBy notState)
 
 -- ground 22: not the writing of a state
-unfoldable pub decoded : (c : Code) → Option (TaskOf c × Store) → Opened
-decoded c none = refusedBy notState
-decoded c (some r) = atRest c (r .0) (r .1)
+unfoldable pub decoded : List ℤ → List ℤ → (c : Code) → Option (TaskOf c × Store) → Opened
+decoded rows ws c none = failedAs rows ws c (inferTask (cellTypes (ownRows rows) (rowCount rows)) [] c)
+decoded rows ws c (some r) = atRest c (r .0) (r .1)
 
 unfoldable pub readWith : List ℤ → List ℤ → Option Code → Opened
 readWith rows ws none = refusedBy notAccepted
-readWith rows ws (some c) = decoded c (decode (ownRows rows) (rowCount rows) c (cellTypes (ownRows rows) (rowCount rows)) (ownOf (rowCount rows) ws))
+readWith rows ws (some c) = decoded rows ws c (decode (ownRows rows) (rowCount rows) c (cellTypes (ownRows rows) (rowCount rows)) (ownOf (rowCount rows) ws))
 
 -- in this order; `fits` says that the other memories are of their exact length (21)
 unfoldable pub opened : List ℤ → List ℤ → Bool → Opened
@@ -82,13 +98,13 @@ handled rows ws c (some r) =
     record { number = 0; strides = n; state = stateOf rows c t s }
 
 -- ground 8: the event cannot be read
-unfoldable pub handleRead : List ℤ → List ℤ → (c : Code) → TaskOf c → Store → Option (Path × Action) → CallAnswer
-handleRead rows ws c t s none = refusal eventNotRead ws
-handleRead rows ws c t s (some e) = handled rows ws c (handle c [] s t (e .0) (e .1))
+unfoldable pub handleRead : List ℤ → List ℤ → FlowState → Option (Path × Action) → CallAnswer
+handleRead rows ws z none = refusal eventNotRead ws
+handleRead rows ws z (some e) = handled rows ws (z .code) (handle (z .code) [] (z .store) (z .task) (e .0) (e .1))
 
 unfoldable pub handleIn : List ℤ → List ℤ → Option (Path × Action) → Opened → CallAnswer
 handleIn rows ws e (refusedBy g) = refusal g ws
-handleIn rows ws e (restOf c t s) = handleRead rows ws c t s e
+handleIn rows ws e (restOf z) = handleRead rows ws z e
 
 unfoldable pub handleCall : List ℤ → List ℤ → List ℕ → CallAnswer
 handleCall rows ws event = handleIn rows ws (eventOf event) (opened rows ws true)
@@ -98,10 +114,17 @@ handleCall rows ws event = handleIn rows ws (eventOf event) (opened rows ws true
 -- ground 24: list memory under 27 bytes an entry
 unfoldable pub lookIn : List ℤ → List ℕ → Opened → LookAnswer
 lookIn values list (refusedBy g) = lookRefusal g values list
-lookIn values list (restOf c t s) =
-    let es = entries c [] s t in
+lookIn values list (restOf z) =
+    let es = entries (z .code) [] (z .store) (z .task) in
     cond (leb (length es * entryBytes) (length list))
-    (record { number = 0; hasValue = hasOne (value c t s); fails = flag (failing c [] s t); value = valueMemory (value c t s); part = listText es; list = listText es ++ drop (length (listText es)) list })
+    (record {
+      number = 0;
+      hasValue = hasOne (valueIn z);
+      fails = flag (failing (z .code) [] (z .store) (z .task));
+      value = valueMemory (valueIn z);
+      part = listText es;
+      list = listText es ++ drop (length (listText es)) list;
+    })
     (lookRefusal listTooShort values list)
 
 unfoldable pub lookCall : List ℤ → List ℤ → List ℤ → List ℕ → LookAnswer

@@ -9,12 +9,16 @@ use lib.ListN.{replicate}
 use Rattle.tophat.specs.Syntax.{maxLeaves, Code, Val, TaskOf, Store}
 use Rattle.tophat.specs.Leaves.{leavesOf, padded}
 use Rattle.rows.specs.Lent.{ownRows, rowCount}
-use Rattle.state.specs.Layout.{encode}
+use Rattle.state.specs.Layout.{encode, encodeFailed}
 use Rattle.state.specs.Lent.{lentOf}
 
 -- the words of a state of these rows, as lent memory holds them
 unfoldable pub stateOf : List ℤ → (c : Code) → TaskOf c → Store → List ℤ
 stateOf rows c t s = lentOf (rowCount rows) (encode (ownRows rows) (rowCount rows) c t s)
+
+-- and of one whose last row failed as a whole (CR 3)
+unfoldable pub failedOf : List ℤ → Store → List ℤ
+failedOf rows s = lentOf (rowCount rows) (encodeFailed (ownRows rows) (rowCount rows) s)
 
 -- ---- start and handle: number, strides, and the state memory at exit
 

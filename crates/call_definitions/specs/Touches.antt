@@ -11,20 +11,18 @@ use Prim.Native.Nat.{ℕ, _+_, _<_, _≤_}
 use lib.IntN.{ℤ}
 use lib.ListN.{length}
 use Rattle.decimal.specs.Path.{Path}
-use Rattle.tophat.specs.Syntax.{maxLeaves, Ty, Code, TaskOf, Store}
+use Rattle.tophat.specs.Syntax.{maxLeaves, Ty, Code}
 use Rattle.tophat.specs.Typing.{CodeType}
-use Rattle.tophat.specs.Normalising.{Fails}
-use Rattle.tophat.specs.Quiet.{Quiet}
 use Rattle.tophat.specs.Leaves.{Given, Leaf, Meets}
 use Rattle.tophat.specs.Handling.{Act, Action}
 use Rattle.tophat.specs.Residual.{residual}
-use Rattle.tophat.specs.Runs.{Accepts, Refuses}
 use Rattle.formats.specs.Touches.{eventSays, eventOf, entrySays}
 use Rattle.formats.specs.Lists.{entryAt, Entries, CoversAt}
 use Rattle.rows.specs.GroundNumbers.{eventNotRead, notHandled, wrongMemory, listTooShort}
 use Rattle.rows.specs.Rows.{movers}
 use Rattle.rows.specs.Lent.{ownRows, rowCount}
 use Rattle.call_definitions.specs.Memory.{refusal, lookRefusal}
+use Rattle.call_definitions.specs.States.{FlowState, TypedState, FailsIn, QuietIn, AcceptsIn, RefusesIn}
 use Rattle.call_definitions.specs.Answers.{HasRoom, Writes, IsRest, LookAnswers, HandleAnswers}
 use Rattle.call_definitions.specs.Calls.{startCall, handleCall, lookCall}
 
@@ -55,11 +53,12 @@ Bounded rows n = n ≤ 1 + movers (ownRows rows) (rowCount rows)
 -- ---- what holds of the state words of a flow after any list of calls
 
 pub record Stands (rows ws : List ℤ) (c : Code) (Σ : List Ty) (τ : Ty) : Type 0 where
-  -- they are the writing of a task of the flow's own type and of a store of the cells' types, at rest, and of no other
+  -- they are the writing of a state, at rest, and of no other: a task of the flow's own type and a store of the cells' types
   pub rest : IsRest rows ws c Σ τ
-  pub only : (t : TaskOf c) (s : Store) → Writes rows ws c Σ τ t s → (t ≡ rest .task) × (s ≡ rest .store)
+  pub only : (z : FlowState) → Writes rows ws c Σ τ z → z ≡ rest .state
+  pub typed : TypedState Σ τ (rest .state)
   -- 01: the typing rules, read with its contents, values, sides and right sides in place, give the task that type
-  pub residual-typed : CodeType Σ [] (residual c (rest .task)) τ
+  pub residual-typed : CodeType Σ [] (residual (rest .state .code) (rest .state .task)) τ
   -- look, with every value memory and list memory: 21, else 24, else 0; and then the part that it hands back is the list shown
   pub shown : List ℕ
   pub misfit : (values : List ℤ) (list : List ℕ)
@@ -77,9 +76,9 @@ pub record Stands (rows ws : List ℤ) (c : Code) (Σ : List Ty) (τ : Ty) : Typ
   pub answers : (event : List ℕ) (p : Path) (x : Action) → eventOf event ≡ some (p, x)
       → (handleCall rows ws event ≡ refusal notHandled ws) ⊎ (handleCall rows ws event .number ≡ 0)
   pub refused : (event : List ℕ) (p : Path) (x : Action) → eventOf event ≡ some (p, x)
-      → (handleCall rows ws event .number ≡ notHandled) ↔ Refuses c (rest .task) (rest .store) p x
+      → (handleCall rows ws event .number ≡ notHandled) ↔ RefusesIn (rest .state) p x
   pub taken : (event : List ℕ) (p : Path) (x : Action) → eventOf event ≡ some (p, x)
-      → (handleCall rows ws event .number ≡ 0) ↔ Accepts c (rest .task) (rest .store) p x
+      → (handleCall rows ws event .number ≡ 0) ↔ AcceptsIn (rest .state) p x
   -- all that it answers and leaves is derived by the rules
   pub handled : (event : List ℕ) → HandleAnswers rows ws event (handleCall rows ws event)
   pub bounded : (event : List ℕ) → Bounded rows (handleCall rows ws event .strides)
@@ -93,12 +92,12 @@ pub record Stands (rows ws : List ℤ) (c : Code) (Σ : List Ty) (τ : Ty) : Typ
   pub said : (i : ℕ) → i < count → {p : Path} {a : Act} {ks : List Leaf} → entrySays (entryAt shown i) ≡ some (p, a, ks)
       → {ls : List Given} → Meets ks ls → (event : List ℕ) × (eventSays event ≡ some (p, a, ls))
   -- it is empty exactly when the task is quiet (CR 1)
-  pub empty-iff-quiet : (shown ≡ []) ↔ Quiet c [] (rest .store) (rest .task)
+  pub empty-iff-quiet : (shown ≡ []) ↔ QuietIn (rest .state)
   -- the failing flag is 1 exactly where the rules say that the task fails, 0 exactly where they say that it does not, and they say one of
   -- the two; a task that fails is quiet, and a quiet one need not fail
   pub fails-is-1 : (values : List ℤ) (list : List ℕ) → lookCall rows ws values list .number ≡ 0
-      → (lookCall rows ws values list .fails ≡ 1) ↔ Fails c [] (rest .store) (rest .task) true
+      → (lookCall rows ws values list .fails ≡ 1) ↔ FailsIn (rest .state) true
   pub fails-is-0 : (values : List ℤ) (list : List ℕ) → lookCall rows ws values list .number ≡ 0
-      → (lookCall rows ws values list .fails ≡ 0) ↔ Fails c [] (rest .store) (rest .task) false
-  pub fails-decided : Fails c [] (rest .store) (rest .task) true ⊎ Fails c [] (rest .store) (rest .task) false
-  pub failing-quiet : Fails c [] (rest .store) (rest .task) true → Quiet c [] (rest .store) (rest .task)
+      → (lookCall rows ws values list .fails ≡ 0) ↔ FailsIn (rest .state) false
+  pub fails-decided : FailsIn (rest .state) true ⊎ FailsIn (rest .state) false
+  pub failing-quiet : FailsIn (rest .state) true → QuietIn (rest .state)

@@ -12,7 +12,7 @@ use Rattle.tophat.specs.Normalising.{value}
 use Rattle.tophat.specs.Handling.{continue}
 use Rattle.tophat.specs.Showing.{buttonIf}
 use Rattle.tophat.proofs.ComputeEvaluation.{evaluate}
-use Rattle.tophat.proofs.ComputeNormalising.{failing}
+use Rattle.tophat.proofs.ComputeNormalising.{rightFails}
 use Rattle.tophat.proofs.ComputeEntries.{continueIf}
 use Rattle.tophat.proofs.Preservation.{option-is, value-type}
 use Rattle.rows.specs.Rows.{opA}
@@ -44,6 +44,6 @@ module _ (rs ws : List ℕ) (i : ℕ) (env : List ℕ) (d a : ℕ) (e : a ≡ op
       flag v q true p = p .0
       flag v q false p = p .0
 
-      by : (o : Option Val) → f ≡ asFound o → ((v : Val) → o ≡ some v → ValueType v τ) → buttonIf r continue ≡ continueIf o (λ v. failing b (v ∷ ρ) (evaluate b (v ∷ ρ) s .1) (evaluate b (v ∷ ρ) s .0))
+      by : (o : Option Val) → f ≡ asFound o → ((v : Val) → o ≡ some v → ValueType v τ) → buttonIf r continue ≡ continueIf o (λ v. rightFails b (v ∷ ρ) s)
       by none p m = differ (sym n ∙ ap (λ f. f .has) p)
-      by (some v) p m = ap (λ z. buttonIf z continue) (flag v (evaluate b (v ∷ ρ) s) (failing b (v ∷ ρ) (evaluate b (v ∷ ρ) s .1) (evaluate b (v ∷ ρ) s .0)) (h a b (inr k) Σ Γ τ υ s ρ t v (ap (λ f. f .value) p) (m v refl) y x w g))
+      by (some v) p m = ap (λ z. buttonIf z continue) (flag v (evaluate b (v ∷ ρ) s) (rightFails b (v ∷ ρ) s) (h a b (inr k) Σ Γ τ υ s ρ t v (ap (λ f. f .value) p) (m v refl) y x w g))

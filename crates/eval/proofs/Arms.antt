@@ -1,7 +1,7 @@
 -- What each arm of `eval` ensures, from what the calls in it ensure: one law a kind. Rests on crate state's laws of frames and
 -- on the calculus' preservation of types by evaluation.
 use mathlib.Core.Path.{_≡_, refl, sym, ap, ap₂, _∙_, subst}
-use mathlib.Core.Bool.{Bool, true, false}
+use mathlib.Core.Bool.{Bool, true, false, _||_}
 use mathlib.Core.List.{List, _∷_}
 use mathlib.Core.Logic.{⊎-elim}
 use Prim.Native.Nat.{ℕ, _+_, _≤_, _<_}
@@ -14,7 +14,7 @@ use mir.Val.{toZ}
 use Rattle.tophat.specs.Syntax.{maxLeaves, Ty, pair, leaves, Op, Exp, ebinder, eop, eif, epair, efst, esnd, ederef, eassign, elet}
 use Rattle.tophat.specs.Syntax.{Val, vunit, vtruth, vnumber, vpair, Env, Store}
 use Rattle.tophat.specs.Typing.{At, here, there, HasType, t-var, t-op, t-if, t-pair, t-fst, t-snd, t-deref, t-assign, t-let, ValueType, v-pair, ValueTypes, v-cons, typeOf}
-use Rattle.tophat.proofs.ComputeEvaluation.{isTrue, apply, firstPart, secondPart, branch, eval}
+use Rattle.tophat.proofs.ComputeEvaluation.{isTrue, firstPart, secondPart, branch, eval, overflows}
 use Rattle.tophat.proofs.EvaluationAgrees.{look-up, eval-good}
 use Rattle.tophat.proofs.Leaves.{type-of}
 use Rattle.tophat.proofs.TypeLeaves.{at-leaves, type-leaves}
@@ -23,9 +23,11 @@ use Rattle.rows.specs.Rows.{word, opA, opB, opC, OfKind, FromKind, UpToKind}
 use Rattle.rows.specs.Enclosing.{maxBinders}
 use Rattle.rows.specs.Trees.{operatorOf}
 use Rattle.value.specs.declared.Value.{Value}
+use Rattle.value.specs.declared.Evaluation.{Evaluation}
 use Rattle.value.specs.Values.{asValue, firstNumber, pairValue, firstValue, secondValue}
+use Rattle.value.specs.Evaluations.{sureOf, afterOver, applied}
 use Rattle.value.proofs.Operators.{differ}
-use Rattle.value.proofs.Meaning.{leaf-word, true-value, apply-value, pair-value, first-value, second-value}
+use Rattle.value.proofs.Meaning.{leaf-word, true-value, applied-value, pair-value, first-value, second-value}
 use Rattle.state.specs.Layout.{own}
 use Rattle.state.specs.Holds.{Cell, World}
 use Rattle.state.specs.Words.{wordsOf, Laid, valueAt, binderAt, Pushed}
@@ -61,17 +63,22 @@ pub record After (rs ws env : List ℕ) (d : ℕ) (Σ Γ : List Ty) (e : Exp) (�
   pub small : leaves τ ≤ maxLeaves
   pub world : World rs ws env d Σ Γ (eval e ρ s .1) ρ
 
-pub after : {rs ws ws₁ env : List ℕ} {d : ℕ} {Σ Γ : List Ty} {τ : Ty} {s : Store} {ρ : Env} {x : Value} (e : Exp)
-    → HasType Σ Γ e τ → World rs ws env d Σ Γ s ρ → Evaluated rs ws ws₁ x (eval e ρ s .0) (eval e ρ s .1) → After rs ws₁ env d Σ Γ e τ s ρ
+pub after : {rs ws ws₁ env : List ℕ} {d : ℕ} {Σ Γ : List Ty} {τ : Ty} {s : Store} {ρ : Env} {x : Evaluation} (e : Exp)
+    → HasType Σ Γ e τ → World rs ws env d Σ Γ s ρ → Evaluated rs ws ws₁ x (eval e ρ s .0) (eval e ρ s .1) (overflows e ρ s) → After rs ws₁ env d Σ Γ e τ s ρ
 after {s = s} {ρ = ρ} e t w p =
     let g = eval-good t ρ s (w .bindersTyped) (w .storeTyped) in
     record { typed = g .typed; small = type-leaves t (w .storeSmall) (w .bindersSmall); world = world-after w (p .stores) (g .kept) }
 
--- a branch by a truth
-pub branch-value : {X Y : Type 0} (c : Bool) (f g : X → Y) (z : X) (P : Y → Type 0) → (c ≡ true → P (f z)) → (c ≡ false → P (g z)) → P (branch c f g z)
+-- two branches by one truth
+pub branch-both : {X Y Z : Type 0} (c : Bool) (f g : X → Y) (h k : X → Z) (x : X) (P : Y → Z → Type 0) → (c ≡ true → P (f x) (h x)) → (c ≡ false → P (g x) (k x)) → P (branch c f g x) (branch c h k x)
 unfolding branch
-branch-value true f g z P h k = h refl
-branch-value false f g z P h k = k refl
+branch-both true f g h k x P p q = p refl
+branch-both false f g h k x P p q = q refl
+
+-- a flag with one that is not set
+or-none : (x : Bool) → x || false ≡ x
+or-none true = refl
+or-none false = refl
 
 -- a typed place is in the list
 pub in-list : {vs : List Val} {τs : List Ty} {n : ℕ} {τ : Ty} → ValueTypes vs τs → At τs n τ → n < length vs
@@ -84,131 +91,154 @@ small-parts g h l = subst (λ n. n ≤ maxLeaves) (sym (ap₂ (λ τ υ. leaves 
 
 module _ (rs : List ℕ) (i : ℕ) (env : List ℕ) (d : ℕ) where
   -- what holds of a row holds of it by any name
-  at-row : {ws ws₁ : List ℕ} {a b : ℕ} {x : Value} → a ≡ b → EvalOk rs ws ws₁ a env d x → EvalOk rs ws ws₁ b env d x
+  at-row : {ws ws₁ : List ℕ} {a b : ℕ} {x : Evaluation} → a ≡ b → EvalOk rs ws ws₁ a env d x → EvalOk rs ws ws₁ b env d x
   at-row {ws} {ws₁} {x = x} q h = subst (λ k. EvalOk rs ws ws₁ k env d x) q h
 
   -- ---- constants and binders
 
-  pub eval-unit : (r : Value) → OfKind rs i (plainK eunitK) → r ≡ asValue vunit → (ws : List ℕ) → EvalOk rs ws ws i env d r
-  unfolding eval
-  eval-unit r q e ws = on-exp rs d i (plainK eunitK) (EvalAt rs ws ws i env d r) q (λ p Σ Γ τ s ρ t w. record { answer = e; stores = w .stores; same = same-refl })
+  pub eval-unit : (r : Value) → OfKind rs i (plainK eunitK) → r ≡ asValue vunit → (ws : List ℕ) → EvalOk rs ws ws i env d (sureOf r)
+  unfolding eval overflows
+  eval-unit r q e ws = on-exp rs d i (plainK eunitK) (EvalAt rs ws ws i env d (sureOf r)) q (λ p Σ Γ τ s ρ t w. record { answer = e; over = refl; stores = w .stores; same = same-refl })
 
-  pub eval-truth : (r : Value) (a : ℕ) → OfKind rs i (plainK etruthK) → a ≡ opA rs i → r ≡ asValue (vtruth (eqb a 1)) → (ws : List ℕ) → EvalOk rs ws ws i env d r
-  unfolding eval
-  eval-truth r a q z e ws = on-exp rs d i (plainK etruthK) (EvalAt rs ws ws i env d r) q (λ b p Σ Γ τ s ρ t w. record {
+  pub eval-truth : (r : Value) (a : ℕ) → OfKind rs i (plainK etruthK) → a ≡ opA rs i → r ≡ asValue (vtruth (eqb a 1)) → (ws : List ℕ) → EvalOk rs ws ws i env d (sureOf r)
+  unfolding eval overflows
+  eval-truth r a q z e ws = on-exp rs d i (plainK etruthK) (EvalAt rs ws ws i env d (sureOf r)) q (λ b p Σ Γ τ s ρ t w. record {
     answer = e ∙ ap (λ b. asValue (vtruth b)) (ap (λ a. eqb a 1) z ∙ p .1);
+    over = refl;
     stores = w .stores;
     same = same-refl;
   })
 
-  pub eval-number : (r : Value) (a : ℕ) → OfKind rs i (plainK enumberK) → a ≡ opA rs i → r ≡ asValue (vnumber (toZ w32 a)) → (ws : List ℕ) → EvalOk rs ws ws i env d r
-  unfolding eval
-  eval-number r a q z e ws = on-exp rs d i (plainK enumberK) (EvalAt rs ws ws i env d r) q (λ n p Σ Γ τ s ρ t w. record {
+  pub eval-number : (r : Value) (a : ℕ) → OfKind rs i (plainK enumberK) → a ≡ opA rs i → r ≡ asValue (vnumber (toZ w32 a)) → (ws : List ℕ) → EvalOk rs ws ws i env d (sureOf r)
+  unfolding eval overflows
+  eval-number r a q z e ws = on-exp rs d i (plainK enumberK) (EvalAt rs ws ws i env d (sureOf r)) q (λ n p Σ Γ τ s ρ t w. record {
     answer = e ∙ ap (λ n. asValue (vnumber n)) (ap (toZ w32) z ∙ p .1);
+    over = refl;
     stores = w .stores;
     same = same-refl;
   })
 
-  binder-value : (r : Value) (ws : List ℕ) (k : ℕ) → r ≡ binderAt env d k → EvalAt rs ws ws i env d r (ebinder k)
-  unfolding eval
+  binder-value : (r : Value) (ws : List ℕ) (k : ℕ) → r ≡ binderAt env d k → EvalAt rs ws ws i env d (sureOf r) (ebinder k)
+  unfolding eval overflows
   binder-value r ws k e Σ Γ τ s ρ (t-var h) w = record {
     answer = e ∙ binder-at (w .binders) (let l = in-list (w .bindersTyped) h in let c = w .binders .count in omega arith) (look-up (w .bindersTyped) h .1) (at-leaves h (w .bindersSmall));
+    over = refl;
     stores = w .stores;
     same = same-refl;
   }
 
-  pub eval-binder : (r : Value) (a : ℕ) → OfKind rs i (plainK ebinderK) → a ≡ opA rs i → r ≡ binderAt env d a → (ws : List ℕ) → EvalOk rs ws ws i env d r
-  eval-binder r a q z e ws = on-exp rs d i (plainK ebinderK) (EvalAt rs ws ws i env d r) q (λ k p. binder-value r ws k (e ∙ ap (binderAt env d) (z ∙ p .1)))
+  pub eval-binder : (r : Value) (a : ℕ) → OfKind rs i (plainK ebinderK) → a ≡ opA rs i → r ≡ binderAt env d a → (ws : List ℕ) → EvalOk rs ws ws i env d (sureOf r)
+  eval-binder r a q z e ws = on-exp rs d i (plainK ebinderK) (EvalAt rs ws ws i env d (sureOf r)) q (λ k p. binder-value r ws k (e ∙ ap (binderAt env d) (z ∙ p .1)))
 
   -- ---- one operand or two, left to right
 
-  module _ (ws ws₁ ws₂ : List ℕ) (x y r : Value) where
-    op-value : (o : Op) (a b : Exp) → EvalAt rs ws ws₁ i env d x a → EvalAt rs ws₁ ws₂ i env d y b → r ≡ asValue (apply o (firstNumber x) (firstNumber y)) → EvalAt rs ws ws₂ i env d r (eop o a b)
-    unfolding eval
+  module _ (ws ws₁ ws₂ : List ℕ) (x y r : Evaluation) where
+    -- what an operator on the two answers
+    abbrev Op-result : Op → Type 0
+    Op-result o = r ≡ afterOver (x .over) (afterOver (y .over) (applied o (firstNumber (x .value)) (firstNumber (y .value))))
+
+    abbrev Pair-result : Type 0
+    Pair-result = r ≡ afterOver (x .over) (afterOver (y .over) (sureOf (pairValue (x .value) (y .value))))
+
+    op-value : (o : Op) (a b : Exp) → EvalAt rs ws ws₁ i env d x a → EvalAt rs ws₁ ws₂ i env d y b → Op-result o → EvalAt rs ws ws₂ i env d r (eop o a b)
+    unfolding eval overflows
     op-value o a b ha hb e Σ Γ τ s ρ (t-op h ta tb) w =
         let p = ha Σ Γ _ s ρ ta w in
         let q = after a ta w p in
         let p₁ = hb Σ Γ _ _ ρ tb (q .world) in
         let q₁ = after b tb (q .world) p₁ in
+        let z = ap₂ (λ x y. applied o (firstNumber x) (firstNumber y)) (p .answer) (p₁ .answer) ∙ applied-value o _ _ (leaf-word (q .typed)) (leaf-word (q₁ .typed)) in
         record {
-          answer = e ∙ ap₂ (λ x y. asValue (apply o (firstNumber x) (firstNumber y))) (p .answer) (p₁ .answer) ∙ ap asValue (apply-value o _ _ (leaf-word (q .typed)) (leaf-word (q₁ .typed)));
+          answer = ap (λ r. r .value) e ∙ ap (λ r. r .value) z;
+          over = ap (λ r. r .over) e ∙ (λ j. p .over j || (p₁ .over j || z j .over));
           stores = p₁ .stores;
           same = same-trans (p .same) (p₁ .same);
         }
 
     pub eval-op : (b c o : ℕ) → OfKind rs i (plainK eopK) → b ≡ opB rs i → c ≡ opC rs i → o ≡ opA rs i → EvalOk rs ws ws₁ b env d x → EvalOk rs ws₁ ws₂ c env d y
-        → r ≡ asValue (apply (operatorOf o) (firstNumber x) (firstNumber y)) → EvalOk rs ws ws₂ i env d r
+        → Op-result (operatorOf o) → EvalOk rs ws ws₂ i env d r
     eval-op b c o q eb ec eo hb hc e = on-exp rs d i (plainK eopK) (EvalAt rs ws ws₂ i env d r) q (λ o₁ a₁ b₁ p.
-        op-value o₁ a₁ b₁ (at-row eb hb a₁ (p .2)) (at-row ec hc b₁ (p .3)) (e ∙ ap (λ o. asValue (apply o (firstNumber x) (firstNumber y))) (ap operatorOf eo ∙ p .1)))
+        op-value o₁ a₁ b₁ (at-row eb hb a₁ (p .2)) (at-row ec hc b₁ (p .3)) (subst Op-result (ap operatorOf eo ∙ p .1) e))
 
-    pair-at : (a b : Exp) → EvalAt rs ws ws₁ i env d x a → EvalAt rs ws₁ ws₂ i env d y b → r ≡ pairValue x y → EvalAt rs ws ws₂ i env d r (epair a b)
-    unfolding eval leaves
+    pair-at : (a b : Exp) → EvalAt rs ws ws₁ i env d x a → EvalAt rs ws₁ ws₂ i env d y b → Pair-result → EvalAt rs ws ws₂ i env d r (epair a b)
+    unfolding eval overflows leaves
     pair-at a b ha hb e Σ Γ τ s ρ (t-pair {τ = τ₁} {υ = υ₁} ta tb l) w =
         let p = ha Σ Γ _ s ρ ta w in
         let q = after a ta w p in
         let p₁ = hb Σ Γ _ _ ρ tb (q .world) in
         let q₁ = after b tb (q .world) p₁ in
         record {
-          answer = e ∙ ap₂ pairValue (p .answer) (p₁ .answer) ∙ pair-value _ _ (small-parts (q .typed) (q₁ .typed) l);
+          answer = ap (λ r. r .value) e ∙ ap₂ pairValue (p .answer) (p₁ .answer) ∙ pair-value _ _ (small-parts (q .typed) (q₁ .typed) l);
+          over = ap (λ r. r .over) e ∙ ap₂ _||_ (p .over) (or-none (y .over) ∙ p₁ .over);
           stores = p₁ .stores;
           same = same-trans (p .same) (p₁ .same);
         }
 
-    pub eval-pair : (a b : ℕ) → OfKind rs i (plainK epairK) → a ≡ opA rs i → b ≡ opB rs i → EvalOk rs ws ws₁ a env d x → EvalOk rs ws₁ ws₂ b env d y → r ≡ pairValue x y → EvalOk rs ws ws₂ i env d r
+    pub eval-pair : (a b : ℕ) → OfKind rs i (plainK epairK) → a ≡ opA rs i → b ≡ opB rs i → EvalOk rs ws ws₁ a env d x → EvalOk rs ws₁ ws₂ b env d y → Pair-result → EvalOk rs ws ws₂ i env d r
     eval-pair a b q ea eb ha hb e = on-exp rs d i (plainK epairK) (EvalAt rs ws ws₂ i env d r) q (λ a₁ b₁ p. pair-at a₁ b₁ (at-row ea ha a₁ (p .1)) (at-row eb hb b₁ (p .2)) e)
 
-  module _ (ws ws₁ : List ℕ) (x r : Value) where
-    first-of-pair : (v : Val) {τ υ : Ty} → ValueType v (pair τ υ) → leaves (pair τ υ) ≤ maxLeaves → x ≡ asValue v → r ≡ firstValue x → r ≡ asValue (firstPart v)
+  module _ (ws ws₁ : List ℕ) (x : Evaluation) (v : Value) where
+    -- what a part of the pair that x is answers
+    abbrev Part-result : Evaluation
+    Part-result = afterOver (x .over) (sureOf v)
+
+    first-of-pair : (u : Val) {τ υ : Ty} → ValueType u (pair τ υ) → leaves (pair τ υ) ≤ maxLeaves → x .value ≡ asValue u → v ≡ firstValue (x .value) → v ≡ asValue (firstPart u)
     unfolding firstPart leaves
-    first-of-pair (vpair v w) (v-pair g h) l e f =
-        f ∙ ap firstValue e ∙ first-value v w (small-parts g h l)
+    first-of-pair (vpair u w) (v-pair g h) l e f =
+        f ∙ ap firstValue e ∙ first-value u w (small-parts g h l)
 
-    second-of-pair : (v : Val) {τ υ : Ty} → ValueType v (pair τ υ) → leaves (pair τ υ) ≤ maxLeaves → x ≡ asValue v → r ≡ secondValue x → r ≡ asValue (secondPart v)
+    second-of-pair : (u : Val) {τ υ : Ty} → ValueType u (pair τ υ) → leaves (pair τ υ) ≤ maxLeaves → x .value ≡ asValue u → v ≡ secondValue (x .value) → v ≡ asValue (secondPart u)
     unfolding secondPart leaves
-    second-of-pair (vpair v w) (v-pair g h) l e f =
-        f ∙ ap secondValue e ∙ second-value v w (small-parts g h l)
+    second-of-pair (vpair u w) (v-pair g h) l e f =
+        f ∙ ap secondValue e ∙ second-value u w (small-parts g h l)
 
-    first-at : (a : Exp) → EvalAt rs ws ws₁ i env d x a → r ≡ firstValue x → EvalAt rs ws ws₁ i env d r (efst a)
-    unfolding eval
+    first-at : (a : Exp) → EvalAt rs ws ws₁ i env d x a → v ≡ firstValue (x .value) → EvalAt rs ws ws₁ i env d Part-result (efst a)
+    unfolding eval overflows
     first-at a ha e Σ Γ τ s ρ (t-fst ta) w =
         let p = ha Σ Γ _ s ρ ta w in
         let q = after a ta w p in
-        record { answer = first-of-pair _ (q .typed) (q .small) (p .answer) e; stores = p .stores; same = p .same }
+        record { answer = first-of-pair _ (q .typed) (q .small) (p .answer) e; over = or-none (x .over) ∙ p .over; stores = p .stores; same = p .same }
 
-    second-at : (a : Exp) → EvalAt rs ws ws₁ i env d x a → r ≡ secondValue x → EvalAt rs ws ws₁ i env d r (esnd a)
-    unfolding eval
+    second-at : (a : Exp) → EvalAt rs ws ws₁ i env d x a → v ≡ secondValue (x .value) → EvalAt rs ws ws₁ i env d Part-result (esnd a)
+    unfolding eval overflows
     second-at a ha e Σ Γ τ s ρ (t-snd ta) w =
         let p = ha Σ Γ _ s ρ ta w in
         let q = after a ta w p in
-        record { answer = second-of-pair _ (q .typed) (q .small) (p .answer) e; stores = p .stores; same = p .same }
+        record { answer = second-of-pair _ (q .typed) (q .small) (p .answer) e; over = or-none (x .over) ∙ p .over; stores = p .stores; same = p .same }
 
-    pub eval-first : (a : ℕ) → OfKind rs i (plainK efstK) → a ≡ opA rs i → EvalOk rs ws ws₁ a env d x → r ≡ firstValue x → EvalOk rs ws ws₁ i env d r
-    eval-first a q ea ha e = on-exp rs d i (plainK efstK) (EvalAt rs ws ws₁ i env d r) q (λ a₁ p. first-at a₁ (at-row ea ha a₁ (p .1)) e)
+    module _ (r : Evaluation) (z : r ≡ Part-result) where
+      eval-first : (a : ℕ) → OfKind rs i (plainK efstK) → a ≡ opA rs i → EvalOk rs ws ws₁ a env d x → v ≡ firstValue (x .value) → EvalOk rs ws ws₁ i env d r
+      eval-first a q ea ha e = on-exp rs d i (plainK efstK) (EvalAt rs ws ws₁ i env d r) q (λ a₁ p. subst (λ r. EvalAt rs ws ws₁ i env d r (efst a₁)) (sym z) (first-at a₁ (at-row ea ha a₁ (p .1)) e))
 
-    pub eval-second : (a : ℕ) → OfKind rs i (plainK esndK) → a ≡ opA rs i → EvalOk rs ws ws₁ a env d x → r ≡ secondValue x → EvalOk rs ws ws₁ i env d r
-    eval-second a q ea ha e = on-exp rs d i (plainK esndK) (EvalAt rs ws ws₁ i env d r) q (λ a₁ p. second-at a₁ (at-row ea ha a₁ (p .1)) e)
+      eval-second : (a : ℕ) → OfKind rs i (plainK esndK) → a ≡ opA rs i → EvalOk rs ws ws₁ a env d x → v ≡ secondValue (x .value) → EvalOk rs ws ws₁ i env d r
+      eval-second a q ea ha e = on-exp rs d i (plainK esndK) (EvalAt rs ws ws₁ i env d r) q (λ a₁ p. subst (λ r. EvalAt rs ws ws₁ i env d r (esnd a₁)) (sym z) (second-at a₁ (at-row ea ha a₁ (p .1)) e))
 
-    -- kinds 27 and 28
-    pub eval-part : (a k : ℕ) → k ≡ word rs i 0 → numberOf (plainK efstK) ≤ k → k < numberOf (plainK ederefK) → a ≡ opA rs i → EvalOk rs ws ws₁ a env d x → (k ≡ numberOf (plainK efstK) → r ≡ firstValue x) × (k ≡ numberOf (plainK esndK) → r ≡ secondValue x) → EvalOk rs ws ws₁ i env d r
-    eval-part a k q l h ea ha e = ⊎-elim
-        (λ z. eval-first a (sym q ∙ sym z) ea ha (e .0 (sym z)))
-        (λ z. let y : k ≡ numberOf (plainK esndK) = omega arith in eval-second a (sym q ∙ y) ea ha (e .1 y))
-        (eq-or-lt-of-le l)
+      -- kinds 27 and 28
+      pub eval-part : (a k : ℕ) → k ≡ word rs i 0 → numberOf (plainK efstK) ≤ k → k < numberOf (plainK ederefK) → a ≡ opA rs i → EvalOk rs ws ws₁ a env d x
+          → (k ≡ numberOf (plainK efstK) → v ≡ firstValue (x .value)) × (k ≡ numberOf (plainK esndK) → v ≡ secondValue (x .value)) → EvalOk rs ws ws₁ i env d r
+      eval-part a k q l h ea ha e = ⊎-elim
+          (λ z. eval-first a (sym q ∙ sym z) ea ha (e .0 (sym z)))
+          (λ z. let y : k ≡ numberOf (plainK esndK) = omega arith in eval-second a (sym q ∙ y) ea ha (e .1 y))
+          (eq-or-lt-of-le l)
 
   -- ---- a test, and the branch that it names
 
-  module _ (ws ws₁ ws₂ : List ℕ) (x r : Value) (b : Bool) (e : b ≡ isTrue (firstNumber x)) where
-    if-at : (u v w : Exp) → EvalAt rs ws ws₁ i env d x u → (b ≡ true → EvalAt rs ws₁ ws₂ i env d r v) → (b ≡ false → EvalAt rs ws₁ ws₂ i env d r w) → EvalAt rs ws ws₂ i env d r (eif u v w)
-    unfolding eval
+  module _ (ws ws₁ ws₂ : List ℕ) (x y r : Evaluation) (f : r ≡ afterOver (x .over) y) (b : Bool) (e : b ≡ isTrue (firstNumber (x .value))) where
+    if-at : (u v w : Exp) → EvalAt rs ws ws₁ i env d x u → (b ≡ true → EvalAt rs ws₁ ws₂ i env d y v) → (b ≡ false → EvalAt rs ws₁ ws₂ i env d y w) → EvalAt rs ws ws₂ i env d r (eif u v w)
+    unfolding eval overflows
     if-at u v w hu hv hw Σ Γ τ s ρ (t-if tu tv tw) o =
         let p = hu Σ Γ _ s ρ tu o in
         let q = after u tu o p in
         let z : b ≡ isTrue (eval u ρ s .0) = e ∙ ap (λ x. isTrue (firstNumber x)) (p .answer) ∙ true-value _ (leaf-word (q .typed)) in
-        branch-value (isTrue (eval u ρ s .0)) (λ s. eval v ρ s) (λ s. eval w ρ s) (eval u ρ s .1) (λ y. Evaluated rs ws ws₂ r (y .0) (y .1))
-        (λ c. let p₁ = hv (z ∙ c) Σ Γ _ _ ρ tv (q .world) in record { answer = p₁ .answer; stores = p₁ .stores; same = same-trans (p .same) (p₁ .same) })
-        (λ c. let p₁ = hw (z ∙ c) Σ Γ _ _ ρ tw (q .world) in record { answer = p₁ .answer; stores = p₁ .stores; same = same-trans (p .same) (p₁ .same) })
+        let side : (v : Exp) → Evaluated rs ws₁ ws₂ y (eval v ρ (eval u ρ s .1) .0) (eval v ρ (eval u ρ s .1) .1) (overflows v ρ (eval u ρ s .1))
+        → Evaluated rs ws ws₂ r (eval v ρ (eval u ρ s .1) .0) (eval v ρ (eval u ρ s .1) .1) (overflows u ρ s || overflows v ρ (eval u ρ s .1))
+        = λ v p₁. record { answer = ap (λ r. r .value) f ∙ p₁ .answer; over = ap (λ r. r .over) f ∙ ap₂ _||_ (p .over) (p₁ .over); stores = p₁ .stores; same = same-trans (p .same) (p₁ .same) } in
+        branch-both (isTrue (eval u ρ s .0)) (λ s. eval v ρ s) (λ s. eval w ρ s) (λ s. overflows v ρ s) (λ s. overflows w ρ s) (eval u ρ s .1)
+        (λ y z. Evaluated rs ws ws₂ r (y .0) (y .1) (overflows u ρ s || z))
+        (λ c. side v (hv (z ∙ c) Σ Γ _ _ ρ tv (q .world)))
+        (λ c. side w (hw (z ∙ c) Σ Γ _ _ ρ tw (q .world)))
 
-    module _ (a k : ℕ) (q : OfKind rs i (eitherK ifK)) (ea : a ≡ opA rs i) (ha : EvalOk rs ws ws₁ a env d x) (hk : EvalOk rs ws₁ ws₂ k env d r) where
+    module _ (a k : ℕ) (q : OfKind rs i (eitherK ifK)) (ea : a ≡ opA rs i) (ha : EvalOk rs ws ws₁ a env d x) (hk : EvalOk rs ws₁ ws₂ k env d y) where
       pub eval-if-true : b ≡ true → k ≡ opB rs i → EvalOk rs ws ws₂ i env d r
       eval-if-true c ek = on-exp rs d i (eitherK ifK) (EvalAt rs ws ws₂ i env d r) q (λ u v w p.
           if-at u v w (at-row ea ha u (p .1)) (λ _. at-row ek hk v (p .2)) (λ f. differ (sym c ∙ f)))
@@ -219,52 +249,58 @@ module _ (rs : List ℕ) (i : ℕ) (env : List ℕ) (d : ℕ) where
 
   -- ---- cells
 
-  content-at : (ws : List ℕ) (r : Value) (k : ℕ) → Cell rs k → r ≡ valueAt ws k → EvalAt rs ws ws i env d r (ederef k)
-  unfolding eval
+  content-at : (ws : List ℕ) (r : Value) (k : ℕ) → Cell rs k → r ≡ valueAt ws k → EvalAt rs ws ws i env d (sureOf r) (ederef k)
+  unfolding eval overflows
   content-at ws r k c e Σ Γ τ s ρ (t-deref h) w = record {
     answer = e ∙ value-at (w .stores .cells k c) (look-up (w .storeTyped) h .1) (at-leaves h (w .storeSmall));
+    over = refl;
     stores = w .stores;
     same = same-refl;
   }
 
-  pub eval-content : (ws : List ℕ) (r : Value) (a : ℕ) → OfKind rs i (plainK ederefK) → a ≡ opA rs i → r ≡ valueAt ws a → EvalOk rs ws ws i env d r
-  eval-content ws r a q ea e = on-exp rs d i (plainK ederefK) (EvalAt rs ws ws i env d r) q (λ k p. content-at ws r k (p .2) (e ∙ ap (valueAt ws) (ea ∙ p .1)))
+  pub eval-content : (ws : List ℕ) (r : Value) (a : ℕ) → OfKind rs i (plainK ederefK) → a ≡ opA rs i → r ≡ valueAt ws a → EvalOk rs ws ws i env d (sureOf r)
+  eval-content ws r a q ea e = on-exp rs d i (plainK ederefK) (EvalAt rs ws ws i env d (sureOf r)) q (λ k p. content-at ws r k (p .2) (e ∙ ap (valueAt ws) (ea ∙ p .1)))
 
-  module _ (ws ws₁ ws₂ : List ℕ) (x r : Value) where
-    assign-at : (k : ℕ) (a : Exp) → Cell rs k → EvalAt rs ws ws₁ i env d x a → Laid ws₁ ws₂ k (own ∷ wordsOf x) → r ≡ asValue vunit → EvalAt rs ws ws₂ i env d r (eassign k a)
-    unfolding eval
+  module _ (ws ws₁ ws₂ : List ℕ) (x r : Evaluation) where
+    -- what an assignment of x answers
+    abbrev Assigned : Type 0
+    Assigned = r ≡ afterOver (x .over) (sureOf (asValue vunit))
+
+    assign-at : (k : ℕ) (a : Exp) → Cell rs k → EvalAt rs ws ws₁ i env d x a → Laid ws₁ ws₂ k (own ∷ wordsOf (x .value)) → Assigned → EvalAt rs ws ws₂ i env d r (eassign k a)
+    unfolding eval overflows
     assign-at k a c ha l e Σ Γ τ s ρ (t-assign h ta) w =
         let p = ha Σ Γ _ s ρ ta w in
         let q = after a ta w p in
         let l₁ = laid-as (eval a ρ s .0) l (p .answer) in
         record {
-          answer = e;
+          answer = ap (λ r. r .value) e;
+          over = ap (λ r. r .over) e ∙ or-none (x .over) ∙ p .over;
           stores = stores-set (eval a ρ s .1) k (eval a ρ s .0) (p .stores) l₁ (in-list (q .world .storeTyped) h);
           same = same-trans (p .same) (laid-same l₁ c);
         }
 
-    pub eval-assign : (a b : ℕ) → OfKind rs i (plainK eassignK) → a ≡ opA rs i → b ≡ opB rs i → EvalOk rs ws ws₁ b env d x → Laid ws₁ ws₂ a (own ∷ wordsOf x) → r ≡ asValue vunit → EvalOk rs ws ws₂ i env d r
+    pub eval-assign : (a b : ℕ) → OfKind rs i (plainK eassignK) → a ≡ opA rs i → b ≡ opB rs i → EvalOk rs ws ws₁ b env d x → Laid ws₁ ws₂ a (own ∷ wordsOf (x .value)) → Assigned → EvalOk rs ws ws₂ i env d r
     eval-assign a b q ea eb hb l e = on-exp rs d i (plainK eassignK) (EvalAt rs ws ws₂ i env d r) q (λ k a₁ p.
-        assign-at k a₁ (p .2) (at-row eb hb a₁ (p .3)) (subst (λ k. Laid ws₁ ws₂ k (own ∷ wordsOf x)) (ea ∙ p .1) l) e)
+        assign-at k a₁ (p .2) (at-row eb hb a₁ (p .3)) (subst (λ k. Laid ws₁ ws₂ k (own ∷ wordsOf (x .value))) (ea ∙ p .1) l) e)
 
   -- ---- a binder
 
-  module _ (ws ws₁ ws₂ env₁ : List ℕ) (x r : Value) where
-    let-at : (a b : Exp) → EvalAt rs ws ws₁ i env d x a → Pushed env env₁ d x → EvalAt rs ws₁ ws₂ i env₁ (d + 1) r b → EvalAt rs ws ws₂ i env d r (elet a b)
-    unfolding eval
+  module _ (ws ws₁ ws₂ env₁ : List ℕ) (x y r : Evaluation) (f : r ≡ afterOver (x .over) y) where
+    let-at : (a b : Exp) → EvalAt rs ws ws₁ i env d x a → Pushed env env₁ d (x .value) → EvalAt rs ws₁ ws₂ i env₁ (d + 1) y b → EvalAt rs ws ws₂ i env d r (elet a b)
+    unfolding eval overflows
     let-at a b ha u hb Σ Γ τ s ρ (t-let ta tb) w =
         let p = ha Σ Γ _ s ρ ta w in
         let q = after a ta w p in
         let p₁ = hb Σ _ _ _ _ tb (world-push (eval a ρ s .0) (q .world) u (p .answer) (q .typed) (q .small)) in
-        record { answer = p₁ .answer; stores = p₁ .stores; same = same-trans (p .same) (p₁ .same) }
+        record { answer = ap (λ r. r .value) f ∙ p₁ .answer; over = ap (λ r. r .over) f ∙ ap₂ _||_ (p .over) (p₁ .over); stores = p₁ .stores; same = same-trans (p .same) (p₁ .same) }
 
-    pub eval-let : (a b : ℕ) → OfKind rs i (eitherK letK) → a ≡ opA rs i → b ≡ opB rs i → EvalOk rs ws ws₁ a env d x → Pushed env env₁ d x → EvalOk rs ws₁ ws₂ b env₁ (d + 1) r → EvalOk rs ws ws₂ i env d r
+    pub eval-let : (a b : ℕ) → OfKind rs i (eitherK letK) → a ≡ opA rs i → b ≡ opB rs i → EvalOk rs ws ws₁ a env d x → Pushed env env₁ d (x .value) → EvalOk rs ws₁ ws₂ b env₁ (d + 1) y → EvalOk rs ws ws₂ i env d r
     eval-let a b q ea eb ha u hb = on-exp rs d i (eitherK letK) (EvalAt rs ws ws₂ i env d r) q (λ a₁ b₁ p.
-        let-at a₁ b₁ (at-row ea ha a₁ (p .1)) u (subst (λ k. EvalOk rs ws₁ ws₂ k env₁ (d + 1) r) eb hb b₁ (p .2)))
+        let-at a₁ b₁ (at-row ea ha a₁ (p .1)) u (subst (λ k. EvalOk rs ws₁ ws₂ k env₁ (d + 1) y) eb hb b₁ (p .2)))
 
   -- no expression sits under more binders than there may be, nor at a row of another kind
-  pub eval-deep : (ws ws₁ : List ℕ) (r : Value) → OfKind rs i (eitherK letK) → maxBinders ≤ d → EvalOk rs ws ws₁ i env d r
+  pub eval-deep : (ws ws₁ : List ℕ) (r : Evaluation) → OfKind rs i (eitherK letK) → maxBinders ≤ d → EvalOk rs ws ws₁ i env d r
   eval-deep ws ws₁ r q h = on-exp rs d i (eitherK letK) (EvalAt rs ws ws₁ i env d r) q (λ a b p. absurd (let l = p .3 in omega arith))
 
-  pub eval-none : (ws : List ℕ) (r : Value) → (FromKind rs i (plainK eunitK) → UpToKind rs i (eitherK letK) → ⊥) → EvalOk rs ws ws i env d r
+  pub eval-none : (ws : List ℕ) (r : Evaluation) → (FromKind rs i (plainK eunitK) → UpToKind rs i (eitherK letK) → ⊥) → EvalOk rs ws ws i env d r
   eval-none ws r n = on-no-exp rs d i (EvalAt rs ws ws i env d r) n

@@ -12,13 +12,16 @@ use state::env_get;
 use state::pushed;
 use state::put_value;
 use state::read_value;
+use value::Evaluation;
 use value::Value;
+use value::after;
 use value::apply;
 use value::first;
 use value::is_true;
 use value::number;
 use value::pair;
 use value::second;
+use value::sure;
 use value::truth;
 use value::unit;
 ghost use mathlib.Core.Path.{_≡_};
@@ -28,6 +31,7 @@ ghost use Rattle.rows.specs.Kinds.{plainK, eunitK, ebinderK, efstK, esndK, numb
 ghost use Rattle.rows.specs.Rows.{maxRows, word};
 ghost use Rattle.rows.specs.Enclosing.{maxBinders};
 ghost use Rattle.value.specs.Values.{firstValue, secondValue};
+ghost use Rattle.value.specs.Evaluations.{sureOf};
 ghost use Rattle.state.specs.Contracts.{Fine, EvalOk};
 
 // A constant, or a binder's value: what needs no other row and no state.
@@ -39,7 +43,7 @@ fn constant(
     kind: u32,
 ) -> Value
     requires { ⌜ (row < maxRows) × (depth ≤ maxBinders) × (kind ≡ word (now rows) row 0) × (numberOf (plainK eunitK) ≤ kind) × (kind ≤ numberOf (plainK ebinderK)) ⌝ }
-    ensures { λ r. ⌜ ((ws : List ℕ) → EvalOk (now (rows .entry)) ws ws row (now (env .entry)) depth r) ⌝ }
+    ensures { λ r. ⌜ ((ws : List ℕ) → EvalOk (now (rows .entry)) ws ws row (now (env .entry)) depth (sureOf r)) ⌝ }
 {
     match kind {
         20 => unit(),
@@ -59,54 +63,61 @@ fn part(a: Value, kind: u32) -> Value
     second(a)
 }
 
+// The expression at the row: its value, and whether a result left the words on the way. Evaluation goes on after that, in words that the
+// caller then drops.
 pub fn eval(
     rows: &[u32; ROWS_WORDS],
     state: &mut [u32; STATE_SIZE],
     row: usize,
     env: &[u32; ENV_WORDS],
     depth: usize,
-) -> Value
+) -> Evaluation
     requires { ⌜ Fine (now rows) row depth ⌝ }
     ensures { λ r. ⌜ EvalOk (now (rows .entry)) (now (state .entry)) (now (state .exit)) row (now (env .entry)) depth r ⌝ }
 {
     let kind = get(rows, row, 0);
     match kind {
-        20..=23 => constant(rows, row, env, depth, kind),
+        20..=23 => sure(constant(rows, row, env, depth, kind)),
         24 => {
             let x = eval(rows, state, operand(rows, row, 2), env, depth);
             let y = eval(rows, state, operand(rows, row, 3), env, depth);
-            apply(get(rows, row, 1), x, y)
+            let z = apply(get(rows, row, 1), x.value, y.value);
+            after(x.over, after(y.over, z))
         }
         25 => {
             let test = eval(rows, state, operand(rows, row, 1), env, depth);
-            if is_true(test) {
-                return eval(rows, state, operand(rows, row, 2), env, depth);
+            if is_true(test.value) {
+                let taken = eval(rows, state, operand(rows, row, 2), env, depth);
+                return after(test.over, taken);
             }
-            eval(rows, state, operand(rows, row, 3), env, depth)
+            let other = eval(rows, state, operand(rows, row, 3), env, depth);
+            after(test.over, other)
         }
         26 => {
             let a = eval(rows, state, operand(rows, row, 1), env, depth);
             let b = eval(rows, state, operand(rows, row, 2), env, depth);
-            pair(a, b)
+            let both = pair(a.value, b.value);
+            after(a.over, after(b.over, sure(both)))
         }
         27..=28 => {
             let whole = eval(rows, state, operand(rows, row, 1), env, depth);
-            part(whole, kind)
+            after(whole.over, sure(part(whole.value, kind)))
         }
-        29 => read_value(state, operand(rows, row, 1)),
+        29 => sure(read_value(state, operand(rows, row, 1))),
         30 => {
             let content = eval(rows, state, operand(rows, row, 2), env, depth);
-            put_value(state, operand(rows, row, 1), OWN, content);
-            unit()
+            put_value(state, operand(rows, row, 1), OWN, content.value);
+            after(content.over, sure(unit()))
         }
         31 => {
             let bound = eval(rows, state, operand(rows, row, 1), env, depth);
             if MAX_BINDERS <= depth {
-                return unit();
+                return sure(unit());
             }
-            let inner = pushed(env, depth, bound);
-            eval(rows, state, operand(rows, row, 2), &inner, depth + 1)
+            let inner = pushed(env, depth, bound.value);
+            let body = eval(rows, state, operand(rows, row, 2), &inner, depth + 1);
+            after(bound.over, body)
         }
-        _ => unit(),
+        _ => sure(unit()),
     }
 }

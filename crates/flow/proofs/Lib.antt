@@ -1,6 +1,8 @@
 pub mod TaskRows
 pub mod SiteLaws
 pub mod OpenLaws
+pub mod FirstLaws
+pub mod FailedLaws
 pub mod StartLaws
 pub mod EventLaws
 pub mod TakeLaws

@@ -21,6 +21,7 @@ use Rattle.decimal.specs.Path.{pathOf}
 use Rattle.tophat.specs.Syntax.{maxLeaves, Ty, Code, Val, TaskOf, Store}
 use Rattle.tophat.specs.Typing.{small-nil}
 use Rattle.tophat.specs.Normalising.{value}
+use Rattle.tophat.proofs.Basics.{apart}
 use Rattle.tophat.proofs.ComputeNormalising.{failing}
 use Rattle.tophat.proofs.ComputeEntries.{entries}
 use Rattle.tophat.proofs.EntriesQuiet.{failing-empty}
@@ -28,7 +29,7 @@ use Rattle.tophat.proofs.Preservation.{OptionType, o-some, value-type}
 use Rattle.rows.specs.GroundNumbers.{listTooShort}
 use Rattle.rows.specs.Rows.{maxRows}
 use Rattle.value.specs.declared.Found.{Found}
-use Rattle.value.specs.Values.{asValue}
+use Rattle.value.specs.Values.{asValue, noValue}
 use Rattle.value.specs.Found.{asFound}
 use Rattle.value.proofs.Meaning.{leaves-back}
 use Rattle.state.specs.Contracts.{Fine, ValueOk}
@@ -40,10 +41,11 @@ use Rattle.entries.proofs.Bounds.{entries-whole}
 use Rattle.flow.specs.declared.look.Looked.{Looked}
 use Rattle.flow.specs.declared.open.Opening.{Opening}
 use Rattle.call_definitions.specs.Memory.{lookRefusal, flag, valueMemory, hasOne}
+use Rattle.call_definitions.specs.States.{FlowState, taskState}
 use Rattle.call_definitions.specs.Calls.{Opened, refusedBy, restOf, opened, lookIn, lookCall}
 use Rattle.call_definitions.proofs.LookAnswered.{looking}
-use Rattle.flow.specs.Opens.{Ready, Opens, OpenOk}
-use Rattle.flow.specs.Looks.{Filled, FailsOk, ShowOk, LookOk}
+use Rattle.flow.specs.Opens.{Ready, OpensTo, to-task, to-failed, Opens, OpenOk}
+use Rattle.flow.specs.Looks.{Filled, FailsOk, ShowOk, ShowFailedOk, LookOk}
 use Rattle.flow.proofs.SiteLaws.{sits, around, small, marks, few-tasks, ready-writing}
 use Rattle.flow.proofs.OpenLaws.{opened-fine, opened-fits}
 
@@ -91,14 +93,14 @@ module _ (own words env work work₁ : List ℕ) (n bytes : ℕ) (room : length 
     taken : take bytes work₁ ≡ text
     taken = ap (take bytes) (listed .whole) ∙ take-at text (drop (length text) work) bytes (sym (listed .count))
 
-    refuses : (vs : List ℤ) (list : List ℕ) → length list < bytes → lookIn vs list (restOf c t s) ≡ lookRefusal listTooShort vs list
+    refuses : (vs : List ℤ) (list : List ℕ) → length list < bytes → lookIn vs list (restOf (taskState c t s)) ≡ lookRefusal listTooShort vs list
     unfolding lookIn
     refuses vs list l =
         let e = counted in
         let b : leb (length (entries c [] s t) * entryBytes) (length list) ≡ false = lt-leb (length (entries c [] s t) * entryBytes) (length list) (omega (arith, l, e)) in
         rw b refl
 
-    answers : (vs : List ℤ) (list : List ℕ) → bytes ≤ length list → lookIn vs list (restOf c t s) ≡ looking c t s (entries c [] s t) (failing c [] s t) list
+    answers : (vs : List ℤ) (list : List ℕ) → bytes ≤ length list → lookIn vs list (restOf (taskState c t s)) ≡ looking (taskState c t s) (entries c [] s t) (failing c [] s t) list
     unfolding lookIn
     answers vs list l =
         let e = counted in
@@ -134,6 +136,13 @@ module _ (own words env work work₁ : List ℕ) (n bytes : ℕ) (room : length 
           list = o ∙ ap₂ _++_ (taken x) (ap (λ n. drop n list) (y .count));
         })
 
+-- a last row that failed as a whole
+pub show-failed : (vs vs₁ : List ℤ) → vs₁ ≡ laid (toZ w32) (noValue .leaves) vs → ShowFailedOk vs (record { number = 0; valued = 0; fails = 1; bytes = 0 }) vs₁
+unfolding lookIn entries failing value hasOne listText valueMemory
+show-failed vs vs₁ e τ s list l =
+    let b : leb (0 * entryBytes) (length list) ≡ true = le-leb (0 * entryBytes) (length list) (omega arith) in
+    rw b (record { number = refl; hasValue = refl; fails = refl; bytes = refl; value = e ∙ laid-all (noValue .leaves) vs (sym l); list = refl })
+
 -- ---- what `open` leaves
 
 module _ (rows ws vs : List ℤ) (list own words : List ℕ) (r : Opening) (h : OpenOk rows ws (eqb (length vs) maxLeaves) own words r) where
@@ -143,18 +152,34 @@ module _ (rows ws vs : List ℤ) (list own words : List ℕ) (r : Opening) (h : 
     where
       by : (o : Opened) → Opens rows ws own words r o → Filled (lookIn vs list o) (shut (r .number)) vs list
       by (refusedBy g) x = record { number = x .0; hasValue = refl; fails = refl; bytes = refl; value = refl; list = refl }
-      by (restOf c t s) x = absurd (z (x .0))
+      by (restOf q) x = absurd (z (x .0))
 
-  pub fill-fine : r .number ≡ 0 → (1 ≤ r .n) × Fine own (r .n - 1) 0
-  fill-fine z = let f = opened-fine rows ws own words r (opened rows ws (eqb (length vs) maxLeaves)) h z in (f .0, f .2)
+  pub fill-fine : r .number ≡ 0 → r .failed ≡ false → (1 ≤ r .n) × Fine own (r .n - 1) 0
+  fill-fine z n = let f = opened-fine rows ws own words r (opened rows ws (eqb (length vs) maxLeaves)) h z n in (f .0, f .2)
 
-  pub fill-ready : r .number ≡ 0 → (a : Looked) (vs₁ : List ℤ) (list₁ : List ℕ) → ShowOk own words (r .n) vs list a vs₁ list₁ → Filled (lookCall rows ws vs list) a vs₁ list₁
+  -- a rest is opened, of a task or of a row that failed
+  by-found : r .number ≡ 0 → {a : Looked} {vs₁ : List ℤ} {list₁ : List ℕ} → ((q : FlowState) → OpensTo rows ws own words r q → length vs ≡ maxLeaves → Filled (lookIn vs list (restOf q)) a vs₁ list₁)
+      → Filled (lookCall rows ws vs list) a vs₁ list₁
   unfolding lookCall
-  fill-ready z a vs₁ list₁ g = by (opened rows ws (eqb (length vs) maxLeaves)) refl h
+  by-found z {a} {vs₁} {list₁} g = by (opened rows ws (eqb (length vs) maxLeaves)) refl h
     where
       by : (o : Opened) → opened rows ws (eqb (length vs) maxLeaves) ≡ o → Opens rows ws own words r o → Filled (lookIn vs list o) a vs₁ list₁
       by (refusedBy k) e x = let p = x .0 in let q = x .1 in absurd (omega (arith, p, q, z))
-      by (restOf c t s) e x = g rows ws c t s (x .1) (eqb-true (length vs) maxLeaves (opened-fits rows ws (eqb (length vs) maxLeaves) e))
+      by (restOf q) e x = g q (x .1) (eqb-true (length vs) maxLeaves (opened-fits rows ws (eqb (length vs) maxLeaves) e))
+
+  pub fill-ready : r .number ≡ 0 → r .failed ≡ false → (a : Looked) (vs₁ : List ℤ) (list₁ : List ℕ) → ShowOk own words (r .n) vs list a vs₁ list₁ → Filled (lookCall rows ws vs list) a vs₁ list₁
+  fill-ready z n a vs₁ list₁ g = by-found z (λ q f. by f)
+    where
+      by : {q : FlowState} → OpensTo rows ws own words r q → length vs ≡ maxLeaves → Filled (lookIn vs list (restOf q)) a vs₁ list₁
+      by (to-task {c} {t} {s} k y) l = g rows ws c t s y l
+      by (to-failed k) l = apart k n
+
+  pub fill-failed : r .number ≡ 0 → r .failed ≡ true → (a : Looked) (vs₁ : List ℤ) → ShowFailedOk vs a vs₁ → Filled (lookCall rows ws vs list) a vs₁ list
+  fill-failed z n a vs₁ g = by-found z (λ q f. by f)
+    where
+      by : {q : FlowState} → OpensTo rows ws own words r q → length vs ≡ maxLeaves → Filled (lookIn vs list (restOf q)) a vs₁ list
+      by (to-task k y) l = apart n k
+      by (to-failed {τ} {s} k) l = g τ s list l
 
 -- the part that is handed back is the front of the list
 pub part-is : (rows ws vs : List ℤ) (list : List ℕ) (a : Looked) (vs₁ : List ℤ) (list₁ : List ℕ) → Filled (lookCall rows ws vs list) a vs₁ list₁
@@ -168,9 +193,10 @@ part-is rows ws vs list a vs₁ list₁ h =
   where
     front : (o : Opened) → (length (lookIn vs list o .part) ≤ length (lookIn vs list o .list)) × (take (length (lookIn vs list o .part)) (lookIn vs list o .list) ≡ lookIn vs list o .part)
     front (refusedBy g) = (omega arith, refl)
-    front (restOf c t s) = cases (leb (length (entries c [] s t) * entryBytes) (length list))
-        (λ y. let l = length-append (listText (entries c [] s t)) (drop (length (listText (entries c [] s t))) list) in
-        rw y (omega (arith, l), take-at (listText (entries c [] s t)) (drop (length (listText (entries c [] s t))) list) (length (listText (entries c [] s t))) refl))
+    front (restOf z) =
+        let es = entries (z .code) [] (z .store) (z .task) in
+        cases (leb (length es * entryBytes) (length list))
+        (λ y. let l = length-append (listText es) (drop (length (listText es)) list) in rw y (omega (arith, l), take-at (listText es) (drop (length (listText es)) list) (length (listText es)) refl))
         (λ y. rw y (omega arith, refl))
 
 -- ---- bytes over the front of a list, one by one

@@ -23,7 +23,7 @@ use Rattle.state.specs.Writing.{Writing}
 use Rattle.state.proofs.Encode.{writing-same, padded-same, taken-same}
 use Rattle.state.proofs.SitsOf.{last-sits, within, fine, state-writing, state-is}
 use Rattle.call_definitions.specs.Memory.{stateOf}
-use Rattle.call_definitions.specs.Answers.{AcceptedFlow, HasRoom, Writes}
+use Rattle.call_definitions.specs.Answers.{AcceptedFlow, HasRoom, WritesTask}
 use Rattle.call_definitions.proofs.Flows.{loads-passed}
 use Rattle.call_definitions.proofs.Opening.{flowRows, past, moving, marks-fit, state-length, state-own}
 use Rattle.flow.specs.Opens.{Site, Ready}
@@ -49,7 +49,7 @@ module _ {rows : List ℤ} {own : List ℕ} {n : ℕ} {c : Code} {Σ : List Ty} 
   pub room-is : (ws : List ℤ) → length ws ≡ n * stateWords → HasRoom rows ws
   room-is ws l = l ∙ ap (λ k. k * stateWords) (z .count)
 
-  pub writes-room : {ws : List ℤ} {t : TaskOf c} {s : Store} → Writes rows ws c Σ τ t s → length ws ≡ n * stateWords
+  pub writes-room : {ws : List ℤ} {t : TaskOf c} {s : Store} → WritesTask rows ws c Σ τ t s → length ws ≡ n * stateWords
   writes-room w = ap length (w .written) ∙ state-length a (w .typed) (w .stored) ∙ ap (λ k. k * stateWords) (sym (z .count))
 
   -- ---- what the engine's functions ask
@@ -91,7 +91,7 @@ module _ {rows : List ℤ} {own : List ℕ} {n : ℕ} {c : Code} {Σ : List Ty} 
 
   module _ {words : List ℕ} {t : TaskOf c} {s : Store} where
     -- the words of the lent state, copied in
-    pub written-in : {ws : List ℤ} → Writes rows ws c Σ τ t s → words ≡ ownOf n ws ++ replicate (stateSize - n * stateWords) 0 → Writing own (n - 1) c t s words
+    pub written-in : {ws : List ℤ} → WritesTask rows ws c Σ τ t s → words ≡ ownOf n ws ++ replicate (stateSize - n * stateWords) 0 → Writing own (n - 1) c t s words
     written-in {ws} w e =
         let o : ownOf (rowCount rows) ws ≡ encode (ownRows rows) (rowCount rows) c t s = ap (ownOf (rowCount rows)) (w .written) ∙ state-own a (w .typed) (w .stored) in
         let v = state-writing (ownRows rows) (rowCount rows) (flowRows a) (past a) (w .typed) (w .stored) .0 in
@@ -117,7 +117,7 @@ module _ {rows : List ℤ} {own : List ℕ} {n : ℕ} {c : Code} {Σ : List Ty} 
           ap (λ us. lentOf n us) (front-is refl (length-take-le (n * stateWords) words (omega (arith, l, f)))) ∙ ap (λ k. lentOf k (encode (ownRows rows) (rowCount rows) c t s)) (z .count)
 
       -- lent words that were copied in are the writing of what the words hold
-      pub copied-in : {ws : List ℤ} → length ws ≡ n * stateWords → AllWords ws → words ≡ ownOf n ws ++ replicate (stateSize - n * stateWords) 0 → Writes rows ws c Σ τ t s
+      pub copied-in : {ws : List ℤ} → length ws ≡ n * stateWords → AllWords ws → words ≡ ownOf n ws ++ replicate (stateSize - n * stateWords) 0 → WritesTask rows ws c Σ τ t s
       unfolding stateOf
       copied-in {ws} l w e =
           let m = own-length n ws ∙ l in

@@ -12,7 +12,7 @@ use Rattle.decimal.specs.Path.{Path}
 use Rattle.tophat.specs.Syntax.{Code, TaskOf, Store}
 use Rattle.tophat.specs.Typing.{v-nil}
 use Rattle.tophat.specs.Handling.{Action}
-use Rattle.tophat.proofs.Basics.{All, all-some}
+use Rattle.tophat.proofs.Basics.{apart, All, all-some}
 use Rattle.tophat.proofs.ComputeHandling as compute
 use Rattle.tophat.proofs.NormalisingSound.{normalise-sound}
 use Rattle.tophat.proofs.HandlingSound.{GoodHandling, handles-sound}
@@ -26,9 +26,10 @@ use Rattle.flow.specs.declared.open.Opening.{Opening}
 use Rattle.flow.specs.declared.event.EventReading.{EventReading}
 use Rattle.flow.specs.declared.answer.Answer.{Answer}
 use Rattle.formats.specs.Touches.{eventOf}
+use Rattle.call_definitions.specs.States.{FlowState}
 use Rattle.call_definitions.specs.Calls.{Opened, refusedBy, restOf, handled, handleRead, handleIn, handleCall, opened}
 use Rattle.call_definitions.specs.Touches.{Bounded}
-use Rattle.flow.specs.Opens.{Ready, Opens}
+use Rattle.flow.specs.Opens.{Ready, OpensTo, to-task, to-failed, Opens}
 use Rattle.flow.specs.Starts.{Answered}
 use Rattle.flow.specs.Reads.{Says}
 use Rattle.flow.specs.Takes.{TakeOk}
@@ -44,7 +45,7 @@ module _ (rows ws : List ℤ) (own words : List ℕ) (r : Opening) (e : EventRea
   take-shut : (x : Opened) → Opens rows ws own words r x → (r .number ≡ 0 → ⊥) → (o : Option (Path × Action)) (z : Answer) → Refused z (r .number) → Answered (handleIn rows ws o x) z ws × Bounded rows (z .strides)
   unfolding handleIn
   take-shut (refusedBy g) p n o z h = refused-as rows ws g refl (h .0 ∙ p .0, h .1)
-  take-shut (restOf c t s) p n o z h = absurd (n (p .0))
+  take-shut (restOf q) p n o z h = absurd (n (p .0))
 
   pub take-refused : Opens rows ws own words r (opened rows ws true) → (r .number ≡ 0 → ⊥) → (z : Answer) → Refused z (r .number) → TakeOk rows ws e z ws
   take-refused p n z h o y = take-shut (opened rows ws true) p n o z h
@@ -54,13 +55,28 @@ module _ (rows ws : List ℤ) (own words : List ℕ) (r : Opening) (e : EventRea
       → Answered (handleIn rows ws o x) z ws × Bounded rows (z .strides)
   unfolding handleIn handleRead
   take-unread (refusedBy g) p n f o y z h = let a = p .0 in let b = p .1 in absurd (omega (arith, a, b, n))
-  take-unread (restOf c t s) p n f none y z h = refused-as rows ws eventNotRead refl h
-  take-unread (restOf c t s) p n f (some q) y z h = absurd (false≢true (sym f ∙ y .0))
+  take-unread (restOf q) p n f none y z h = refused-as rows ws eventNotRead refl h
+  take-unread (restOf v) p n f (some q) y z h = absurd (false≢true (sym f ∙ y .0))
 
   pub take-8 : Opens rows ws own words r (opened rows ws true) → r .number ≡ 0 → not (e .readable) ≡ true → (z : Answer) → Refused z eventNotRead → TakeOk rows ws e z ws
   take-8 p n f z h o y = take-unread (opened rows ws true) p n (not-true (e .readable) f) o y z h
 
-  module _ (n : r .number ≡ 0) (f : not (e .readable) ≡ false) (w₁ env : List ℕ) (b : Bool) (k : HandleOk own words w₁ (r .n - 1) env 0 (eventPath (e .event)) (eventAction (e .event)) b) where
+  -- ground 9: a last row that failed as a whole takes nothing
+  take-none : (x : Opened) → Opens rows ws own words r x → r .number ≡ 0 → r .failed ≡ true → (o : Option (Path × Action)) → (e .readable ≡ true) → Says e o → (z : Answer) → Refused z notHandled
+      → Answered (handleIn rows ws o x) z ws × Bounded rows (z .strides)
+  unfolding handleIn handleRead handled compute.handle
+  take-none (refusedBy g) p n f o g₁ y z h = let a = p .0 in let b = p .1 in absurd (omega (arith, a, b, n))
+  take-none (restOf q) p n f o g y z h = by (p .1) o y
+    where
+      by : {q : FlowState} → OpensTo rows ws own words r q → (o : Option (Path × Action)) → Says e o → Answered (handleRead rows ws q o) z ws × Bounded rows (z .strides)
+      by (to-task k y) o u = apart f k
+      by (to-failed k) none u = absurd (false≢true (sym u ∙ g))
+      by (to-failed k) (some v) u = refused-as rows ws notHandled refl h
+
+  pub take-failed : Opens rows ws own words r (opened rows ws true) → r .number ≡ 0 → not (e .readable) ≡ false → r .failed ≡ true → (z : Answer) → Refused z notHandled → TakeOk rows ws e z ws
+  take-failed p n g f z h o y = take-none (opened rows ws true) p n f o (not-false (e .readable) g) y z h
+
+  module _ (n : r .number ≡ 0) (nf : r .failed ≡ false) (f : not (e .readable) ≡ false) (w₁ env : List ℕ) (b : Bool) (k : HandleOk own words w₁ (r .n - 1) env 0 (eventPath (e .event)) (eventAction (e .event)) b) where
     module _ {c : Code} {t : TaskOf c} {s : Store} (y : Ready rows ws own words (r .n) c t s) where
       handled-as : (q : Path × Action) → Says e (some q) → Handled own words w₁ (r .n - 1) env 0 c b (compute.handle c [] s t (q .0) (q .1))
       handled-as q h =
@@ -88,8 +104,12 @@ module _ (rows ws : List ℤ) (own words : List ℕ) (r : Opening) (e : EventRea
     in-9 : (x : Opened) → Opens rows ws own words r x → b ≡ false → (o : Option (Path × Action)) → Says e o → (z : Answer) → Refused z notHandled → Answered (handleIn rows ws o x) z ws × Bounded rows (z .strides)
     unfolding handleIn handleRead
     in-9 (refusedBy g) p a o h z u = let x = p .0 in let v = p .1 in absurd (omega (arith, x, v, n))
-    in-9 (restOf c t s) p a none h z u = absurd (false≢true (sym h ∙ not-false (e .readable) f))
-    in-9 (restOf c t s) p a (some q) h z u = by-9 (p .1) _ (handled-as (p .1) q h) a z u
+    in-9 (restOf v) p a none h z u = absurd (false≢true (sym h ∙ not-false (e .readable) f))
+    in-9 (restOf v) p a (some q) h z u = by (p .1)
+      where
+        by : {v : FlowState} → OpensTo rows ws own words r v → Answered (handled rows ws (v .code) (compute.handle (v .code) [] (v .store) (v .task) (q .0) (q .1))) z ws × Bounded rows (z .strides)
+        by (to-task k y) = by-9 y _ (handled-as y q h) a z u
+        by (to-failed k) = apart k nf
 
     pub take-9 : Opens rows ws own words r (opened rows ws true) → not b ≡ true → (z : Answer) → Refused z notHandled → TakeOk rows ws e z ws
     take-9 p a z u o h = in-9 (opened rows ws true) p (not-true b a) o h z u
@@ -98,18 +118,24 @@ module _ (rows ws : List ℤ) (own words : List ℕ) (r : Opening) (e : EventRea
       in-0 : (x : Opened) → Opens rows ws own words r x → b ≡ true → (o : Option (Path × Action)) → Says e o → Answered (handleIn rows ws o x) (record { number = 0; strides = j }) out × Bounded rows j
       unfolding handleIn handleRead
       in-0 (refusedBy g) p a o h = let u = p .0 in let v = p .1 in absurd (omega (arith, u, v, n))
-      in-0 (restOf c t s) p a none h = absurd (false≢true (sym h ∙ not-false (e .readable) f))
-      in-0 (restOf c t s) p a (some q) h =
-          let y = p .1 in
-          by-0 y w₂ env₂ j out nm l ou _ (q .0) (q .1) (handles-sound c [] s t (q .0) (q .1) (y .writes .typed) v-nil (y .writes .stored)) (handled-as y q h) a
+      in-0 (restOf v) p a none h = absurd (false≢true (sym h ∙ not-false (e .readable) f))
+      in-0 (restOf v) p a (some q) h = by (p .1)
+        where
+          by : {v : FlowState} → OpensTo rows ws own words r v → Answered (handled rows ws (v .code) (compute.handle (v .code) [] (v .store) (v .task) (q .0) (q .1))) (record { number = 0; strides = j }) out × Bounded rows j
+          by (to-task {c} {t} {s} k y) = by-0 y w₂ env₂ j out nm l ou _ (q .0) (q .1) (handles-sound c [] s t (q .0) (q .1) (y .writes .typed) v-nil (y .writes .stored)) (handled-as y q h) a
+          by (to-failed k) = apart k nf
 
       pub take-0 : Opens rows ws own words r (opened rows ws true) → not b ≡ false → TakeOk rows ws e (record { number = 0; strides = j }) out
       take-0 p a o h = in-0 (opened rows ws true) p (not-false b a) o h
 
--- the memory of a state that is opened is of its size
-pub opened-room : (rows ws : List ℤ) (own words : List ℕ) (r : Opening) (o : Opened) → Opens rows ws own words r o → r .number ≡ 0 → length ws ≡ r .n * stateWords
-opened-room rows ws own words r (refusedBy g) x z = let p = x .0 in let q = x .1 in absurd (omega (arith, p, q, z))
-opened-room rows ws own words r (restOf c t s) x z = let y = x .1 in writes-room (y .site) (y .writes)
+-- the memory of a task that is opened is of its size
+pub opened-room : (rows ws : List ℤ) (own words : List ℕ) (r : Opening) (o : Opened) → Opens rows ws own words r o → r .number ≡ 0 → r .failed ≡ false → length ws ≡ r .n * stateWords
+opened-room rows ws own words r (refusedBy g) x z f = let p = x .0 in let q = x .1 in absurd (omega (arith, p, q, z))
+opened-room rows ws own words r (restOf q) x z f = by (x .1)
+  where
+    by : {q : FlowState} → OpensTo rows ws own words r q → length ws ≡ r .n * stateWords
+    by (to-task k y) = writes-room (y .site) (y .writes)
+    by (to-failed k) = apart k f
 
 -- handle: its event's bytes read, then taken
 pub take-handles : (rows ws : List ℤ) (event : List ℕ) (e : EventReading) (r : Answer) (out : List ℤ) → Says e (eventOf event) → TakeOk rows ws e r out → Answered (handleCall rows ws event) r out × Bounded rows (r .strides)

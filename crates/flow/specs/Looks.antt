@@ -6,12 +6,13 @@ use mathlib.Core.List.{List}
 use Prim.Native.Nat.{ℕ, _*_}
 use lib.IntN.{ℤ}
 use lib.ListN.{length, replicate}
-use Rattle.tophat.specs.Syntax.{maxLeaves, Code, TaskOf, Store}
+use Rattle.tophat.specs.Syntax.{maxLeaves, Ty, Code, TaskOf, Store}
 use Rattle.rows.specs.Enclosing.{maxBinders}
 use Rattle.state.specs.Holds.{valueLength}
 use Rattle.state.specs.Contracts.{FailingOk}
 use Rattle.flow.specs.declared.look.Looked.{Looked}
 use Rattle.call_definitions.specs.Memory.{LookAnswer}
+use Rattle.call_definitions.specs.States.{taskState, failedState}
 use Rattle.call_definitions.specs.Calls.{restOf, lookIn}
 use Rattle.flow.specs.Opens.{Ready}
 
@@ -30,7 +31,11 @@ FailsOk own words i bytes r = (bytes ≡ 0 → FailingOk own words i (replicate 
 -- what is shown of a rest that is opened
 abbrev pub ShowOk : List ℕ → List ℕ → ℕ → List ℤ → List ℕ → Looked → List ℤ → List ℕ → Type 0
 ShowOk own words n vs list r vs₁ list₁ = (rows ws : List ℤ) (c : Code) (t : TaskOf c) (s : Store) → Ready rows ws own words n c t s → length vs ≡ maxLeaves
-    → Filled (lookIn vs list (restOf c t s)) r vs₁ list₁
+    → Filled (lookIn vs list (restOf (taskState c t s))) r vs₁ list₁
+
+-- and of a last row that failed as a whole
+abbrev pub ShowFailedOk : List ℤ → Looked → List ℤ → Type 0
+ShowFailedOk vs r vs₁ = (τ : Ty) (s : Store) (list : List ℕ) → length vs ≡ maxLeaves → Filled (lookIn vs list (restOf (failedState τ s))) r vs₁ list
 
 -- what `look` answers: the part that it hands back, number and flags, and the value memory at exit
 pub record LookOk (a : LookAnswer) (part : List ℕ) (number valued fails : ℕ) (vs : List ℤ) : Type 0 where

@@ -8,6 +8,7 @@ use rows::grounds::LIST_TOO_SHORT;
 use state::ENV_WORDS;
 use state::STATE_SIZE;
 use tophat::MAX_LEAVES;
+use value::NO_VALUE;
 use value::Value;
 use word::copy_out;
 ghost use mathlib.Core.Path.{_≡_};
@@ -21,7 +22,7 @@ ghost use Rattle.tophat.specs.Syntax.{maxLeaves};
 ghost use Rattle.state.specs.Contracts.{Fine};
 ghost use Rattle.call_definitions.specs.Memory.{flag};
 ghost use Rattle.call_definitions.specs.Calls.{lookCall};
-ghost use Rattle.flow.specs.Looks.{Filled, FailsOk, ShowOk, LookOk};
+ghost use Rattle.flow.specs.Looks.{Filled, FailsOk, ShowOk, ShowFailedOk, LookOk};
 
 // 0 or the ground, the flags, and how many bytes the part has.
 pub struct Looked {
@@ -106,6 +107,19 @@ fn show(
     }
 }
 
+// What a last row that failed as a whole shows: no value, failing, and no entry (CR 3).
+fn show_failed(value: &mut [i32]) -> Looked
+    ensures { λ r. ⌜ ShowFailedOk (now (value .entry)) r (now (value .exit)) ⌝ }
+{
+    value_out(NO_VALUE, value);
+    Looked {
+        number: 0,
+        valued: 0,
+        fails: 1,
+        bytes: 0,
+    }
+}
+
 // Looks, and states all of the list at exit.
 pub fn fill(rows: &[i32], state: &[i32], value: &mut [i32], list: &mut [u8]) -> Looked
     ensures { λ r. ⌜ Filled (lookCall (now (rows .entry)) (now (state .entry)) (now (value .entry)) (now (list .entry))) r (now (value .exit)) (now (list .exit)) ⌝ }
@@ -121,6 +135,9 @@ pub fn fill(rows: &[i32], state: &[i32], value: &mut [i32], list: &mut [u8]) -> 
             fails: 0,
             bytes: 0,
         };
+    }
+    if rest.failed {
+        return show_failed(value);
     }
     let mut work = [0u8; LIST_BYTES];
     show(&own, &words, rest.n, &mut work, value, list)

@@ -13,8 +13,16 @@ use state::STATE_SIZE;
 use state::lent::state_out;
 ghost use mathlib.Core.Path.{_≡_};
 ghost use mathlib.Core.Bool.{true};
+ghost use Rattle.rows.specs.GroundNumbers.{notHandled};
 ghost use Rattle.handle.specs.Events.{KnownEvent};
 ghost use Rattle.flow.specs.Takes.{TakeOk};
+
+// What a last row that failed as a whole answers to an event that is read: 9, as 45 does (CR 3).
+fn take_failed() -> Answer
+    ensures { λ r. ⌜ (r .number ≡ notHandled) × (r .strides ≡ 0) ⌝ }
+{
+    refused(NOT_HANDLED)
+}
 
 // The flow's answer to an event, and the state at exit.
 pub fn take(rows: &[i32], state: &mut [i32], e: EventReading) -> Answer
@@ -29,6 +37,9 @@ pub fn take(rows: &[i32], state: &mut [i32], e: EventReading) -> Answer
     }
     if !e.readable {
         return refused(EVENT_NOT_READ);
+    }
+    if opening.failed {
+        return take_failed();
     }
     let none = [0u32; ENV_WORDS];
     let last = opening.n - 1;

@@ -35,12 +35,12 @@ module _ (rs ws ws₂ : List ℕ) (i a x : ℕ) (env : List ℕ) (d : ℕ) where
   pub side-fails : (r : Bool) → SettleOk rs ws a env d ws₂ r → r ≡ true → PickOk rs ws ws i a x env d false
   side-fails r h e c z Σ Γ τ s ρ y w g =
       let q = h c z Σ Γ τ s ρ y w g in
-      subst (Picked rs ws ws i a x env d c false (settle c ρ s .0) (settle c ρ s .1)) (sym e ∙ q .1) (refl, refl)
+      subst (Picked rs ws ws i a x env d c false (settle c ρ s .0) (settle c ρ s .1)) (sym e ∙ q .0) (refl, refl)
 
   pub side-lives : (ws₁ : List ℕ) (r : Bool) → SettleOk rs ws a env d ws₂ r → r ≡ false → Laid ws₂ ws₁ i (x ∷ []) → PickOk rs ws ws₁ i a x env d true
   side-lives ws₁ r h e l c z Σ Γ τ s ρ y w g =
       let q = h c z Σ Γ τ s ρ y w g in
-      subst (Picked rs ws ws₁ i a x env d c true (settle c ρ s .0) (settle c ρ s .1)) (sym e ∙ q .1) (refl, (ws₂, q .0, l))
+      subst (Picked rs ws ws₁ i a x env d c true (settle c ρ s .0) (settle c ρ s .1)) (sym e ∙ q .0) (refl, (ws₂, q .1 e, l))
 
 -- ---- the arm
 

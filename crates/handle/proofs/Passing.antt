@@ -16,7 +16,7 @@ use Rattle.tophat.specs.Normalising.{value}
 use Rattle.tophat.specs.Handling.{continue, left, right, Action, give, press}
 use Rattle.tophat.proofs.Basics.{no-some, some-is}
 use Rattle.tophat.proofs.ComputeEvaluation.{evaluate}
-use Rattle.tophat.proofs.ComputeNormalising.{failing}
+use Rattle.tophat.proofs.ComputeNormalising.{rightFails}
 use Rattle.tophat.proofs.ComputeHandling.{mapTask, atMark, atContinue, unlessFailing, handle}
 use Rattle.tophat.proofs.Preservation.{option-is, value-type}
 use Rattle.rows.specs.Kinds.{taskK, thenK, nextK, andK, orK, numberOf}
@@ -124,7 +124,7 @@ module _ (rs ws ws₁ : List ℕ) (i : ℕ) (env : List ℕ) (d : ℕ) (r : Bool
     -- a 44 before, at Continue with a value v, and at any other event
     abbrev onward : (a b : Code) → Env → Store → Val → Option (TaskOf (next a b) × Store)
     onward a b ρ s v =
-        unlessFailing (failing b (v ∷ ρ) (evaluate b (v ∷ ρ) s .1) (evaluate b (v ∷ ρ) s .0)) (after v) (evaluate b (v ∷ ρ) s .0) (evaluate b (v ∷ ρ) s .1)
+        unlessFailing (rightFails b (v ∷ ρ) s) (after v) (evaluate b (v ∷ ρ) s .0) (evaluate b (v ∷ ρ) s .1)
 
     abbrev within : (a b : Code) → Env → Store → TaskOf a → Unit {0} → Option (TaskOf (next a b) × Store)
     within a b ρ s t u = mapTask before (handle a ρ s t (eventPath e) (eventAction e))
@@ -155,7 +155,7 @@ module _ (rs ws ws₁ : List ℕ) (i : ℕ) (env : List ℕ) (d : ℕ) (r : Bool
         let (v, o, m) = found-some _ (going d a (k .1) Σ Γ σ s t y (w .storeTyped) (w .storeSmall) (w .bindersSmall) (g .1) (w .stores)) n in
         let l = goes-some (onward a b ρ s) (within a b ρ s t) (eventPath e) (eventAction e) (value a t s) v o in
         subst (Handled rs ws ws₁ i env d (next a b) r) (sym (l .0))
-        (attempted a b v (evaluate b (v ∷ ρ) s .0) (evaluate b (v ∷ ρ) s .1) (failing b (v ∷ ρ) (evaluate b (v ∷ ρ) s .1) (evaluate b (v ∷ ρ) s .0))
+        (attempted a b v (evaluate b (v ∷ ρ) s .0) (evaluate b (v ∷ ρ) s .1) (rightFails b (v ∷ ρ) s)
         (h a b (inr k) Σ Γ σ υ s ρ t v m (option-is (value-type y (w .storeTyped)) (l .1)) y x w g)))
         c k τ t y g
 

@@ -11,7 +11,7 @@ use Rattle.tophat.specs.Syntax.{Ty, Code, Val, TaskOf, Env, Store}
 use Rattle.tophat.specs.Typing.{CodeType, TaskType, ValueTypes, AllSmall}
 use Rattle.tophat.specs.Normalising.{value}
 use Rattle.tophat.specs.Handling.{continue, left, right, Action, give, press}
-use Rattle.tophat.proofs.ComputeNormalising.{failing, settle}
+use Rattle.tophat.proofs.ComputeNormalising.{settle, branchFails}
 use Rattle.tophat.proofs.ComputeHandling.{atEditor}
 use Rattle.tophat.specs.Leaves.{given}
 use Rattle.shape.specs.Shape.{asType}
@@ -65,4 +65,4 @@ module _ (rs ws ws₁ : List ℕ) (i a x : ℕ) (env : List ℕ) (d : ℕ) where
 
   abbrev pub PickOk : Bool → Type 0
   PickOk r = (c : Code) → Sits rs d a c → (Σ Γ : List Ty) (τ : Ty) (s : Store) (ρ : Env) → CodeType Σ Γ c τ → World rs ws env d Σ Γ s ρ → Clear rs ws a (treeOf c)
-      → Picked c r (settle c ρ s .0) (settle c ρ s .1) (failing c ρ (settle c ρ s .1) (settle c ρ s .0))
+      → Picked c r (settle c ρ s .0) (settle c ρ s .1) (branchFails c ρ s)

@@ -9,8 +9,8 @@ use Rattle.tophat.specs.Syntax.{Ty, Code, edit, enter, update, then, next, fail
 use Rattle.tophat.specs.Syntax.{TaskOf, before}
 use Rattle.tophat.specs.Typing.{TaskType}
 use Rattle.tophat.specs.Normalising.{value}
-use Rattle.tophat.proofs.ComputeEvaluation.{evaluate}
-use Rattle.tophat.proofs.ComputeNormalising.{goOn, goOnWith, chooseRight, chooseLeft, failing, stride}
+use Rattle.tophat.proofs.ComputeEvaluation.{evaluate, overflowsTask}
+use Rattle.tophat.proofs.ComputeNormalising.{goOn, goOnWith, chooseRight, chooseLeft, failing, stride, rightFails}
 use Rattle.tophat.proofs.Preservation.{value-type, option-is, stride-kept}
 use Rattle.rows.specs.Kinds.{taskK, thenK, nextK, andK, orK}
 use Rattle.rows.specs.Rows.{opA, opB, OfKind}
@@ -95,7 +95,7 @@ module _ (rs ws ws₁ : List ℕ) (i : ℕ) (env : List ℕ) (d : ℕ) (z : Unha
         let r = stride a ρ s t in
         let e = found-none (value a (r .0) (r .1)) (valued leftValue (k .1) p) n in
         subst
-        (λ o. Gives rs ws ws₁ i m (then a b) (goOnWith o (r .0) (r .1) (r .2) (λ v. evaluate b (v ∷ ρ) (r .1)) (λ v r. failing b (v ∷ ρ) (r .1) (r .0))))
+        (λ o. Gives rs ws ws₁ i m (then a b) (goOnWith o (r .0) (r .1) (r .2) (λ v. evaluate b (v ∷ ρ) (r .1)) (λ v q. overflowsTask b (v ∷ ρ) (r .1) || failing b (v ∷ ρ) (q .1) (q .0))))
         (sym e) (then-still (waits rs ws d i a b t (inl k) g) (p .ran), p .flag))
         c k τ t y g
 
@@ -120,9 +120,9 @@ module _ (rs ws ws₁ : List ℕ) (i : ℕ) (env : List ℕ) (d : ℕ) (z : Unha
           let l = waits rs ws d i a b t (inl k) g in
           let v = h .0 in
           subst
-          (λ o. Gives rs ws ws₂ i r (then a b) (goOnWith o (n₁ .0) (n₁ .1) (n₁ .2) (λ v. evaluate b (v ∷ ρ) (n₁ .1)) (λ v r. failing b (v ∷ ρ) (r .1) (r .0))))
+          (λ o. Gives rs ws ws₂ i r (then a b) (goOnWith o (n₁ .0) (n₁ .1) (n₁ .2) (λ v. evaluate b (v ∷ ρ) (n₁ .1)) (λ v q. overflowsTask b (v ∷ ρ) (n₁ .1) || failing b (v ∷ ρ) (q .1) (q .0))))
           (sym (h .1))
-          (tried-on v (evaluate b (v ∷ ρ) (n₁ .1)) (failing b (v ∷ ρ) (evaluate b (v ∷ ρ) (n₁ .1) .1) (evaluate b (v ∷ ρ) (n₁ .1) .0)) l (p .ran) (p .flag)
+          (tried-on v (evaluate b (v ∷ ρ) (n₁ .1)) (rightFails b (v ∷ ρ) (n₁ .1)) l (p .ran) (p .flag)
           (hu a b (inl k) Σ Γ σ υ (n₁ .1) ρ (n₁ .0) v (h .2) (option-is (value-type (p .task) (p .world .storeTyped)) (h .1)) (p .task) x (p .world) (then-still l (p .ran) .holds))))
           c k τ t y g
 

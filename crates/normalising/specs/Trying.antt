@@ -8,11 +8,11 @@ use Prim.Native.Nat.{ℕ, _+_}
 use Rattle.tophat.specs.Syntax.{Ty, Code, then, next, Val, TaskOf, before, after, Env, Store}
 use Rattle.tophat.specs.Typing.{CodeType, TaskType, ValueType}
 use Rattle.tophat.proofs.ComputeEvaluation.{evaluate}
-use Rattle.tophat.proofs.ComputeNormalising.{failing, settle}
+use Rattle.tophat.proofs.ComputeNormalising.{settle, rightFails, branchFails}
 use Rattle.rows.specs.Rows.{maxRows}
 use Rattle.value.specs.declared.Value.{Value}
 use Rattle.value.specs.Values.{asValue}
-use Rattle.state.specs.Holds.{treeOf, Sits, Clear, Holds, World, Ran}
+use Rattle.state.specs.Holds.{treeOf, Sits, Clear, Holds, Same, Area, World, Ran}
 
 -- a call of normalise strides at most one time more than there are rows
 abbrev pub maxStrides : ℕ
@@ -21,15 +21,15 @@ maxStrides = maxRows + 1
 -- ---- branches
 
 module _ (rs ws : List ℕ) (i : ℕ) (env : List ℕ) (d : ℕ) where
-  -- the branch is left settled, and r tells whether it fails there
+  -- r tells whether the branch fails; where it does not, it is left settled; and nothing differs but its rows and the cells
   abbrev pub SettleOk : List ℕ → Bool → Type 0
   SettleOk ws₁ r = (c : Code) → Sits rs d i c → (Σ Γ : List Ty) (τ : Ty) (s : Store) (ρ : Env) → CodeType Σ Γ c τ → World rs ws env d Σ Γ s ρ → Clear rs ws i (treeOf c)
-      → Ran rs ws ws₁ i c (settle c ρ s .0) (settle c ρ s .1) × (r ≡ failing c ρ (settle c ρ s .1) (settle c ρ s .0))
+      → (r ≡ branchFails c ρ s) × (r ≡ false → Ran rs ws ws₁ i c (settle c ρ s .0) (settle c ρ s .1)) × Same (Area rs i c) ws ws₁
 
-  -- r tells whether the branch, settled, would fail
+  -- r tells whether the branch would fail
   abbrev pub TriedOk : Bool → Type 0
   TriedOk r = (c : Code) → Sits rs d i c → (Σ Γ : List Ty) (τ : Ty) (s : Store) (ρ : Env) → CodeType Σ Γ c τ → World rs ws env d Σ Γ s ρ → Clear rs ws i (treeOf c)
-      → r ≡ failing c ρ (settle c ρ s .1) (settle c ρ s .0)
+      → r ≡ branchFails c ρ s
 
 -- ---- steps
 
@@ -46,4 +46,4 @@ module _ (rs ws ws₁ : List ℕ) (i : ℕ) (env : List ℕ) (d : ℕ) where
   abbrev pub AttemptOk : Value → Bool → Type 0
   AttemptOk x r = (a b : Code) → SitsStep rs d i a b → (Σ Γ : List Ty) (τ υ : Ty) (s : Store) (ρ : Env) (t : TaskOf a) (v : Val) → x ≡ asValue v → ValueType v τ
       → TaskType Σ Γ a t τ → CodeType Σ (τ ∷ Γ) b υ → World rs ws env d Σ Γ s ρ → Holds rs ws i (then a b) (before t)
-      → Attempted r a b v (evaluate b (v ∷ ρ) s) (failing b (v ∷ ρ) (evaluate b (v ∷ ρ) s .1) (evaluate b (v ∷ ρ) s .0))
+      → Attempted r a b v (evaluate b (v ∷ ρ) s) (rightFails b (v ∷ ρ) s)

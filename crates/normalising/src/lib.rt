@@ -76,8 +76,9 @@ pub fn tried(
     settle(rows, &mut work, row, env, depth)
 }
 
-// The branch at the row, evaluated and normalised; whether it fails. What has strided more than once does not, so failing is asked
-// of a normal form that took one stride alone, and nested branches are not settled twice.
+// The branch at the row, evaluated and normalised; whether it fails: then its words are to be dropped. One whose evaluation leaves the words
+// does. What has strided more than once does not, so failing is asked of a normal form that took one stride alone, and nested branches are
+// not settled twice.
 pub fn settle(
     rows: &[u32; ROWS_WORDS],
     state: &mut [u32; STATE_SIZE],
@@ -88,7 +89,9 @@ pub fn settle(
     requires { ⌜ Fine (now rows) row depth ⌝ }
     ensures { λ r. ⌜ SettleOk (now (rows .entry)) (now (state .entry)) row (now (env .entry)) depth (now (state .exit)) r ⌝ }
 {
-    evaluate(rows, state, row, env, depth);
+    if evaluate(rows, state, row, env, depth) {
+        return true;
+    }
     let strides = normalise(rows, state, row, env, depth);
     if 1 < strides {
         return false;
@@ -187,7 +190,8 @@ fn choose(
     left || right
 }
 
-// The right side of the step at the row, evaluated under the value in a copy of the state: unless it fails there, it replaces the step.
+// The right side of the step at the row, evaluated under the value in a copy of the state: unless it leaves the words or fails there, it
+// replaces the step.
 pub fn attempt(
     rows: &[u32; ROWS_WORDS],
     state: &mut [u32; STATE_SIZE],
@@ -205,7 +209,9 @@ pub fn attempt(
     let inner = pushed(env, depth, v);
     let b = operand(rows, row, 2);
     let mut work = *state;
-    evaluate(rows, &mut work, b, &inner, depth + 1);
+    if evaluate(rows, &mut work, b, &inner, depth + 1) {
+        return false;
+    }
     if failing(rows, &work, b, &inner, depth + 1) {
         return false;
     }

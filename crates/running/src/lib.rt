@@ -135,51 +135,60 @@ pub fn value(rows: &[u32; ROWS_WORDS], state: &[u32; STATE_SIZE], row: usize) ->
     }
 }
 
-// Evaluation of the code at the row, none of whose rows is live, to its task. A cell that an expression assigns is written.
+// Evaluation of the code at the row, none of whose rows is live, to its task; whether a result left the words on the way, so that it evaluates
+// as fail (CR 3). A cell that an expression assigns is written: a caller that may be told so hands over words that it can drop.
 pub fn evaluate(
     rows: &[u32; ROWS_WORDS],
     state: &mut [u32; STATE_SIZE],
     row: usize,
     env: &[u32; ENV_WORDS],
     depth: usize,
-)
+) -> bool
     requires { ⌜ Fine (now rows) row depth ⌝ }
-    ensures { λ _. ⌜ EvaluateOk (now (rows .entry)) (now (state .entry)) (now (state .exit)) row (now (env .entry)) depth ⌝ }
+    ensures { λ r. ⌜ EvaluateOk (now (rows .entry)) (now (state .entry)) (now (state .exit)) row (now (env .entry)) depth r ⌝ }
 {
     let kind = get(rows, row, 0);
     match kind {
         25 => {
             let x = eval(rows, state, operand(rows, row, 1), env, depth);
-            if is_true(x) {
-                evaluate(rows, state, operand(rows, row, 2), env, depth);
+            if is_true(x.value) {
+                let over = evaluate(rows, state, operand(rows, row, 2), env, depth);
                 put_tag(state, row, ONE);
-                return;
+                return x.over | over;
             }
-            evaluate(rows, state, operand(rows, row, 3), env, depth);
+            let over = evaluate(rows, state, operand(rows, row, 3), env, depth);
             put_tag(state, row, OTHER);
+            x.over | over
         }
         31 => {
             let x = eval(rows, state, operand(rows, row, 1), env, depth);
-            put_value(state, row, ONE, x);
+            put_value(state, row, ONE, x.value);
             let mut inner = *env;
             let deeper = bind(state, row, &mut inner, depth);
-            evaluate(rows, state, operand(rows, row, 2), &inner, deeper);
+            let over = evaluate(rows, state, operand(rows, row, 2), &inner, deeper);
+            x.over | over
         }
         40 | 49 => {
             let x = eval(rows, state, operand(rows, row, 1), env, depth);
-            put_value(state, row, OWN, x);
+            put_value(state, row, OWN, x.value);
+            x.over
         }
         43..=44 => {
-            evaluate(rows, state, operand(rows, row, 1), env, depth);
+            let over = evaluate(rows, state, operand(rows, row, 1), env, depth);
             put_tag(state, row, OWN);
+            over
         }
         46..=47 => {
             let a = operand(rows, row, 1);
             let b = operand(rows, row, 2);
-            evaluate(rows, state, a, env, depth);
-            evaluate(rows, state, b, env, depth);
+            let left = evaluate(rows, state, a, env, depth);
+            let right = evaluate(rows, state, b, env, depth);
             put_tag(state, row, OWN);
+            left | right
         }
-        _ => put_tag(state, row, OWN),
+        _ => {
+            put_tag(state, row, OWN);
+            false
+        }
     }
 }

@@ -11,19 +11,24 @@ use lib.Dec.{eqb}
 use lib.IntN.{ℤ}
 use lib.ListN.{length}
 use Rattle.decimal.specs.Path.{Path}
-use Rattle.tophat.specs.Syntax.{Code, TaskOf, Store}
+use Rattle.tophat.specs.Syntax.{Ty, Code, TaskOf, Store}
 use Rattle.tophat.specs.Handling.{Action}
+use Rattle.tophat.proofs.ComputeEvaluation.{overflowsTask}
 use Rattle.tophat.proofs.ComputeNormalising.{stride}
 use Rattle.formats.specs.Lines.{lineBytes}
 use Rattle.formats.specs.Touches.{eventOf}
+use Rattle.rows.specs.GroundNumbers.{notState}
 use Rattle.rows.specs.Lent.{ownRows, rowCount}
 use Rattle.rows.specs.Ground.{RowsGround, rows-3, rows-4, rows-5, rows-6, rows-7, rows-0}
 use Rattle.rows.proofs.Moves.{movers-few}
 use Rattle.sheet.specs.Sheet.{loaded}
 use Rattle.sheet.specs.Accepted.{acceptsRows}
 use Rattle.sheet.proofs.AcceptedRows.{passed-of}
-use Rattle.state.specs.Layout.{stateWords}
+use Rattle.state.specs.Layout.{stateWords, encodeFailed}
+use Rattle.state.specs.Lent.{ownOf}
+use Rattle.state.specs.Reading.{same}
 use Rattle.call_definitions.specs.Memory.{CallAnswer}
+use Rattle.call_definitions.specs.States.{FlowState, failedState}
 use Rattle.call_definitions.specs.Answers.{LoadAnswers, load-1, load-21, load-2, load-rows, load-0}
 use Rattle.call_definitions.specs.Calls as calls
 use Rattle.call_definitions.specs.Touches.{Bounded}
@@ -74,7 +79,7 @@ Low a = a .number < fourDigits
 started-low : (rows ws : List ℤ) (o : Option Code) → Low (calls.startWith rows ws o)
 unfolding calls.startWith
 started-low rows ws none = omega arith
-started-low rows ws (some c) = omega arith
+started-low rows ws (some c) = either Low (overflowsTask c [] (calls.firstOf rows)) _ _ (omega arith) (omega arith)
 
 start-low : (rows ws : List ℤ) → Low (calls.startCall rows ws)
 unfolding calls.startCall
@@ -91,21 +96,28 @@ start-few rows ws a ws₁ q b = (
 
 abbrev LowGround : calls.Opened → Type 0
 LowGround (calls.refusedBy g) = g < fourDigits
-LowGround (calls.restOf c t s) = Unit {0}
+LowGround (calls.restOf z) = Unit {0}
 
 rest-low : (c : Code) (t : TaskOf c) (s : Store) → LowGround (calls.atRest c t s)
 unfolding calls.atRest
 rest-low c t s = either LowGround (stride c [] s t .2) _ _ (omega arith) tt
 
-decoded-low : (c : Code) (o : Option (TaskOf c × Store)) → LowGround (calls.decoded c o)
+failed-low : (rows ws : List ℤ) (c : Code) (o : Option Ty) → LowGround (calls.failedAs rows ws c o)
+unfolding calls.failedAs
+failed-low rows ws c none = omega arith
+failed-low rows ws c (some τ) =
+    let held = overflowsTask c [] (calls.firstOf rows) && same (encodeFailed (ownRows rows) (rowCount rows) (calls.firstOf rows)) (ownOf (rowCount rows) ws) in
+    either LowGround held (calls.restOf (failedState τ (calls.firstOf rows))) (calls.refusedBy notState) tt (omega arith)
+
+decoded-low : (rows ws : List ℤ) (c : Code) (o : Option (TaskOf c × Store)) → LowGround (calls.decoded rows ws c o)
 unfolding calls.decoded
-decoded-low c none = omega arith
-decoded-low c (some r) = rest-low c (r .0) (r .1)
+decoded-low rows ws c none = failed-low rows ws c _
+decoded-low rows ws c (some r) = rest-low c (r .0) (r .1)
 
 read-low : (rows ws : List ℤ) (o : Option Code) → LowGround (calls.readWith rows ws o)
 unfolding calls.readWith
 read-low rows ws none = omega arith
-read-low rows ws (some c) = decoded-low c _
+read-low rows ws (some c) = decoded-low rows ws c _
 
 opened-low : (rows ws : List ℤ) (fits : Bool) → LowGround (calls.opened rows ws fits)
 unfolding calls.opened
@@ -118,15 +130,15 @@ unfolding calls.handled
 handled-low rows ws c none = omega arith
 handled-low rows ws c (some r) = omega arith
 
-read-event-low : (rows ws : List ℤ) (c : Code) (t : TaskOf c) (s : Store) (o : Option (Path × Action)) → Low (calls.handleRead rows ws c t s o)
+read-event-low : (rows ws : List ℤ) (z : FlowState) (o : Option (Path × Action)) → Low (calls.handleRead rows ws z o)
 unfolding calls.handleRead
-read-event-low rows ws c t s none = omega arith
-read-event-low rows ws c t s (some e) = handled-low rows ws c _
+read-event-low rows ws z none = omega arith
+read-event-low rows ws z (some e) = handled-low rows ws (z .code) _
 
 handle-in-low : (rows ws : List ℤ) (e : Option (Path × Action)) (o : calls.Opened) → LowGround o → Low (calls.handleIn rows ws e o)
 unfolding calls.handleIn
 handle-in-low rows ws e (calls.refusedBy g) l = l
-handle-in-low rows ws e (calls.restOf c t s) l = read-event-low rows ws c t s e
+handle-in-low rows ws e (calls.restOf z) l = read-event-low rows ws z e
 
 -- rows that are not accepted count no stride
 shut-strides : (rows ws : List ℤ) (event : List ℕ) → acceptsRows rows ≡ false → calls.handleCall rows ws event .strides ≡ 0

@@ -2,11 +2,11 @@
 -- printed: a session is a sheet as the shop writes it, touches, and the screens. Rests on Sessions.
 use mathlib.Core.Path.{_≡_, refl}
 use mathlib.Core.Bool.{true}
-use mathlib.Core.List.{List, [], _∷_}
+use mathlib.Core.List.{List, [], _∷_, _++_}
 use Prim.Native.Nat.{_+_, _*_}
 use Prim.Native.String.{String}
 use lib.IntN.{pos}
-use lib.ListN.{getD}
+use lib.ListN.{getD, replicate}
 use Rattle.state.specs.Layout.{stateWords}
 use Rattle.screens.proofs.Sessions.{started, agree}
 
@@ -178,7 +178,7 @@ p11-screens =
     "               2 1 3 0 0 0" ∷
     []
 
--- P12: "2147483647 plus 1 is -2147483648"
+-- P12 (CR 3): "a filled editor of that sum, which fails"; here it is given a value
 abbrev p12-sheet : List String
 p12-sheet =
     "   0  22  2147483647           0           0" ∷
@@ -187,10 +187,13 @@ p12-sheet =
     "   3  40           2           0           0" ∷
     []
 
+abbrev p12-touches : List String
+p12-touches = "               0 1           5           0           0           0" ∷ []
+
 abbrev p12-screens : List String
 p12-screens =
-    "   0   1 0 1 -2147483648           0           0           0   1" ∷
-    "               0 1 3 0 0 0" ∷
+    "   0   1 1 0           0           0           0           0   0" ∷
+    "   9   0 1 0           0           0           0           0   0" ∷
     []
 
 -- One session more: a truth, a number and a unit editor, paths of one and of two marks, a pair value of truth and number, and
@@ -295,7 +298,7 @@ all-agree : agree (
     (p9-sheet, [], p9-screens) ∷
     (p10-sheet, [], p10-screens) ∷
     (p11-sheet, [], p11-screens) ∷
-    (p12-sheet, [], p12-screens) ∷
+    (p12-sheet, p12-touches, p12-screens) ∷
     (every-sheet, every-touches, every-screens) ∷
     []) ≡ true
 unfolding agree
@@ -305,3 +308,8 @@ all-agree = refl
 p10-cell : getD (started p10-sheet) (1 * stateWords + 2) (pos 0) ≡ pos 7
 unfolding started
 p10-cell = refl
+
+-- P12's last row is row 3: its tag is 4, and no other word of the state is one
+p12-failed : started p12-sheet ≡ replicate (3 * stateWords) (pos 0) ++ pos 4 ∷ replicate 15 (pos 0)
+unfolding started
+p12-failed = refl

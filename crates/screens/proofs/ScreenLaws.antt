@@ -20,7 +20,7 @@ use Rattle.word.specs.Word.{AllWords}
 use Rattle.word.proofs.Laid.{laid-front}
 use Rattle.word.proofs.Lists.{bits-replicate, bits-bits, words-whole}
 use Rattle.tophat.specs.Syntax.{maxLeaves, Val}
-use Rattle.tophat.specs.Normalising.{value}
+use Rattle.call_definitions.specs.States.{valueIn}
 use Rattle.tophat.proofs.ComputeNormalising.{failing}
 use Rattle.tophat.proofs.ComputeEntries.{entries}
 use Rattle.rows.specs.Rows.{maxRows}
@@ -58,8 +58,8 @@ take-after xs ys n m e = take-add n m (xs ++ ys) ∙ ap₂ (λ a b. a ++ take m 
 in-list : (vs : List ℤ) (list : List ℕ) (o : calls.Opened) → let a = calls.lookIn vs list o in length (a .part) ≤ length (a .list)
 unfolding calls.lookIn
 in-list vs list (calls.refusedBy g) = omega arith
-in-list vs list (calls.restOf c t s) =
-    let es = entries c [] s t in
+in-list vs list (calls.restOf z) =
+    let es = entries (z .code) [] (z .store) (z .task) in
     cases (leb (length es * entryBytes) (length list))
     (λ e. rw e (let f = length-append (listText es) (drop (length (listText es)) list) in omega arith))
     (λ e. rw e (omega arith))
@@ -86,10 +86,10 @@ pub record Plain (a : LookAnswer) : Type 0 where
 plain-in : (vs : List ℤ) (list : List ℕ) (o : calls.Opened) → Plain (calls.lookIn vs list o)
 unfolding calls.lookIn
 plain-in vs list (calls.refusedBy g) = record { fronts = refl; fails = omega arith; valued = omega arith }
-plain-in vs list (calls.restOf c t s) =
-    let es = entries c [] s t in
+plain-in vs list (calls.restOf z) =
+    let es = entries (z .code) [] (z .store) (z .task) in
     cases (leb (length es * entryBytes) (length list))
-    (λ e. rw e (record { fronts = take-at (listText es) (drop (length (listText es)) list) (length (listText es)) refl; fails = flag-small (failing c [] s t); valued = one-small (value c t s) }))
+    (λ e. rw e (record { fronts = take-at (listText es) (drop (length (listText es)) list) (length (listText es)) refl; fails = flag-small (failing (z .code) [] (z .store) (z .task)); valued = one-small (valueIn z) }))
     (λ e. rw e (record { fronts = refl; fails = omega arith; valued = omega arith }))
 
 plain : (rows ws vs : List ℤ) (list : List ℕ) → Plain (calls.lookCall rows ws vs list)

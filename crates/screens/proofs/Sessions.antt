@@ -79,14 +79,14 @@ beginning sheet = let n = length sheet in begins n (text sheet) (replicate (n * 
 -- the bytes that a session prints
 unfoldable pub session : List String → List String → List ℕ
 unfolding
-    decLe option.bind word.residue word.wrap tabulate.tabulate field.digits field.text field.justified field.trimmed field.counted field.numeral
+    decLe option.bind word.isWord tabulate.tabulate field.digits field.text field.justified field.trimmed field.counted field.numeral
     field.readsAt field.putAt paths.marksText paths.pathText paths.marks paths.pathIn paths.readsPathAt paths.pathNumber paths.marksFrom syntax.leaves
     syntax.moves syntax.taskRows normalising.pairOf normalising.firstOf normalising.value typing.typeOf leaves.leavesOf leaves.padded leaves.leafKinds
     leaves.meetsLeaf leaves.meets leaves.valueOf leaves.numberGiven leaves.given showing.marked showing.offers showing.buttonIf computeTyping.ask computeTyping.nth
     computeTyping.takes computeTyping.gives computeTyping.numberTo computeTyping.opTo computeTyping.sameTo computeTyping.ifTo computeTyping.typeTo
     computeTyping.firstTo computeTyping.secondTo computeTyping.assignTo computeTyping.infer computeTyping.inferTask computeEvaluation.leaf
-    computeEvaluation.isTrue computeEvaluation.apply computeEvaluation.firstPart computeEvaluation.secondPart computeEvaluation.branch
-    computeEvaluation.eval computeEvaluation.evaluate computeNormalising.unlessStill computeNormalising.strides computeNormalising.goOn
+    computeEvaluation.isTrue computeEvaluation.kept computeEvaluation.exact computeEvaluation.exceeds computeEvaluation.apply computeEvaluation.firstPart computeEvaluation.secondPart computeEvaluation.branch
+    computeEvaluation.eval computeEvaluation.overflows computeEvaluation.evaluate computeEvaluation.overflowsTask computeNormalising.unlessStill computeNormalising.strides computeNormalising.goOn
     computeNormalising.goOnWith computeNormalising.chooseRight computeNormalising.chooseLeft computeNormalising.failing computeNormalising.stride
     computeNormalising.normalise computeNormalising.settle computeNormalising.remaining computeHandling.mapTask computeHandling.thenSome
     computeHandling.atEditor computeHandling.atMark computeHandling.atSides computeHandling.atContinue computeHandling.unlessFailing
@@ -98,12 +98,12 @@ unfolding
     ground.passes6 ground.flowType ground.isSome ground.passes7 ground.groundOfRows groundsAccepted.groundOfForm groundsAccepted.acceptedRows
     sheet.sized sheet.leaving sheet.loadedLines sheet.loaded sheetAccepted.acceptsRows shape.put shape.asShape shape.maybeShape shape.leafOf
     shape.front shape.asType shape.pairShape shape.firstShape shape.secondShape shape.leavesIn shape.shapeLeaves shape.kindsIn shape.kindsOf
-    layout.valueWords layout.putWords layout.writeTask layout.writeCells layout.encode lent.ownOf lent.lentOf reading.readValue reading.byTag
+    layout.valueWords layout.putWords layout.writeTask layout.writeCells layout.encode layout.encodeFailed lent.ownOf lent.lentOf reading.readValue reading.byTag
     reading.readTask reading.readStore reading.same reading.decode values.leafBits values.asValue found.asFound fits.valueIn fits.valueFor
     records.isRecord records.fieldsAt records.numberSaid records.each records.textOf records.itemsText records.putItems records.leavesRead lines.meant lines.meantAll lines.kindWord lines.afterRow
     lines.lineSays lines.linesSay touching.numbered touching.touchIn touching.leafSaid touching.isNothing touching.allNothing touching.allowed touching.eventSays touching.actionOf
     touching.eventOf touching.unlessBlank touching.entrySays lists.offerAct lists.offerKinds lists.entryText lists.listText lists.under
-    memories.stateOf memories.valueMemory memories.hasOne calls.startWith calls.startCall calls.atRest calls.decoded calls.readWith calls.opened
+    memories.stateOf memories.failedOf memories.valueMemory memories.hasOne calls.startWith calls.startCall calls.atRest calls.failedAs calls.decoded calls.readWith calls.opened
     calls.handled calls.handleRead calls.handleIn calls.handleCall calls.lookIn calls.lookCall heads.headOver screens.shownAfter screens.loadedCounted
     screens.begins screens.touched
 session sheet events = let b = beginning sheet in b .screen .text ++ touches (b .rows) (b .state) events

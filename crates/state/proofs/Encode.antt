@@ -60,7 +60,7 @@ module _ (rs : List ℕ) (n : ℕ) (s : Store) (short : (k : ℕ) → Short (get
     long = w .long;
   }
 
-  write-cells : (k : ℕ) → k ≤ n → Cells k (writeCells rs k s (zeroWords (n * stateWords)))
+  pub write-cells : (k : ℕ) → k ≤ n → Cells k (writeCells rs k s (zeroWords (n * stateWords)))
   unfolding writeCells
   write-cells zero h = record { holds = λ j l. absurd (omega arith); same = same-refl; long = refl }
   write-cells (suc k) h = one-cell k (writeCells rs k s (zeroWords (n * stateWords))) (isKind rs k cellK) refl (omega arith) (write-cells k (omega arith))
@@ -100,22 +100,33 @@ writing-same {rs} {x} {y} {i} {c} {t} q w = record {
 pub padded-same : (ws : List ℕ) (n : ℕ) → Same (λ j. ⊥) ws (ws ++ zeroWords n)
 padded-same ws n = record { words = λ j m h o. padding ws n (place j m) }
 
+pub front-same : (ws : List ℕ) (n : ℕ) → ((j : ℕ) → (j < n → ⊥) → Row ws j []) → Same (λ j. ⊥) ws (take (n * stateWords) ws)
+front-same ws n out = record { words = λ j m h o. by j m h (decLt j n) }
+  where
+    by : (j m : ℕ) → m < stateWords → Dec (j < n) → at (take (n * stateWords) ws) j m ≡ at ws j m
+    by j m h (yes k) = getD-take (n * stateWords) ws (place j m) 0 (omega arith)
+    by j m h (no k) = List·getD-eq-default (take (n * stateWords) ws) 0 (let e = length-take (n * stateWords) ws in omega arith) ∙ sym (out j k .words m h)
+
 pub taken-same : {rs ws : List ℕ} {n i : ℕ} {c : Code} {t : TaskOf c} {s : Store} (d : ℕ) → Within rs n → Sits rs d i c → Writing rs i c t s ws → Same (λ j. ⊥) ws (take (n * stateWords) ws)
-taken-same {rs} {ws} {n} {i} {c} d within sits w = record { words = λ j m h o. by j m h (decLt j n) }
+taken-same {rs} {ws} {n} {i} {c} d within sits w = front-same ws n (λ j k. w .rest j (out j k))
   where
     out : (j : ℕ) → (j < n → ⊥) → Area rs i c j → ⊥
     out j k = ⊎-elim (λ f. k (within j (let g = foot-high rs i (treeOf c) (placed rs d i c sits) j f in omega arith))) (λ e. k (within j (omega arith)))
 
-    by : (j m : ℕ) → m < stateWords → Dec (j < n) → at (take (n * stateWords) ws) j m ≡ at ws j m
-    by j m h (yes k) = getD-take (n * stateWords) ws (place j m) 0 (omega arith)
-    by j m h (no k) = List·getD-eq-default (take (n * stateWords) ws) 0 (let e = length-take (n * stateWords) ws in omega arith) ∙ sym (w .rest j (out j k) .words m h)
-
 -- two lists that hold the same
-abbrev Alike : List ℕ → List ℕ → ℕ → Type 0
+abbrev pub Alike : List ℕ → List ℕ → ℕ → Type 0
 Alike x y j = (m : ℕ) → m < stateWords → at x j m ≡ at y j m
 
-alike : {x y : List ℕ} {j : ℕ} {xs : List ℕ} → Row x j xs → Row y j xs → Alike x y j
+pub alike : {x y : List ℕ} {j : ℕ} {xs : List ℕ} → Row x j xs → Row y j xs → Alike x y j
 alike p q m h = p .words m h ∙ sym (q .words m h)
+
+pub words-at : (x y : List ℕ) → ((j : ℕ) → Alike x y j) → (k : ℕ) → getD x k 0 ≡ getD y k 0
+words-at x y row k =
+    let e : k ≡ place (k / stateWords) (k % stateWords) = omega arith in
+    ap (λ z. getD x z 0) e ∙ row (k / stateWords) (k % stateWords) (omega arith) ∙ sym (ap (λ z. getD y z 0) e)
+
+pub words-one : (x y : List ℕ) → length x ≡ length y → ((j : ℕ) → Alike x y j) → x ≡ y
+words-one x y l row = ext-getD 0 x y l (λ k h. words-at x y row k)
 
 module _ (rs x y : List ℕ) where
   here : {i j : ℕ} {xs : List ℕ} → Row x i xs → Row y i xs → j ≡ i → Alike x y j
@@ -162,10 +173,7 @@ foot? rs i (fork k x l y) j = either-of (ℕ-discrete j i) (either-of (foot? rs 
 
 -- two writings are one
 pub writing-one : {rs : List ℕ} {i : ℕ} {c : Code} {t : TaskOf c} {s : Store} {x y : List ℕ} → length x ≡ length y → Writing rs i c t s x → Writing rs i c t s y → x ≡ y
-writing-one {rs} {i} {c} {t} {s} {x} {y} l p q = ext-getD 0 x y l λ k h.
-    let e : k ≡ place (k / stateWords) (k % stateWords) = omega arith in
-    let j = k / stateWords in
-    ap (λ z. getD x z 0) e ∙ row j (foot? rs i (treeOf c) j) (ℕ-discrete (word rs j 0) (numberOf cellK)) (k % stateWords) (omega arith) ∙ sym (ap (λ z. getD y z 0) e)
+writing-one {rs} {i} {c} {t} {s} {x} {y} l p q = words-one x y l (λ j. row j (foot? rs i (treeOf c) j) (ℕ-discrete (word rs j 0) (numberOf cellK)))
   where
     row : (j : ℕ) → Dec (Foot rs i (treeOf c) j) → Dec (Cell rs j) → Alike x y j
     row j (yes f) d = holds-alike rs x y i c t (p .holds) (q .holds) j f

@@ -9,5 +9,6 @@ pub mod Encode
 pub mod Typed
 pub mod OneState
 pub mod SitsOf
+pub mod Failed
 pub mod Reading
 pub mod LentLaws

@@ -10,12 +10,12 @@ use Rattle.tophat.specs.Syntax.{Ty, Exp, Code, Val, TaskOf, Env, Store}
 use Rattle.tophat.specs.Typing.{HasType, CodeType, TaskType, ValueTypes, AllSmall}
 use Rattle.tophat.specs.Normalising.{value}
 use Rattle.tophat.specs.Handling.{Action}
-use Rattle.tophat.proofs.ComputeEvaluation.{eval, evaluate}
+use Rattle.tophat.proofs.ComputeEvaluation.{eval, overflows, evaluate, overflowsTask}
 use Rattle.tophat.proofs.ComputeNormalising.{failing, stride, normalise}
 use Rattle.tophat.proofs.ComputeHandling.{handle}
 use Rattle.rows.specs.Rows.{maxRows, LowWords}
 use Rattle.rows.specs.Enclosing.{maxBinders}
-use Rattle.value.specs.declared.Value.{Value}
+use Rattle.value.specs.declared.Evaluation.{Evaluation}
 use Rattle.value.specs.declared.Found.{Found}
 use Rattle.value.specs.Values.{asValue}
 use Rattle.value.specs.Found.{asFound}
@@ -30,26 +30,29 @@ pub record Fine (rs : List ℕ) (row depth : ℕ) : Type 0 where
 
 -- ---- plain expressions
 
-pub record Evaluated (rs ws ws₁ : List ℕ) (r : Value) (v : Val) (s : Store) : Type 0 where
-  pub answer : r ≡ asValue v
+-- the value v and the store s, and whether a result left the words on the way (CR 3)
+pub record Evaluated (rs ws ws₁ : List ℕ) (r : Evaluation) (v : Val) (s : Store) (x : Bool) : Type 0 where
+  pub answer : r .value ≡ asValue v
+  pub over : r .over ≡ x
   pub stores : Stores rs ws₁ s
   pub same : Same (Cell rs) ws ws₁
 
 module _ (rs ws ws₁ : List ℕ) (i : ℕ) (env : List ℕ) (d : ℕ) where
-  abbrev pub EvalAt : Value → Exp → Type 0
-  EvalAt r e = (Σ Γ : List Ty) (τ : Ty) (s : Store) (ρ : Env) → HasType Σ Γ e τ → World rs ws env d Σ Γ s ρ → Evaluated rs ws ws₁ r (eval e ρ s .0) (eval e ρ s .1)
+  abbrev pub EvalAt : Evaluation → Exp → Type 0
+  EvalAt r e = (Σ Γ : List Ty) (τ : Ty) (s : Store) (ρ : Env) → HasType Σ Γ e τ → World rs ws env d Σ Γ s ρ → Evaluated rs ws ws₁ r (eval e ρ s .0) (eval e ρ s .1) (overflows e ρ s)
 
-  abbrev pub EvalOk : Value → Type 0
+  abbrev pub EvalOk : Evaluation → Type 0
   EvalOk r = (e : Exp) → SitsExp rs d i e → EvalAt r e
 
   -- ---- tasks
 
-  abbrev pub EvaluateAt : Code → Type 0
-  EvaluateAt c = (Σ Γ : List Ty) (τ : Ty) (s : Store) (ρ : Env) → CodeType Σ Γ c τ → World rs ws env d Σ Γ s ρ → Clear rs ws i (treeOf c)
-      → Ran rs ws ws₁ i c (evaluate c ρ s .0) (evaluate c ρ s .1)
+  -- whatever it answers, the words are those of `evaluate`, which goes on with 0 for a result that is no word
+  abbrev pub EvaluateAt : Bool → Code → Type 0
+  EvaluateAt r c = (Σ Γ : List Ty) (τ : Ty) (s : Store) (ρ : Env) → CodeType Σ Γ c τ → World rs ws env d Σ Γ s ρ → Clear rs ws i (treeOf c)
+      → Ran rs ws ws₁ i c (evaluate c ρ s .0) (evaluate c ρ s .1) × (r ≡ overflowsTask c ρ s)
 
-  abbrev pub EvaluateOk : Type 0
-  EvaluateOk = (c : Code) → Sits rs d i c → EvaluateAt c
+  abbrev pub EvaluateOk : Bool → Type 0
+  EvaluateOk r = (c : Code) → Sits rs d i c → EvaluateAt r c
 
   abbrev pub StrideAt : Bool → Code → Type 0
   StrideAt r c = (Σ Γ : List Ty) (τ : Ty) (s : Store) (ρ : Env) (t : TaskOf c) → TaskType Σ Γ c t τ → World rs ws env d Σ Γ s ρ → Holds rs ws i c t

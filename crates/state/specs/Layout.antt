@@ -28,7 +28,8 @@ at ws i m = getD ws (place i m) 0
 unfoldable pub valueWords : Val → List ℕ
 valueWords v = asShape (typeOf v) ∷ leafBits v
 
--- tags: 1, the row's own form; 2 and 3, the first and the second of two things that it may have become
+-- tags: 1, the row's own form; 2 and 3, the first and the second of two things that it may have become; 4, the last row where it failed as
+-- a whole (CR 3)
 abbrev pub own : ℕ
 own = 1
 
@@ -37,6 +38,9 @@ one = 2
 
 abbrev pub other : ℕ
 other = 3
+
+abbrev pub whole : ℕ
+whole = 4
 
 -- the words xs stored from word m of row i on
 unfoldable pub putWords : List ℕ → ℕ → ℕ → List ℕ → List ℕ
@@ -81,3 +85,7 @@ writeCells rs (suc i) s ws = cond (isKind rs i cellK) (valued (writeCells rs i s
 -- the state of n rows whose last row is the code c: the cells' contents s, and the task t
 unfoldable pub encode : List ℕ → ℕ → (c : Code) → TaskOf c → Store → List ℕ
 encode rs n c t s = writeTask rs (n - 1) c t (writeCells rs n s (replicate (n * stateWords) 0))
+
+-- the state of n rows whose last row failed as a whole, with the cells' contents s (CR 3)
+unfoldable pub encodeFailed : List ℕ → ℕ → Store → List ℕ
+encodeFailed rs n s = tagged (writeCells rs n s (replicate (n * stateWords) 0)) (n - 1) whole

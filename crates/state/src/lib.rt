@@ -39,12 +39,14 @@ pub const VALUE_WORDS: usize = 1 + MAX_LEAVES;
 
 pub const ENV_WORDS: usize = MAX_BINDERS * VALUE_WORDS;
 
-// Tags: the row's own form, and the first and the second of two things that it may have become.
+// Tags: the row's own form, the first and the second of two things that it may have become, and the last row failed as a whole (CR 3).
 pub const OWN: u32 = 1;
 
 pub const ONE: u32 = 2;
 
 pub const OTHER: u32 = 3;
+
+pub const WHOLE: u32 = 4;
 
 // Word m of a state row.
 pub fn read(state: &[u32; STATE_SIZE], row: usize, m: usize) -> u32

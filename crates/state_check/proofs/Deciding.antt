@@ -52,7 +52,7 @@ pub alike-no : (x y : List ℕ) (k m : ℕ) → k < m → (getD x k 0 ≡ getD y
 alike-no x y k m l n = record { yes = λ e. absurd (false≢true e); no = λ _ h. n (h k l) }
 
 -- words that are the same in n rows, and zeros after them
-alike-all : {x y : List ℕ} (n : ℕ) → length x ≡ length y → ZerosAfter n x → ZerosAfter n y → Alike x y (n * stateWords) → x ≡ y
+pub alike-all : {x y : List ℕ} (n : ℕ) → length x ≡ length y → ZerosAfter n x → ZerosAfter n y → Alike x y (n * stateWords) → x ≡ y
 alike-all {x} {y} n l p q h = ext-getD 0 x y l (λ j _. by j (decLt j (n * stateWords)))
   where
     by : (j : ℕ) → Dec (j < n * stateWords) → getD x j 0 ≡ getD y j 0
@@ -60,7 +60,7 @@ alike-all {x} {y} n l p q h = ext-getD 0 x y l (λ j _. by j (decLt j (n * state
     by j (no k) = p j (omega arith) ∙ sym (q j (omega arith))
 
 -- words that are those of n rows alone
-same-ends : {y : List ℕ} (n : ℕ) → Same (λ j. ⊥) y (take (n * stateWords) y) → ZerosAfter n y
+pub same-ends : {y : List ℕ} (n : ℕ) → Same (λ j. ⊥) y (take (n * stateWords) y) → ZerosAfter n y
 same-ends {y} n s k h =
     let e : k ≡ place (k / stateWords) (k % stateWords) = omega arith in
     let l = length-take (n * stateWords) y in

@@ -189,7 +189,7 @@ fn copy_cells(
 }
 
 // Are the first m words the same?
-fn alike(x: &[u32], y: &[u32], m: usize) -> bool
+pub fn alike(x: &[u32], y: &[u32], m: usize) -> bool
     requires { ⌜ (m ≤ length (now x)) × (m ≤ length (now y)) ⌝ }
     ensures { λ r. ⌜ Decides r (Alike (now (x .entry)) (now (y .entry)) m) ⌝ }
 {

@@ -1,6 +1,6 @@
 -- Truths and optional answers: what every file of proofs uses of them. Rests on nothing.
 use mathlib.Core.Path.{_≡_, refl, sym, _∙_}
-use mathlib.Core.Bool.{Bool, true, false, _&&_}
+use mathlib.Core.Bool.{Bool, true, false, _&&_, _||_}
 use mathlib.Core.Option.{Option, none, some}
 use Prim.Native.Nat.{ℕ}
 use native.Mathlib.Omega.{arith}
@@ -19,6 +19,14 @@ and-left false y e = e
 pub and-right : (x y : Bool) → x && y ≡ true → y ≡ true
 and-right true y e = e
 and-right false y e = apart e refl
+
+pub or-false : (x y : Bool) → x || y ≡ false → (x ≡ false) × (y ≡ false)
+or-false true y e = apart refl e
+or-false false y e = (refl, e)
+
+pub or-true : {P : Type 0} (x y : Bool) → x || y ≡ true → (x ≡ true → P) → (x ≡ false → y ≡ true → P) → P
+or-true true y e f g = f refl
+or-true false y e f g = g refl e
 
 module _ {X : Type 0} where
   pub no-some : {P : Type 0} {x : X} → _≡_ {A = Option X} none (some x) → P

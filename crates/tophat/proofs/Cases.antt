@@ -1,125 +1,27 @@
--- 01's proved cases, P1 to P12, one for 01's numbers, CR 1's and CR 2's, as one computed check: what the definitions give for each flow and its
--- touches is what 01 says. What is computed has its numbers from the calculus' tables; what 01 says has them as 01 writes them, and is
--- in 01's order. Rests on the Compute files.
+-- 01's proved cases, P1 to P12, one for 01's numbers, CR 1's, CR 2's and CR 3's, as one computed check: what the definitions give for each
+-- flow and its touches is what 01 says. Rests on CaseScreens.
 use mathlib.Core.Path.{_≡_, refl}
 use mathlib.Core.Bool.{Bool, true, false}
-use mathlib.Core.Option.{Option, none, some, bind}
+use mathlib.Core.Option.{none, some, bind}
 use mathlib.Core.List.{List, [], _∷_, map}
-use Prim.Native.Nat.{ℕ}
 use lib.IntN.{ℤ, pos, negsuc}
 use native.Mathlib.Decide.{decLe}
-use Rattle.word.specs.Word.{wrap, residue}
-use Rattle.decimal.specs.Path.{Mark, first, second, Path}
-use Rattle.tophat.specs.Syntax.{leaves, moves, Ty, unit, truth, number, pair, sum, product, lessEqual, equal, Exp, enumber, ebinder, eop, eassign}
-use Rattle.tophat.specs.Syntax.{Code, edit, enter, update, then, next, fail, and, or, xor, view, if, let', TaskOf, Val, vnumber, Store}
+use Rattle.word.specs.Word.{isWord}
+use Rattle.decimal.specs.Path.{first, second}
+use Rattle.tophat.specs.Syntax.{leaves, moves, unit, truth, number, pair, Op, sum, difference, product, lessEqual, equal, enumber, ebinder, eop, eassign}
+use Rattle.tophat.specs.Syntax.{edit, enter, update, then, next, fail, and, or, xor, view, if, let', vnumber}
+use Rattle.tophat.specs.Typing.{typeOf}
+use Rattle.tophat.specs.Leaves.{leavesOf, padded, leafKinds, valueOf, meetsLeaf, meets, numberGiven, given}
 use Rattle.tophat.specs.Normalising.{value, pairOf}
-use Rattle.tophat.specs.Handling.{continue, left, right, giving, pressing, actNumber, Action, give, press}
-use Rattle.tophat.specs.Leaves.{leavesOf, padded, leafNumber, leafKinds, Given, valueOf, meetsLeaf, meets, numberGiven, given}
-use Rattle.tophat.specs.Showing.{Offer, fill, button, marked, offers, buttonIf}
+use Rattle.tophat.specs.Handling.{continue, left, right, give, press}
+use Rattle.tophat.specs.Showing.{marked, offers, buttonIf}
 use Rattle.tophat.proofs.ComputeTyping.{inferTask, infer, ask, nth, numberTo, opTo, takes, gives, sameTo, ifTo, typeTo, assignTo}
-use Rattle.tophat.proofs.ComputeEvaluation.{eval, branch, isTrue, apply, leaf}
+use Rattle.tophat.proofs.ComputeEvaluation.{eval, branch, isTrue, apply, leaf, kept, exact, exceeds, overflows, overflowsTask}
 use Rattle.tophat.proofs.ComputeNormalising.{failing, normalise, settle, strides, unlessStill, goOn, goOnWith, chooseRight, chooseLeft}
 use Rattle.tophat.proofs.ComputeHandling.{handle, mapTask, thenSome, atEditor, atMark, atSides, atContinue, unlessFailing}
-use Rattle.tophat.specs.Typing.{typeOf}
 use Rattle.tophat.proofs.ComputeEntries.{entries, continueIf}
-
--- Screens, as 01 prints them.
-
--- path, action, leaf kinds
-pub data Line : Type 0 where
-  line : List ℕ → ℕ → List ℕ → Line
-
--- answer, strides, failing, value flag, leaves, entries
-pub data Screen : Type 0 where
-  screen : ℕ → ℕ → ℕ → ℕ → List ℤ → List Line → Screen
-
-unfoldable pub digit : Mark → ℕ
-digit first = 1
-digit second = 2
-
-unfoldable pub lineOf : Path → Offer → Line
-lineOf p (fill ks) = line (map digit p) (actNumber giving) (map leafNumber ks)
-lineOf p (button b) = line (map digit p) (actNumber (pressing b)) (padded 0 [])
-
-unfoldable pub flag : Bool → ℕ
-flag true = 1
-flag false = 0
-
-unfoldable pub valueFlag : Option Val → ℕ
-valueFlag none = 0
-valueFlag (some v) = 1
-
-unfoldable pub valueLeaves : Option Val → List ℤ
-valueLeaves none = padded (pos 0) []
-valueLeaves (some v) = padded (pos 0) (leavesOf v)
-
-unfoldable pub screenOf : (c : Code) → ℕ → ℕ → TaskOf c → Store → Screen
-screenOf c answer n t s =
-    screen answer n (flag (failing c [] s t)) (valueFlag (value c t s)) (valueLeaves (value c t s)) (map (λ e. lineOf (e .0) (e .1)) (entries c [] s t))
-
--- A case: a flow, its cells and its events; and what 01 says of it: its type, the screens after start and after each event,
--- and the cells in the end.
-pub record Case : Type 0 where
-  pub flow : Code
-  pub cells : Store
-  pub events : List (Path × Action)
-  pub type : Option Ty
-  pub shown : List Screen
-  pub kept : Store
-
-abbrev pub Outcome : Type 0
-Outcome = Option Ty × List Screen × Store
-
-unfoldable pub expected : Case → Outcome
-expected k = (k .type, k .shown, k .kept)
-
--- answer, strides, task and store after an event
-unfoldable pub taken : (c : Code) → TaskOf c → Store → Option (TaskOf c × Store) → ℕ × ℕ × TaskOf c × Store
-taken c t s none = (9, 0, t, s)
-taken c t s (some r) = let (t₁, s₁, n) = normalise c [] (r .1) (r .0) in (0, n, t₁, s₁)
-
-unfoldable pub screens : (c : Code) → ℕ × ℕ × TaskOf c × Store → List (Path × Action) → List Screen × Store
-screens c (answer, n, t, s) [] = (screenOf c answer n t s ∷ [], s)
-screens c (answer, n, t, s) ((p, x) ∷ xs) =
-    let (ss, s₁) = screens c (taken c t s (handle c [] s t p x)) xs in
-    (screenOf c answer n t s ∷ ss, s₁)
-
-unfoldable pub computed : Case → Outcome
-computed k =
-    let c = k .flow in
-    let (t, s, n) = settle c [] (k .cells) in
-    let (ss, s₁) = screens c (0, n, t, s) (k .events) in
-    (inferTask (map typeOf (k .cells)) [] c, ss, s₁)
-
--- numbers in flows, cells and events, and as the first of the leaves
-abbrev pub num : ℕ → Exp
-num n = enumber (pos n)
-
-abbrev pub cell : ℕ → Store
-cell n = vnumber (pos n) ∷ []
-
-abbrev pub single : ℤ → List ℤ
-single n = padded (pos 0) (n ∷ [])
-
--- a number given, the other leaves 0 or blank
-abbrev pub giving1 : ℕ → Action
-giving1 n = give (padded (some (pos 0)) (some (pos n) ∷ []))
-
-abbrev pub givingBlank : List Given → Action
-givingBlank ls = give (padded none ls)
-
-abbrev pub value1 : ℕ → Path × Action
-value1 n = ([], giving1 n)
-
--- the entry of an editor of one leaf of this kind at a path, of numbers; and a button's at the empty path
-abbrev pub editorOf : ℕ → List ℕ → Line
-editorOf k p = line p 1 (padded 0 (k ∷ []))
-
-abbrev pub editor : List ℕ → Line
-editor p = editorOf 3 p
-
-abbrev pub buttonLine : ℕ → Line
-buttonLine n = line [] n (padded 0 [])
+use Rattle.tophat.proofs.CaseScreens.{screen, digit, lineOf, flag, valueFlag, valueLeaves, screenOf, Case, expected, taken, screens, failedWhole, computed}
+use Rattle.tophat.proofs.CaseScreens.{num, cell, single, giving1, givingBlank, value1, editorOf, editor, buttonLine}
 
 -- P1 to P4: 01's session: started, value 12, value 4, Continue
 abbrev pub p1-p4 : Case
@@ -222,14 +124,14 @@ p11 = record {
   kept = cell 1;
 }
 
--- P12: 2147483647 plus 1 is -2147483648
+-- P12 (CR 3): a filled editor of 2147483647 plus 1 fails
 abbrev pub p12 : Case
 p12 = record {
   flow = edit (eop sum (num 2147483647) (num 1));
   cells = [];
   events = [];
   type = some number;
-  shown = screen 0 1 0 1 (single (negsuc 2147483647)) (editor [] ∷ []) ∷ [];
+  shown = screen 0 1 1 0 (single (pos 0)) [] ∷ [];
   kept = [];
 }
 
@@ -314,15 +216,93 @@ blanks = record {
   kept = [];
 }
 
+-- CR 3: cell 7; what leaves the words at start is 45: the write of 3 before it is dropped, no touch is taken
+abbrev pub over-start : Case
+over-start = record {
+  flow = let' (eassign 0 (num 3)) (and (enter number) (edit (eop product (num 65536) (num 32768))));
+  cells = cell 7;
+  events = (first ∷ [], giving1 1) ∷ [];
+  type = some (pair number number);
+  shown =
+      screen 0 1 1 0 (single (pos 0)) []
+      ∷ screen 9 0 1 0 (single (pos 0)) []
+      ∷ [];
+  kept = cell 7;
+}
+
+-- CR 3: cell 7; 1, internal step that writes 3 and leaves the words (P10 with an overflow): it waits, cell 7; a 0 entered, it goes on
+abbrev pub over-then : Case
+over-then = record {
+  flow = then (edit (num 1)) (let' (eassign 0 (num 3)) (edit (eop sum (num 2147483647) (ebinder 1))));
+  cells = cell 7;
+  events = value1 2 ∷ value1 0 ∷ [];
+  type = some number;
+  shown =
+      screen 0 1 0 0 (single (pos 0)) (editor [] ∷ [])
+      ∷ screen 0 1 0 0 (single (pos 0)) (editor [] ∷ [])
+      ∷ screen 0 2 0 1 (single (pos 2147483647)) (editor [] ∷ [])
+      ∷ [];
+  kept = cell 3;
+}
+
+-- CR 3: Continue to a bound difference that leaves the words, and is not used: no Continue, 9, cell 7
+abbrev pub over-next : Case
+over-next = record {
+  flow = next (edit (num 1)) (let' (eassign 0 (num 3)) (let' (eop difference (enumber (negsuc 2147483647)) (ebinder 1)) (edit (num 0))));
+  cells = cell 7;
+  events = ([], press continue) ∷ [];
+  type = some number;
+  shown =
+      screen 0 1 0 0 (single (pos 0)) (editor [] ∷ [])
+      ∷ screen 9 0 0 0 (single (pos 0)) (editor [] ∷ [])
+      ∷ [];
+  kept = cell 7;
+}
+
+-- CR 3: choice 48 of a branch that leaves the words and a filled one: Right only; its second side would leave them where it is not taken
+abbrev pub over-xor : Case
+over-xor = record {
+  flow = xor (and (edit (num 1)) (edit (eop product (num 46341) (num 46341))))
+      (and (edit (num 1)) (if (eop equal (num 1) (num 1)) (edit (num 2)) (edit (eop product (num 46341) (num 46341)))));
+  cells = [];
+  events = ([], press left) ∷ ([], press right) ∷ [];
+  type = some (pair number number);
+  shown =
+      screen 0 1 0 0 (single (pos 0)) (buttonLine 4 ∷ [])
+      ∷ screen 9 0 0 0 (single (pos 0)) (buttonLine 4 ∷ [])
+      ∷ screen 0 1 0 1 (padded (pos 0) (pos 1 ∷ pos 2 ∷ [])) (editor (1 ∷ []) ∷ editor (2 ∷ []) ∷ [])
+      ∷ [];
+  kept = [];
+}
+
 unfoldable pub cases : List Case
-cases = p1-p4 ∷ p5 ∷ p6 ∷ p7 ∷ p8 ∷ p9 ∷ p10 ∷ p11 ∷ p12 ∷ buttons ∷ quiet-both ∷ quiet-next ∷ shown-on ∷ blanks ∷ []
+cases = p1-p4 ∷ p5 ∷ p6 ∷ p7 ∷ p8 ∷ p9 ∷ p10 ∷ p11 ∷ p12 ∷ buttons ∷ quiet-both ∷ quiet-next ∷ shown-on ∷ blanks ∷ over-start ∷ over-then ∷ over-next ∷ over-xor ∷ []
 
 -- what is computed is what 01 says
 pub cases-hold : map computed cases ≡ map expected cases
 unfolding
-    cases computed expected screens taken screenOf flag valueFlag valueLeaves lineOf digit inferTask infer
+    cases computed failedWhole expected screens taken screenOf flag valueFlag valueLeaves lineOf digit inferTask infer
     bind ask nth numberTo opTo takes gives sameTo ifTo typeTo assignTo decLe leaves moves settle normalise strides
-    unlessStill goOn goOnWith chooseRight chooseLeft failing eval branch isTrue apply leaf value pairOf
+    unlessStill goOn goOnWith chooseRight chooseLeft failing eval branch isTrue apply kept exact isWord exceeds overflows overflowsTask leaf value pairOf
     leavesOf padded leafKinds marked offers buttonIf typeOf valueOf meetsLeaf meets numberGiven given mapTask thenSome atEditor
-    atMark atSides atContinue unlessFailing handle continueIf entries wrap residue
+    atMark atSides atContinue unlessFailing handle continueIf entries
 cases-hold = refl
+
+-- CR 3: the ends of the words. An operator, its numbers, and whether the result leaves the words
+unfoldable pub ends : List (Op × ℤ × ℤ × Bool)
+ends =
+    (sum, pos 2147483647, pos 0, false)
+    ∷ (sum, pos 2147483647, pos 1, true)
+    ∷ (sum, negsuc 2147483647, negsuc 0, true)
+    ∷ (difference, negsuc 2147483647, pos 0, false)
+    ∷ (difference, negsuc 2147483647, pos 1, true)
+    ∷ (product, pos 46341, pos 46340, false)
+    ∷ (product, pos 46341, pos 46341, true)
+    ∷ (product, negsuc 65535, pos 32768, false)
+    ∷ (product, pos 65536, pos 32768, true)
+    ∷ (product, negsuc 2147483647, negsuc 0, true)
+    ∷ []
+
+pub ends-hold : map (λ (o, x, y, b). exceeds o (vnumber x) (vnumber y)) ends ≡ map (λ (o, x, y, b). b) ends
+unfolding ends exceeds exact isWord leaf
+ends-hold = refl

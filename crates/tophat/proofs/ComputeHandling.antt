@@ -12,7 +12,7 @@ use Rattle.tophat.specs.Leaves.{Given, given}
 use Rattle.tophat.specs.Normalising.{value}
 use Rattle.tophat.specs.Handling.{continue, left, right, Action, give, press}
 use Rattle.tophat.proofs.ComputeEvaluation.{evaluate}
-use Rattle.tophat.proofs.ComputeNormalising.{failing, settle}
+use Rattle.tophat.proofs.ComputeNormalising.{settle, rightFails, branchFails}
 
 unfoldable pub mapTask : {A C : Type 0} → (A → C) → Option (A × Store) → Option (C × Store)
 mapTask K none = none
@@ -65,7 +65,7 @@ handle (then a b) ρ s (before t) p x = mapTask before (handle a ρ s t p x)
 handle (then a b) ρ s (after v u) p x = mapTask (after v) (handle b (v ∷ ρ) s u p x)
 handle (next a b) ρ s (before t) p x =
     atContinue p x (value a t s)
-    (λ v. let (u, s₁) = evaluate b (v ∷ ρ) s in unlessFailing (failing b (v ∷ ρ) s₁ u) (after v) u s₁)
+    (λ v. let (u, s₁) = evaluate b (v ∷ ρ) s in unlessFailing (rightFails b (v ∷ ρ) s) (after v) u s₁)
     (λ _. mapTask before (handle a ρ s t p x))
 handle (next a b) ρ s (after v u) p x = mapTask (after v) (handle b (v ∷ ρ) s u p x)
 handle (fail τ) ρ s t p x = none
@@ -75,8 +75,8 @@ handle (or a b) ρ s (orLeft t) p x = mapTask orLeft (handle a ρ s t p x)
 handle (or a b) ρ s (orRight u) p x = mapTask orRight (handle b ρ s u p x)
 handle (xor a b) ρ s unpicked p x =
     atSides p x
-    (λ _. let (t, s₁, n) = settle a ρ s in unlessFailing (failing a ρ s₁ t) pickedLeft t s₁)
-    (λ _. let (u, s₁, n) = settle b ρ s in unlessFailing (failing b ρ s₁ u) pickedRight u s₁)
+    (λ _. let (t, s₁, n) = settle a ρ s in unlessFailing (branchFails a ρ s) pickedLeft t s₁)
+    (λ _. let (u, s₁, n) = settle b ρ s in unlessFailing (branchFails b ρ s) pickedRight u s₁)
 handle (xor a b) ρ s (pickedLeft t) p x = mapTask pickedLeft (handle a ρ s t p x)
 handle (xor a b) ρ s (pickedRight u) p x = mapTask pickedRight (handle b ρ s u p x)
 handle (view e) ρ s t p x = none

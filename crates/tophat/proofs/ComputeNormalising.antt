@@ -7,7 +7,7 @@ use Prim.Native.Nat.{ℕ, zero, suc, _+_}
 use Rattle.tophat.specs.Syntax.{moves, StepT, OrT, Code, edit, enter, update, then, next, fail, and, or, xor, view, if, let', Val, Env, Store}
 use Rattle.tophat.specs.Syntax.{TaskOf, before, after, both, either, orLeft, orRight, unpicked, pickedLeft, pickedRight, ifTrue, ifFalse, bound}
 use Rattle.tophat.specs.Normalising.{value}
-use Rattle.tophat.proofs.ComputeEvaluation.{evaluate}
+use Rattle.tophat.proofs.ComputeEvaluation.{evaluate, overflowsTask}
 
 module _ {X : Type 0} where
   -- strides until one does not move, at most n; the number counts them, the last included
@@ -40,7 +40,7 @@ module _ {A B : Type 0} where
   chooseLeft (some v) t u s m G W = (orLeft t, s, true)
 
 unfoldable mutual
-  unfolding evaluate value
+  unfolding evaluate overflowsTask value
 
   pub failing : (c : Code) → Env → Store → TaskOf c → Bool
   failing (edit e) ρ s t = false
@@ -60,7 +60,7 @@ unfoldable mutual
       let (t₁, s₂, m) = strides (λ s t. stride a ρ s t) (suc (moves a)) s₁ t in
       let (u, s₃) = evaluate b ρ s in
       let (u₁, s₄, n) = strides (λ s u. stride b ρ s u) (suc (moves b)) s₃ u in
-      failing a ρ s₂ t₁ && failing b ρ s₄ u₁
+      (overflowsTask a ρ s || failing a ρ s₂ t₁) && (overflowsTask b ρ s || failing b ρ s₄ u₁)
   failing (xor a b) ρ s (pickedLeft t) = failing a ρ s t
   failing (xor a b) ρ s (pickedRight u) = failing b ρ s u
   failing (view e) ρ s t = false
@@ -74,7 +74,7 @@ unfoldable mutual
   stride (update n) ρ s t = (t, s, false)
   stride (then a b) ρ s (before t) =
       let (t₁, s₁, m) = stride a ρ s t in
-      goOnWith (value a t₁ s₁) t₁ s₁ m (λ v. evaluate b (v ∷ ρ) s₁) (λ v r. failing b (v ∷ ρ) (r .1) (r .0))
+      goOnWith (value a t₁ s₁) t₁ s₁ m (λ v. evaluate b (v ∷ ρ) s₁) (λ v r. overflowsTask b (v ∷ ρ) s₁ || failing b (v ∷ ρ) (r .1) (r .0))
   stride (then a b) ρ s (after v u) = let (u₁, s₁, m) = stride b (v ∷ ρ) s u in (after v u₁, s₁, m)
   stride (next a b) ρ s (before t) = let (t₁, s₁, m) = stride a ρ s t in (before t₁, s₁, m)
   stride (next a b) ρ s (after v u) = let (u₁, s₁, m) = stride b (v ∷ ρ) s u in (after v u₁, s₁, m)
@@ -103,13 +103,13 @@ normalise c ρ s t = strides (λ s t. stride c ρ s t) (suc (moves c)) s t
 unfoldable pub settle : (c : Code) → Env → Store → TaskOf c × Store × ℕ
 settle c ρ s = let (t, s₁) = evaluate c ρ s in normalise c ρ s₁ t
 
--- whether a right side, evaluated, fails
+-- whether a right side, evaluated, fails: it leaves the words (CR 3), or its task fails
 abbrev pub rightFails : Code → Env → Store → Bool
-rightFails b ρ s = let (u, s₁) = evaluate b ρ s in failing b ρ s₁ u
+rightFails b ρ s = let (u, s₁) = evaluate b ρ s in overflowsTask b ρ s || failing b ρ s₁ u
 
--- whether a branch, evaluated and normalised, fails
+-- whether a branch, evaluated and normalised, fails, likewise
 abbrev pub branchFails : Code → Env → Store → Bool
-branchFails c ρ s = let (t, s₁, n) = settle c ρ s in failing c ρ s₁ t
+branchFails c ρ s = let (t, s₁, n) = settle c ρ s in overflowsTask c ρ s || failing c ρ s₁ t
 
 -- the rows of kind 43 and 47 that a task can still move
 unfoldable pub remaining : (c : Code) → TaskOf c → ℕ

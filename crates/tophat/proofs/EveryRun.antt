@@ -13,14 +13,15 @@ use mathlib.Core.Option.{Option, none, some}
 use mathlib.Core.List.{List, [], _∷_}
 use Prim.Native.Nat.{ℕ, _+_, _≤_}
 use Rattle.decimal.specs.Path.{Path}
-use Rattle.tophat.specs.Syntax.{moves, Ty, Code, Store, TaskOf}
-use Rattle.tophat.specs.Typing.{CodeType, v-nil, ValueTypes}
-use Rattle.tophat.specs.Evaluation.{EvaluatesTask}
-use Rattle.tophat.specs.Normalising.{Fails, Normalises}
+use Rattle.tophat.specs.Syntax.{moves, Ty, leaves, maxLeaves, Code, fail, Store, TaskOf, failed}
+use Rattle.tophat.specs.Typing.{CodeType, v-nil, ValueTypes, k-failed}
+use Rattle.tophat.specs.Evaluation.{EvaluatesTask, OverflowsTask}
+use Rattle.tophat.specs.Normalising.{Fails, s-fail, Normalises, n-done}
 use Rattle.tophat.specs.Quiet.{Quiet}
 use Rattle.tophat.specs.Handling.{Action, Handles}
 use Rattle.tophat.specs.Runs.{Call, look, touch, Accepts, Refuses, Leaves, l-look, l-taken, l-refused, Runs, r-end, r-call, Rest, Stands}
 use Rattle.tophat.proofs.Basics.{by-truth, All, all-none, all-some, all-is}
+use Rattle.tophat.proofs.ComputeEvaluation.{overflowsTask}
 use Rattle.tophat.proofs.ComputeNormalising.{failing, settle}
 use Rattle.tophat.proofs.ComputeHandling.{handle}
 use Rattle.tophat.proofs.ComputeEntries.{entries}
@@ -96,14 +97,19 @@ module _ {Σ : List Ty} {c : Code} {τ : Ty} {t : TaskOf c} {s : Store} (r : Res
   call-rest look = (t, s, l-look, r)
   call-rest (touch p x) = taken-rest p x _ refl (handled p x)
 
--- a typed code, evaluated and normalised in a store of the cells' types, is at rest
-pub started-rest : {Σ : List Ty} {c : Code} {τ : Ty} → CodeType Σ [] c τ → (s : Store) → ValueTypes s Σ
+-- a typed code that does not leave the words, evaluated and normalised in a store of the cells' types, is at rest
+pub started-rest : {Σ : List Ty} {c : Code} {τ : Ty} → CodeType Σ [] c τ → (s : Store) → ValueTypes s Σ → overflowsTask c [] s ≡ false
     → let (t₁, s₁, n) = settle c [] s in (t₀ : TaskOf c) × (s₀ : Store) × EvaluatesTask c [] s t₀ s₀ × Normalises c [] s₀ t₀ t₁ s₁ n × Rest Σ c τ t₁ s₁
 unfolding settle
-started-rest {c = c} d s h =
+started-rest {c = c} d s h o =
     let k = evaluate-good d [] s v-nil h in
     let n = normalise-sound c [] _ _ (k .task) v-nil (k .store) in
-    (_, _, k .derived, n .derived, record { task = n .task; store = n .store; still = normal-rest (n .derived) })
+    (_, _, k .derived o, n .derived, record { task = n .task; store = n .store; still = normal-rest (n .derived) })
+
+-- one that does is 45 of its type in the store from before (CR 3), which is a rest too
+pub started-failed : {Σ : List Ty} {c : Code} {τ : Ty} → CodeType Σ [] c τ → leaves τ ≤ maxLeaves → (s : Store) → ValueTypes s Σ → overflowsTask c [] s ≡ true
+    → OverflowsTask c [] s × Rest Σ (fail τ) τ failed s
+started-failed d l s h o = (evaluate-good d [] s v-nil h .over o, record { task = k-failed l; store = h; still = n-done s-fail })
 
 -- from a rest every list of calls runs, and what it leaves stands
 pub every-run : {Σ : List Ty} {c : Code} {τ : Ty} {t : TaskOf c} {s : Store} → Rest Σ c τ t s → (ks : List Call) → (t₁ : TaskOf c) × (s₁ : Store) × Runs c t s ks t₁ s₁ × Stands Σ c τ t₁ s₁

@@ -9,9 +9,9 @@ use native.Mathlib.Omega.{arith}
 use Rattle.tophat.specs.Syntax.{moves, Code, then, or, xor, Val, Env, Store}
 use Rattle.tophat.specs.Syntax.{TaskOf, unpicked}
 use Rattle.tophat.specs.Normalising.{pairOf, firstOf, value}
-use Rattle.tophat.proofs.Basics.{apart, by-truth, and-left, and-right, no-some}
-use Rattle.tophat.proofs.ComputeEvaluation.{evaluate}
-use Rattle.tophat.proofs.ComputeNormalising.{unlessStill, strides, goOn, goOnWith, chooseRight, chooseLeft, failing, stride, normalise, settle}
+use Rattle.tophat.proofs.Basics.{apart, by-truth, and-left, and-right, or-false, no-some}
+use Rattle.tophat.proofs.ComputeEvaluation.{evaluate, overflowsTask}
+use Rattle.tophat.proofs.ComputeNormalising.{unlessStill, strides, goOn, goOnWith, chooseRight, chooseLeft, failing, stride, normalise, settle, rightFails}
 use Rattle.tophat.proofs.Became.{alike, Formed, of-became, of-edit, of-enter, of-update, of-then, of-next, of-fail, of-and, of-or, of-xor, of-view, formed}
 use Rattle.tophat.proofs.Progress.{flag-is}
 
@@ -90,17 +90,17 @@ abbrev LivesIfMoved : (c : Code) → Env → TaskOf c × Store × Bool → Type 
 LivesIfMoved c ρ r = r .2 ≡ true → failing c ρ (r .1) (r .0) ≡ false
 
 module _ (a b : Code) (ρ : Env) where
-  go-on : (v : Val) (t : TaskOf a) (s : Store) (m : Bool) (r : TaskOf b × Store) (x : Bool) → failing b (v ∷ ρ) (r .1) (r .0) ≡ x
+  go-on : (v : Val) (t : TaskOf a) (s : Store) (m : Bool) (r : TaskOf b × Store) (x : Bool) → (x ≡ false → failing b (v ∷ ρ) (r .1) (r .0) ≡ false)
       → LivesIfMoved a ρ (t, s, m) → LivesIfMoved (then a b) ρ (goOn v t s m r x)
   unfolding goOn failing
   go-on v t s m r true f h = h
-  go-on v t s m r false f h = λ e. f
+  go-on v t s m r false f h = λ e. f refl
 
   go-on-with : (o : Option Val) (t : TaskOf a) (s : Store) (m : Bool) → LivesIfMoved a ρ (t, s, m)
-      → LivesIfMoved (then a b) ρ (goOnWith o t s m (λ v. evaluate b (v ∷ ρ) s) (λ v r. failing b (v ∷ ρ) (r .1) (r .0)))
+      → LivesIfMoved (then a b) ρ (goOnWith o t s m (λ v. evaluate b (v ∷ ρ) s) (λ v r. overflowsTask b (v ∷ ρ) s || failing b (v ∷ ρ) (r .1) (r .0)))
   unfolding goOnWith failing
   go-on-with none t s m h = h
-  go-on-with (some v) t s m h = go-on v t s m (evaluate b (v ∷ ρ) s) (failing b (v ∷ ρ) (evaluate b (v ∷ ρ) s .1) (evaluate b (v ∷ ρ) s .0)) refl h
+  go-on-with (some v) t s m h = go-on v t s m (evaluate b (v ∷ ρ) s) _ (λ e. or-false (overflowsTask b (v ∷ ρ) s) _ e .1) h
 
   -- two parts, the second at u in s and strided from there: if it did not move, the store is still s
   two : (t : TaskOf a) (s : Store) (m : Bool) (u : TaskOf b) → LivesIfMoved a ρ (t, s, m) → LivesIfMoved b ρ (stride b ρ s u) → m || stride b ρ s u .2 ≡ true
@@ -207,9 +207,9 @@ module _ (c : Code) (ρ : Env) where
 
 -- an unpicked choice fails exactly where both branches, evaluated and not yet strided, do
 pub xor-failing : (a b : Code) (ρ : Env) (s : Store)
-    → failing (xor a b) ρ s unpicked ≡ failing a ρ (evaluate a ρ s .1) (evaluate a ρ s .0) && failing b ρ (evaluate b ρ s .1) (evaluate b ρ s .0)
+    → failing (xor a b) ρ s unpicked ≡ rightFails a ρ s && rightFails b ρ s
 unfolding failing
 xor-failing a b ρ s =
-    ap₂ _&&_
+    ap₂ (λ x y. (overflowsTask a ρ s || x) && (overflowsTask b ρ s || y))
     (strides-failing a ρ (suc (moves a)) (evaluate a ρ s .1) (evaluate a ρ s .0))
     (strides-failing b ρ (suc (moves b)) (evaluate b ρ s .1) (evaluate b ρ s .0))

@@ -4,7 +4,7 @@ use mathlib.Core.Path.{_≡_, refl, sym, ap, _∙_}
 use mathlib.Core.Option.{Option, none, some}
 use mathlib.Core.List.{[], _∷_}
 use Rattle.decimal.specs.Path.{Path}
-use Rattle.tophat.specs.Syntax.{Code, Val, Env, Store, TaskOf}
+use Rattle.tophat.specs.Syntax.{Ty, Code, fail, Val, Env, Store, TaskOf}
 use Rattle.tophat.specs.Normalising.{value}
 use Rattle.tophat.specs.Handling.{h-became}
 use Rattle.tophat.specs.Handling.{continue, left, right, Action, give, press, Handles, h-change, h-fill, h-update, h-pass-then, h-pass-next, h-next}
@@ -44,13 +44,13 @@ handles-is (h-pass-then d) = let e = handles-is d in rw e
 handles-is (h-pass-next {ρ = ρ} {s = s} {a = a} {t = t} {p = p} {x = x} d) =
     let e = handles-is d in
     passes p x (value a t s) _ (λ v. no-continue a ρ s t p x e) (rw e)
-handles-is (h-next h d f) = let e = evaluate-is d in let k = fails-is f in rw (h, e, k)
+handles-is (h-next h d f) = let (e, o) = evaluate-is d in let k = fails-is f in rw (h, e, o, k)
 handles-is (h-first-and d) = let e = handles-is d in rw e
 handles-is (h-second-and d) = let e = handles-is d in rw e
 handles-is (h-first-or d) = let e = handles-is d in rw e
 handles-is (h-second-or d) = let e = handles-is d in rw e
-handles-is (h-pick-left d n f) = let e = evaluate-is d in let k = normalises-is n in let l = fails-is f in rw (e, k, l)
-handles-is (h-pick-right d n f) = let e = evaluate-is d in let k = normalises-is n in let l = fails-is f in rw (e, k, l)
+handles-is (h-pick-left d n f) = let (e, o) = evaluate-is d in let k = normalises-is n in let l = fails-is f in rw (e, k, o, l)
+handles-is (h-pick-right d n f) = let (e, o) = evaluate-is d in let k = normalises-is n in let l = fails-is f in rw (e, k, o, l)
 handles-is (h-became {s = s} {u = u} {p = p} {x = x} b d) = let q = ap (λ f. f p x) (alike b .handles s u) in let e = handles-is d in rw (q, e)
 
 -- an event has at most one outcome
@@ -64,3 +64,8 @@ handles-one {c} {s₁ = s₁} {s₂ = s₂} {t₁ = t₁} {t₂ = t₂} d e =
 -- an event that `handle` does not take is refused
 pub refuses : (c : Code) (s : Store) (t : TaskOf c) (p : Path) (x : Action) → handle c [] s t p x ≡ none → Refuses c t s p x
 refuses c s t p x h = λ t₁ s₁ d. no-some (sym h ∙ handles-is d)
+
+-- 45 takes no event
+pub fail-refuses : {τ : Ty} {ρ : Env} {s s₁ : Store} {t t₁ : TaskOf (fail τ)} {p : Path} {x : Action} → Handles (fail τ) ρ s t p x t₁ s₁ → ⊥
+unfolding handle
+fail-refuses d = no-some (handles-is d)

@@ -1,6 +1,6 @@
 -- What `handle` answers for a typed task is derived by the rules and keeps types. Rests on Leaves, Preservation and
 -- NormalisingSound.
-use mathlib.Core.Path.{_≡_, refl, ap}
+use mathlib.Core.Path.{_≡_, refl, ap, subst}
 use mathlib.Core.Bool.{Bool, true, false}
 use mathlib.Core.Option.{Option, none, some}
 use mathlib.Core.List.{List, [], _∷_}
@@ -8,22 +8,24 @@ use lib.ListN.{getD}
 use Rattle.decimal.specs.Path.{first, second, Path}
 use Rattle.tophat.specs.Syntax.{Ty, pair, Code, edit, enter, update, next, and, or, xor, Val, vunit, Env, Store}
 use Rattle.tophat.specs.Syntax.{TaskOf, filled, blank, entered, shared, before, after, both, either, unpicked, pickedLeft, pickedRight}
-use Rattle.tophat.specs.Typing.{ValueType, ValueTypes, v-cons, typeOf}
+use Rattle.tophat.specs.Typing.{CodeType, ValueType, ValueTypes, v-cons, typeOf}
 use Rattle.tophat.specs.Typing.{TaskType, k-filled, k-blank, k-entered, k-shared, k-then-before, k-next-before, k-next-after, k-both, k-either}
 use Rattle.tophat.specs.Typing.{k-unpicked, k-picked-left, k-picked-right}
-use Rattle.tophat.specs.Normalising.{value}
+use Rattle.tophat.specs.Evaluation.{EvaluatesTask}
+use Rattle.tophat.specs.Normalising.{value, Fails, Normalises}
 use Rattle.tophat.specs.Handling.{h-became}
 use Rattle.tophat.specs.Handling.{continue, left, right, Action, give, press, Handles, h-change, h-fill, h-update, h-pass-then, h-pass-next, h-next}
 use Rattle.tophat.specs.Leaves.{Given, Gives, given}
 use Rattle.tophat.specs.Handling.{h-first-and, h-second-and, h-first-or, h-second-or, h-pick-left, h-pick-right}
-use Rattle.tophat.proofs.Basics.{All, all-none, all-some}
-use Rattle.tophat.proofs.ComputeNormalising.{settle}
+use Rattle.tophat.proofs.Basics.{or-false, All, all-none, all-some}
+use Rattle.tophat.proofs.ComputeEvaluation.{evaluate, overflowsTask}
+use Rattle.tophat.proofs.ComputeNormalising.{failing, settle, branchFails}
 use Rattle.tophat.proofs.ComputeHandling.{mapTask, thenSome, atEditor, atMark, atSides, atContinue, unlessFailing, handle}
 use Rattle.tophat.proofs.Became.{alike, Formed, of-became, of-edit, of-enter, of-update, of-then, of-next, of-fail, of-and, of-or, of-xor, of-view, formed, inner}
 use Rattle.tophat.proofs.EvaluationAgrees.{look-up, put}
 use Rattle.tophat.proofs.TaskEvaluationAgrees.{evaluate-good}
 use Rattle.tophat.proofs.Preservation.{task-code, option-is, value-type}
-use Rattle.tophat.proofs.NormalisingSound.{fails-sound, normalise-sound}
+use Rattle.tophat.proofs.NormalisingSound.{fails-sound, normalise-sound, right-tried}
 use Rattle.tophat.proofs.Leaves.{type-of, given-gives}
 
 -- a handling that is derived, and keeps types
@@ -82,7 +84,28 @@ unless-all false K t s h = all-some (h refl)
 fits : {w v : Val} {τ : Ty} {ls : List Given} → ValueType w τ → Gives ls (typeOf w) v → Gives ls τ v
 fits h g = rw (type-of h) at g
 
+-- a branch settled: where it does not fail, its evaluation and its normal form are derived
+record Settled (Σ Γ : List Ty) (c : Code) (τ : Ty) (ρ : Env) (s : Store) : Type 0 where
+  task : TaskType Σ Γ c (settle c ρ s .0) τ
+  store : ValueTypes (settle c ρ s .1) Σ
+  goes : branchFails c ρ s ≡ false → EvaluatesTask c ρ s (evaluate c ρ s .0) (evaluate c ρ s .1)
+      × Normalises c ρ (evaluate c ρ s .1) (evaluate c ρ s .0) (settle c ρ s .0) (settle c ρ s .1) (settle c ρ s .2) × Fails c ρ (settle c ρ s .1) (settle c ρ s .0) false
+
 module _ {Σ : List Ty} where
+  settled : {Γ : List Ty} {c : Code} {τ : Ty} (ρ : Env) (s : Store) → CodeType Σ Γ c τ → ValueTypes ρ Γ → ValueTypes s Σ → Settled Σ Γ c τ ρ s
+  unfolding settle
+  settled {c = c} ρ s d g h =
+      let k = evaluate-good d ρ s g h in
+      let m = normalise-sound c ρ _ _ (k .task) g (k .store) in
+      let (t, s₁, n) = settle c ρ s in
+      record {
+        task = m .task;
+        store = m .store;
+        goes = λ z.
+            let (i, j) = or-false (overflowsTask c ρ s) (failing c ρ s₁ t) z in
+            (k .derived i, m .derived, subst (λ x. Fails c ρ s₁ t x) j (fails-sound c ρ s₁ t (m .task) g (m .store)));
+      }
+
   good : {c : Code} {ρ : Env} {t : TaskOf c} {Γ : List Ty} {τ : Ty} → Formed c ρ t → (s : Store) (p : Path) (x : Action) → TaskType Σ Γ c t τ → ValueTypes ρ Γ → ValueTypes s Σ → All (GoodHandling Σ Γ τ c ρ s t p x) (handle c ρ s t p x)
   unfolding handle settle
   good (of-became {K = K} {u = u} b f) s p x k g h =
@@ -108,8 +131,8 @@ module _ {Σ : List Ty} where
       (λ v z.
       let k = option-is (value-type d h) z in
       let q = evaluate-good e (v ∷ ρ) s (v-cons k g) h in
-      let l = fails-sound b (v ∷ ρ) _ _ (q .task) (v-cons k g) (q .store) in
-      unless-all _ (after v) _ _ (λ y. record { derived = h-next z (q .derived) (rw y at l); task = k-next-after (task-code d) k (q .task); store = q .store }))
+      let l = right-tried b (v ∷ ρ) s e (v-cons k g) h in
+      unless-all _ (after v) _ _ (λ y. record { derived = h-next z (l .goes y .0) (l .goes y .1); task = k-next-after (task-code d) k (q .task); store = q .store }))
       (map-all before (good f s p x d g h) (λ t s q. record { derived = h-pass-next (q .derived); task = k-next-before (q .task) e; store = q .store }))
   good of-fail s p x d g h = all-none
   good {Γ = Γ} (of-and {ρ = ρ} {a = a} {b = b} {t = t} {u = u} f f₁) s p x (k-both {τ = τ} {υ = υ} d e l) g h =
@@ -121,15 +144,11 @@ module _ {Σ : List Ty} where
       (λ q. map-all (λ t. either t u) (good f s q x d g h) (λ t s r. record { derived = h-first-or (r .derived); task = k-either (r .task) e; store = r .store }))
       (λ q. map-all (λ u. either t u) (good f₁ s q x e g h) (λ u s r. record { derived = h-second-or (r .derived); task = k-either d (r .task); store = r .store }))
   good {Γ = Γ} {τ = τ} (of-xor {ρ = ρ} {a = a} {b = b} f f₁) s p x (k-unpicked d e) g h =
-      let k = evaluate-good d ρ s g h in
-      let l = evaluate-good e ρ s g h in
-      let m = normalise-sound a ρ _ _ (k .task) g (k .store) in
-      let n = normalise-sound b ρ _ _ (l .task) g (l .store) in
-      let i = fails-sound a ρ _ _ (m .task) g (m .store) in
-      let j = fails-sound b ρ _ _ (n .task) g (n .store) in
+      let k = settled ρ s d g h in
+      let l = settled ρ s e g h in
       sides-all (GoodHandling Σ Γ τ (xor a b) ρ s unpicked) p x _ _
-      (unless-all _ pickedLeft _ _ (λ z. record { derived = h-pick-left (k .derived) (m .derived) (rw z at i); task = k-picked-left (m .task) e; store = m .store }))
-      (unless-all _ pickedRight _ _ (λ z. record { derived = h-pick-right (l .derived) (n .derived) (rw z at j); task = k-picked-right d (n .task); store = n .store }))
+      (unless-all _ pickedLeft _ _ (λ z. let (i, m, f) = k .goes z in record { derived = h-pick-left i m f; task = k-picked-left (k .task) e; store = k .store }))
+      (unless-all _ pickedRight _ _ (λ z. let (i, m, f) = l .goes z in record { derived = h-pick-right i m f; task = k-picked-right d (l .task); store = l .store }))
   good of-view s p x d g h = all-none
 
   -- what `handle` answers for a typed task is derived, and keeps types

@@ -18,6 +18,7 @@ pub mod TypeLeaves
 pub mod ResidualTyped
 pub mod NormalisingSound
 pub mod NormalisingComplete
+pub mod CaseScreens
 pub mod Cases
 pub mod EntriesQuiet
 pub mod EntriesBound

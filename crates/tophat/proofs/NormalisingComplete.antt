@@ -7,13 +7,13 @@ use Prim.Native.Nat.{ℕ, zero, suc, _<_}
 use native.Mathlib.Omega.{arith}
 use Rattle.tophat.specs.Syntax.{moves, Code, Env, Store, TaskOf}
 use Rattle.tophat.specs.Normalising.{Fails, f-edit, f-enter, f-update, f-then, f-next, f-fail, f-and, f-or}
-use Rattle.tophat.specs.Normalising.{f-became, s-became, f-xor, f-view, RightFails, r-evaluated, BranchFails, b-normalised}
+use Rattle.tophat.specs.Normalising.{f-became, s-became, f-xor, f-view, RightFails, r-evaluated, r-overflow, BranchFails, b-normalised, b-overflow}
 use Rattle.tophat.specs.Normalising.{Strides, s-edit, s-fill, s-update, s-fail, s-then-stay, s-then-fail, s-then-cont, s-next, s-and, s-or-left, s-or-right, s-or-none}
 use Rattle.tophat.specs.Normalising.{s-xor, s-view, Normalises, n-done, n-repeat}
 use Rattle.tophat.proofs.ComputeNormalising.{remaining, unlessStill, strides, goOn, goOnWith, chooseRight, chooseLeft, failing, stride, normalise, settle, rightFails, branchFails}
-use Rattle.tophat.proofs.ComputeEvaluation.{evaluate}
+use Rattle.tophat.proofs.ComputeEvaluation.{evaluate, overflowsTask}
 use Rattle.tophat.proofs.Became.{alike}
-use Rattle.tophat.proofs.TaskEvaluationAgrees.{evaluate-is}
+use Rattle.tophat.proofs.TaskEvaluationAgrees.{evaluate-is, overflows-task-is}
 use Rattle.tophat.proofs.Progress.{remaining-moves, Progress, progress}
 
 -- `stride` answers t₁ and s₁, with some flag
@@ -64,16 +64,18 @@ mutual
   fails-is (f-became {s = s} {u = u} b k d) = let p = alike b .fails s u in let q = fails-is d in rw (← k) (p ∙ q)
 
   -- the answers derived on what is tried are the functions'
-  right-fails-is : {b : Code} {ρ : Env} {s : Store} {x : Bool} → RightFails b ρ s x → (let (u, s₁) = evaluate b ρ s in failing b ρ s₁ u) ≡ x
-  right-fails-is (r-evaluated d f) = let e = evaluate-is d in let k = fails-is f in rw (e, k)
+  right-fails-is : {b : Code} {ρ : Env} {s : Store} {x : Bool} → RightFails b ρ s x → (let (u, s₁) = evaluate b ρ s in overflowsTask b ρ s || failing b ρ s₁ u) ≡ x
+  right-fails-is (r-evaluated d f) = let (e, o) = evaluate-is d in let k = fails-is f in rw (e, o, k)
+  right-fails-is (r-overflow d) = let o = overflows-task-is d in rw o
 
   branch-fails-is : {c : Code} {ρ : Env} {s : Store} {x : Bool} → BranchFails c ρ s x
-      → (let (t, s₁) = evaluate c ρ s in let (t₁, s₂, n) = strides (λ s t. stride c ρ s t) (suc (moves c)) s₁ t in failing c ρ s₂ t₁) ≡ x
+      → (let (t, s₁) = evaluate c ρ s in let (t₁, s₂, n) = strides (λ s t. stride c ρ s t) (suc (moves c)) s₁ t in overflowsTask c ρ s || failing c ρ s₂ t₁) ≡ x
   branch-fails-is (b-normalised {c = c} {t = t} d n f) =
-      let e = evaluate-is d in
+      let (e, o) = evaluate-is d in
       let h = strides-end-is n (suc (moves c)) (let k = remaining-moves c t in omega arith) in
       let k = fails-is f in
-      rw (e, h, k)
+      rw (e, h, o, k)
+  branch-fails-is (b-overflow d) = let o = overflows-task-is d in rw o
 
   -- the stride derived is the function's
   pub strides-as : {c : Code} {ρ : Env} {s s₁ : Store} {t t₁ : TaskOf c} → Strides c ρ s t t₁ s₁ → StridesAs c ρ s t t₁ s₁
@@ -83,7 +85,7 @@ mutual
   strides-as s-fail = (false, refl)
   strides-as (s-then-stay d e) = let (m, p) = strides-as d in (m, rw (p, e))
   strides-as (s-then-fail d e k) = let (m, p) = strides-as d in let q = right-fails-is k in (m, rw (p, e, q))
-  strides-as (s-then-cont d e k l) = let (m, p) = strides-as d in let q = evaluate-is k in let r = fails-is l in (true, rw (p, e, q, r))
+  strides-as (s-then-cont d e k l) = let (m, p) = strides-as d in let (q, o) = evaluate-is k in let r = fails-is l in (true, rw (p, e, q, o, r))
   strides-as (s-next d) = let (m, p) = strides-as d in (m, rw p)
   strides-as (s-and d d₁) = let (m, p) = strides-as d in let (n, q) = strides-as d₁ in (m || n, rw (p, q))
   strides-as (s-or-left d e) = let (m, p) = strides-as d in (true, rw (p, e))

@@ -1,7 +1,7 @@
 -- What the functions answer for a typed task is derived by the rules: failing, striding, and normalising, which also keeps
 -- types. Rests on Preservation and Progress.
-use mathlib.Core.Path.{_≡_, refl, ap}
-use mathlib.Core.Bool.{Bool, true, false}
+use mathlib.Core.Path.{_≡_, refl, ap, subst}
+use mathlib.Core.Bool.{Bool, true, false, _||_}
 use mathlib.Core.Option.{Option, none, some}
 use mathlib.Core.Logic.{inl, inr}
 use mathlib.Core.List.{List, _∷_}
@@ -12,12 +12,13 @@ use Rattle.tophat.specs.Syntax.{TaskOf, before, either}
 use Rattle.tophat.specs.Typing.{CodeType, ValueTypes, v-cons}
 use Rattle.tophat.specs.Typing.{TaskType, k-then-before, k-next-before, k-both, k-either}
 use Rattle.tophat.specs.Typing.{k-unpicked}
-use Rattle.tophat.specs.Evaluation.{EvaluatesTask}
+use Rattle.tophat.specs.Evaluation.{EvaluatesTask, OverflowsTask}
 use Rattle.tophat.specs.Normalising.{f-became, s-became}
 use Rattle.tophat.specs.Normalising.{value, Fails, f-edit, f-enter, f-update, f-then, f-next, f-fail, f-and, f-or}
-use Rattle.tophat.specs.Normalising.{f-xor, f-view, RightFails, r-evaluated, BranchFails, b-normalised}
+use Rattle.tophat.specs.Normalising.{f-xor, f-view, RightFails, r-evaluated, r-overflow, BranchFails, b-normalised, b-overflow}
 use Rattle.tophat.specs.Normalising.{Strides, s-edit, s-fill, s-update, s-fail, s-then-stay, s-then-fail, s-then-cont, s-next, s-and, s-or-left, s-or-right, s-or-none}
 use Rattle.tophat.specs.Normalising.{s-xor, s-view, Normalises, n-done, n-repeat}
+use Rattle.tophat.proofs.Basics.{apart}
 use Rattle.tophat.proofs.ComputeEvaluation.{evaluate}
 use Rattle.tophat.proofs.ComputeNormalising.{remaining, unlessStill, strides, goOn, goOnWith, chooseRight, chooseLeft, failing, stride, normalise, settle, rightFails, branchFails}
 use Rattle.tophat.proofs.Became.{alike, Formed, of-became, of-edit, of-enter, of-update, of-then, of-next, of-fail, of-and, of-or, of-xor, of-view, formed, inner}
@@ -62,21 +63,35 @@ module _ {Σ Γ : List Ty} {τ : Ty} (c : Code) (ρ : Env) (g : ValueTypes ρ Γ
   normal-good : (s : Store) (t : TaskOf c) → TaskType Σ Γ c t τ → ValueTypes s Σ → GoodNormal Σ Γ c ρ s t τ (strides (λ s t. stride c ρ s t) (suc (moves c)) s t)
   normal-good s t d h = let k = remaining-moves c t in strides-good (suc (moves c)) s t d h (omega arith)
 
+-- a right side that was evaluated to r: whether it fails is derived, and where it does not, so is r
+pub record Tried (b : Code) (ρ : Env) (s : Store) (r : TaskOf b × Store) (x : Bool) : Type 0 where
+  pub fails : RightFails b ρ s x
+  pub goes : x ≡ false → EvaluatesTask b ρ s (r .0) (r .1) × Fails b ρ (r .1) (r .0) false
+
+tried : {b : Code} {ρ : Env} {s : Store} {r : TaskOf b × Store} (x y : Bool)
+    → (x ≡ false → EvaluatesTask b ρ s (r .0) (r .1)) → (x ≡ true → OverflowsTask b ρ s) → Fails b ρ (r .1) (r .0) y → Tried b ρ s r (x || y)
+tried true y d o f = record { fails = r-overflow (o refl); goes = λ e. apart refl e }
+tried {b} {ρ} {s} {r} false y d o f = record { fails = r-evaluated (d refl) f; goes = λ e. (d refl, subst (λ y. Fails b ρ (r .1) (r .0) y) e f) }
+
+-- a branch that was evaluated and normalised: whether it fails is derived
+branch-by : {c : Code} {ρ : Env} {s s₁ s₂ : Store} {t t₁ : TaskOf c} {n : ℕ} (x y : Bool)
+    → (x ≡ false → EvaluatesTask c ρ s t s₁) → (x ≡ true → OverflowsTask c ρ s) → Normalises c ρ s₁ t t₁ s₂ n → Fails c ρ s₂ t₁ y → BranchFails c ρ s (x || y)
+branch-by true y d o m f = b-overflow (o refl)
+branch-by false y d o m f = b-normalised (d refl) m f
+
 -- a step whose A has strided, by the value of A and B evaluated under it
 go-on : {a b : Code} {ρ : Env} {s s₁ : Store} {t t₁ : TaskOf a} (v : Val) (m : Bool) (r : TaskOf b × Store) (x : Bool)
-    → Strides a ρ s t t₁ s₁ → value a t₁ s₁ ≡ some v → EvaluatesTask b (v ∷ ρ) s₁ (r .0) (r .1) → Fails b (v ∷ ρ) (r .1) (r .0) x
-    → StridesTo (then a b) ρ s (before t) (goOn v t₁ s₁ m r x)
+    → Strides a ρ s t t₁ s₁ → value a t₁ s₁ ≡ some v → Tried b (v ∷ ρ) s₁ r x → StridesTo (then a b) ρ s (before t) (goOn v t₁ s₁ m r x)
 unfolding goOn
-go-on v m r true h e k l = s-then-fail h e (r-evaluated k l)
-go-on v m r false h e k l = s-then-cont h e k l
+go-on v m r true h e k = s-then-fail h e (k .fails)
+go-on v m r false h e k = let (d, l) = k .goes refl in s-then-cont h e d l
 
 go-on-with : {a b : Code} {ρ : Env} {s s₁ : Store} {t t₁ : TaskOf a} (o : Option Val) (m : Bool) (E : Val → TaskOf b × Store) (F : Val → TaskOf b × Store → Bool)
-    → Strides a ρ s t t₁ s₁ → value a t₁ s₁ ≡ o
-    → ((v : Val) → o ≡ some v → EvaluatesTask b (v ∷ ρ) s₁ (E v .0) (E v .1) × Fails b (v ∷ ρ) (E v .1) (E v .0) (F v (E v)))
+    → Strides a ρ s t t₁ s₁ → value a t₁ s₁ ≡ o → ((v : Val) → o ≡ some v → Tried b (v ∷ ρ) s₁ (E v) (F v (E v)))
     → StridesTo (then a b) ρ s (before t) (goOnWith o t₁ s₁ m E F)
 unfolding goOnWith
 go-on-with none m E F h e k = s-then-stay h e
-go-on-with (some v) m E F h e k = go-on v m (E v) (F v (E v)) h e (k v refl .0) (k v refl .1)
+go-on-with (some v) m E F h e k = go-on v m (E v) (F v (E v)) h e (k v refl)
 
 -- a choice whose parts have strided, by their values
 choose-right : {a b : Code} {ρ : Env} {s s₁ s₂ : Store} {t t₁ : TaskOf a} {u u₁ : TaskOf b} (o : Option Val) (m : Bool)
@@ -115,7 +130,7 @@ module _ {Σ : List Ty} where
       record {
         fails = f-then (p .fails);
         strides = go-on-with _ _ _ _ (p .strides) refl
-            (λ v z. let r = evaluate-good e (v ∷ ρ) _ (v-cons (option-is o z) g) (q .store) in (r .derived, sound (f v _) _ (r .task) (v-cons (option-is o z) g) (r .store) .fails));
+            (λ v z. let r = evaluate-good e (v ∷ ρ) _ (v-cons (option-is o z) g) (q .store) in tried _ _ (r .derived) (r .over) (sound (f v _) _ (r .task) (v-cons (option-is o z) g) (r .store) .fails));
       }
   sound (of-next d f) s (k-next-before k e) g h = let p = sound d s k g h in record { fails = f-next (p .fails); strides = s-next (p .strides) }
   sound of-fail s k g h = record { fails = f-fail; strides = s-fail }
@@ -132,8 +147,8 @@ module _ {Σ : List Ty} where
       let y = normal-good b ρ g (λ s u m h. sound (e u) s m g h .strides) _ _ (q .task) (q .store) in
       record {
         fails = f-xor
-            (b-normalised (p .derived) (x .derived) (sound (d _) _ (x .task) g (x .store) .fails))
-            (b-normalised (q .derived) (y .derived) (sound (e _) _ (y .task) g (y .store) .fails))
+            (branch-by _ _ (p .derived) (p .over) (x .derived) (sound (d _) _ (x .task) g (x .store) .fails))
+            (branch-by _ _ (q .derived) (q .over) (y .derived) (sound (e _) _ (y .task) g (y .store) .fails))
             refl;
         strides = s-xor;
       }
@@ -152,13 +167,17 @@ module _ {Σ : List Ty} where
   unfolding normalise
   normalise-sound c ρ s t d g h = normal-good c ρ g (λ s t d h. strides-sound c ρ s t d g h) s t d h
 
+  -- a typed right side, tried
+  pub right-tried : (b : Code) {Γ : List Ty} {τ : Ty} (ρ : Env) (s : Store) → CodeType Σ Γ b τ → ValueTypes ρ Γ → ValueTypes s Σ → Tried b ρ s (evaluate b ρ s) (rightFails b ρ s)
+  right-tried b ρ s d g h = let q = evaluate-good d ρ s g h in tried _ _ (q .derived) (q .over) (fails-sound b ρ _ _ (q .task) g (q .store))
+
   -- whether a typed right side, and a typed branch, fail is derived
   pub right-sound : (b : Code) {Γ : List Ty} {τ : Ty} (ρ : Env) (s : Store) → CodeType Σ Γ b τ → ValueTypes ρ Γ → ValueTypes s Σ → RightFails b ρ s (rightFails b ρ s)
-  right-sound b ρ s d g h = let q = evaluate-good d ρ s g h in r-evaluated (q .derived) (fails-sound b ρ _ _ (q .task) g (q .store))
+  right-sound b ρ s d g h = right-tried b ρ s d g h .fails
 
   pub branch-sound : (c : Code) {Γ : List Ty} {τ : Ty} (ρ : Env) (s : Store) → CodeType Σ Γ c τ → ValueTypes ρ Γ → ValueTypes s Σ → BranchFails c ρ s (branchFails c ρ s)
   unfolding settle
   branch-sound c ρ s d g h =
       let q = evaluate-good d ρ s g h in
       let n = normalise-sound c ρ _ _ (q .task) g (q .store) in
-      b-normalised (q .derived) (n .derived) (fails-sound c ρ _ _ (n .task) g (n .store))
+      branch-by _ _ (q .derived) (q .over) (n .derived) (fails-sound c ρ _ _ (n .task) g (n .store))

@@ -142,12 +142,12 @@ stride-kept {c = c} {t = t} k ρ s g h = kept (formed c ρ t) k s g h
 -- Preservation, for what the rules derive: a typed expression evaluates to a value of its type
 pub evaluates-kept : {Σ Γ : List Ty} {ρ : Env} {s s₁ : Store} {e : Exp} {v : Val} {τ : Ty}
     → HasType Σ Γ e τ → ValueTypes ρ Γ → ValueTypes s Σ → Evaluates ρ s e v s₁ → ValueType v τ × ValueTypes s₁ Σ
-evaluates-kept {ρ = ρ} {s = s} d g h x = let p = eval-is x in let q = rw p at (eval-good d ρ s g h) in (q .typed, q .kept)
+evaluates-kept {ρ = ρ} {s = s} d g h x = let (p, o) = eval-is x in let q = rw p at (eval-good d ρ s g h) in (q .typed, q .kept)
 
 -- a typed code to a task of its type
 pub evaluates-task-kept : {Σ Γ : List Ty} {c : Code} {ρ : Env} {s s₁ : Store} {t : TaskOf c} {τ : Ty}
     → CodeType Σ Γ c τ → ValueTypes ρ Γ → ValueTypes s Σ → EvaluatesTask c ρ s t s₁ → Kept Σ Γ c τ t s₁
-evaluates-task-kept {ρ = ρ} {s = s} d g h x = let p = evaluate-is x in let q = rw p at (evaluate-good d ρ s g h) in record { task = q .task; store = q .store }
+evaluates-task-kept {ρ = ρ} {s = s} d g h x = let (p, o) = evaluate-is x in let q = rw p at (evaluate-good d ρ s g h) in record { task = q .task; store = q .store }
 
 -- a typed task strides to one of its type
 pub strides-kept : {Σ Γ : List Ty} {c : Code} {ρ : Env} {s s₁ : Store} {t t₁ : TaskOf c} {τ : Ty}

@@ -1,28 +1,37 @@
 -- Evaluation rules (the paper's appendix; 01, "The rules"): of plain expressions and of tasks as a sheet has them, left to
--- right, carrying the store. Rests on Syntax and on Typing's At.
+-- right, carrying the store. Where a sum, difference or product leaves the words (CR 3), no value is derived: `Overflows` and
+-- `OverflowsTask` say so of the whole expression. Rests on Syntax and on Typing's At.
 use mathlib.Core.Bool.{Bool, true, false, _&&_, _||_}
 use mathlib.Core.List.{_∷_}
 use Prim.Native.Nat.{ℕ}
 use lib.IntN.{ℤ, _+ℤ_, _-ℤ_, _*ℤ_}
 use lib.Signed.{ltZ, leZ}
 use lib.ListN.{set}
-use Rattle.word.specs.Word.{wrap, eqZ}
+use Rattle.word.specs.Word.{IsWord, eqZ}
 use Rattle.tophat.specs.Syntax.{Ty, Op, sum, difference, product, less, lessEqual, equal, andOp, orOp, Env, Store}
 use Rattle.tophat.specs.Syntax.{Exp, eunit, etruth, enumber, ebinder, eop, eif, epair, efst, esnd, ederef, eassign, elet}
 use Rattle.tophat.specs.Syntax.{Code, edit, enter, update, then, next, fail, and, or, xor, view, if, let', Val, vunit, vtruth, vnumber, vpair}
 use Rattle.tophat.specs.Syntax.{TaskOf, filled, blank, shared, before, failed, both, either, unpicked, ifTrue, ifFalse, bound}
 use Rattle.tophat.specs.Typing.{At}
 
--- operators: 01, "Sum, difference and product wrap modulo 2^32 into the signed range"
+-- operators 1 to 3: the exact result, which need not be a word
+pub data Reckons : Op → ℤ → ℤ → ℤ → Type 0 where
+  sums : {x y : ℤ} → Reckons sum x y (x +ℤ y)
+  differs : {x y : ℤ} → Reckons difference x y (x -ℤ y)
+  multiplies : {x y : ℤ} → Reckons product x y (x *ℤ y)
+
+-- operators on values
 pub data Applies : Op → Val → Val → Val → Type 0 where
-  a-sum : {x y : ℤ} → Applies sum (vnumber x) (vnumber y) (vnumber (wrap (x +ℤ y)))
-  a-difference : {x y : ℤ} → Applies difference (vnumber x) (vnumber y) (vnumber (wrap (x -ℤ y)))
-  a-product : {x y : ℤ} → Applies product (vnumber x) (vnumber y) (vnumber (wrap (x *ℤ y)))
+  a-reckon : {o : Op} {x y z : ℤ} → Reckons o x y z → IsWord z → Applies o (vnumber x) (vnumber y) (vnumber z)
   a-less : {x y : ℤ} → Applies less (vnumber x) (vnumber y) (vtruth (ltZ x y))
   a-less-equal : {x y : ℤ} → Applies lessEqual (vnumber x) (vnumber y) (vtruth (leZ x y))
   a-equal : {x y : ℤ} → Applies equal (vnumber x) (vnumber y) (vtruth (eqZ x y))
   a-and : {x y : Bool} → Applies andOp (vtruth x) (vtruth y) (vtruth (x && y))
   a-or : {x y : Bool} → Applies orOp (vtruth x) (vtruth y) (vtruth (x || y))
+
+-- CR 3: "a sum, difference or product leaves the signed 32 bits"
+pub data Exceeds : Op → Val → Val → Type 0 where
+  x-reckon : {o : Op} {x y z : ℤ} → Reckons o x y z → ¬ IsWord z → Exceeds o (vnumber x) (vnumber y)
 
 -- `Evaluates ρ s e v s₁` is the paper's e, s ↓ v, s₁, with the values of e's binders in ρ
 pub data Evaluates : Env → Store → Exp → Val → Store → Type 0 where
@@ -49,6 +58,22 @@ pub data Evaluates : Env → Store → Exp → Val → Store → Type 0 where
   e-let : {ρ : Env} {s s₁ s₂ : Store} {a b : Exp} {v w : Val}
       → Evaluates ρ s a v s₁ → Evaluates (v ∷ ρ) s₁ b w s₂ → Evaluates ρ s (elet a b) w s₂
 
+-- `Overflows ρ s e`: evaluating e from s comes to an operator whose result is no word (CR 3)
+pub data Overflows : Env → Store → Exp → Type 0 where
+  o-op : {ρ : Env} {s s₁ s₂ : Store} {o : Op} {a b : Exp} {v w : Val} → Evaluates ρ s a v s₁ → Evaluates ρ s₁ b w s₂ → Exceeds o v w → Overflows ρ s (eop o a b)
+  o-op-left : {ρ : Env} {s : Store} {o : Op} {a b : Exp} → Overflows ρ s a → Overflows ρ s (eop o a b)
+  o-op-right : {ρ : Env} {s s₁ : Store} {o : Op} {a b : Exp} {v : Val} → Evaluates ρ s a v s₁ → Overflows ρ s₁ b → Overflows ρ s (eop o a b)
+  o-if : {ρ : Env} {s : Store} {e a b : Exp} → Overflows ρ s e → Overflows ρ s (eif e a b)
+  o-if-true : {ρ : Env} {s s₁ : Store} {e a b : Exp} → Evaluates ρ s e (vtruth true) s₁ → Overflows ρ s₁ a → Overflows ρ s (eif e a b)
+  o-if-false : {ρ : Env} {s s₁ : Store} {e a b : Exp} → Evaluates ρ s e (vtruth false) s₁ → Overflows ρ s₁ b → Overflows ρ s (eif e a b)
+  o-pair-left : {ρ : Env} {s : Store} {a b : Exp} → Overflows ρ s a → Overflows ρ s (epair a b)
+  o-pair-right : {ρ : Env} {s s₁ : Store} {a b : Exp} {v : Val} → Evaluates ρ s a v s₁ → Overflows ρ s₁ b → Overflows ρ s (epair a b)
+  o-fst : {ρ : Env} {s : Store} {a : Exp} → Overflows ρ s a → Overflows ρ s (efst a)
+  o-snd : {ρ : Env} {s : Store} {a : Exp} → Overflows ρ s a → Overflows ρ s (esnd a)
+  o-assign : {ρ : Env} {s : Store} {n : ℕ} {a : Exp} → Overflows ρ s a → Overflows ρ s (eassign n a)
+  o-let : {ρ : Env} {s : Store} {a b : Exp} → Overflows ρ s a → Overflows ρ s (elet a b)
+  o-let-body : {ρ : Env} {s s₁ : Store} {a b : Exp} {v : Val} → Evaluates ρ s a v s₁ → Overflows (v ∷ ρ) s₁ b → Overflows ρ s (elet a b)
+
 -- tasks. 01: "Steps evaluate A only; 48 evaluates neither branch"
 pub data EvaluatesTask : (c : Code) → Env → Store → TaskOf c → Store → Type 0 where
   e-edit : {ρ : Env} {s s₁ : Store} {e : Exp} {v : Val}
@@ -73,3 +98,19 @@ pub data EvaluatesTask : (c : Code) → Env → Store → TaskOf c → Store →
       → Evaluates ρ s e (vtruth false) s₁ → EvaluatesTask b ρ s₁ u s₂ → EvaluatesTask (if e a b) ρ s (ifFalse u) s₂
   e-let-task : {ρ : Env} {s s₁ s₂ : Store} {e : Exp} {b : Code} {v : Val} {u : TaskOf b}
       → Evaluates ρ s e v s₁ → EvaluatesTask b (v ∷ ρ) s₁ u s₂ → EvaluatesTask (let' e b) ρ s (bound v u) s₂
+
+-- `OverflowsTask c ρ s`: evaluating c as a whole leaves the words, so that it evaluates as fail, with the store s (CR 3)
+pub data OverflowsTask : Code → Env → Store → Type 0 where
+  o-edit : {ρ : Env} {s : Store} {e : Exp} → Overflows ρ s e → OverflowsTask (edit e) ρ s
+  o-view : {ρ : Env} {s : Store} {e : Exp} → Overflows ρ s e → OverflowsTask (view e) ρ s
+  o-then : {ρ : Env} {s : Store} {a b : Code} → OverflowsTask a ρ s → OverflowsTask (then a b) ρ s
+  o-next : {ρ : Env} {s : Store} {a b : Code} → OverflowsTask a ρ s → OverflowsTask (next a b) ρ s
+  o-and-left : {ρ : Env} {s : Store} {a b : Code} → OverflowsTask a ρ s → OverflowsTask (and a b) ρ s
+  o-and-right : {ρ : Env} {s s₁ : Store} {a b : Code} {t : TaskOf a} → EvaluatesTask a ρ s t s₁ → OverflowsTask b ρ s₁ → OverflowsTask (and a b) ρ s
+  o-or-left : {ρ : Env} {s : Store} {a b : Code} → OverflowsTask a ρ s → OverflowsTask (or a b) ρ s
+  o-or-right : {ρ : Env} {s s₁ : Store} {a b : Code} {t : TaskOf a} → EvaluatesTask a ρ s t s₁ → OverflowsTask b ρ s₁ → OverflowsTask (or a b) ρ s
+  o-if-task : {ρ : Env} {s : Store} {e : Exp} {a b : Code} → Overflows ρ s e → OverflowsTask (if e a b) ρ s
+  o-if-true-task : {ρ : Env} {s s₁ : Store} {e : Exp} {a b : Code} → Evaluates ρ s e (vtruth true) s₁ → OverflowsTask a ρ s₁ → OverflowsTask (if e a b) ρ s
+  o-if-false-task : {ρ : Env} {s s₁ : Store} {e : Exp} {a b : Code} → Evaluates ρ s e (vtruth false) s₁ → OverflowsTask b ρ s₁ → OverflowsTask (if e a b) ρ s
+  o-let-task : {ρ : Env} {s : Store} {e : Exp} {b : Code} → Overflows ρ s e → OverflowsTask (let' e b) ρ s
+  o-let-task-body : {ρ : Env} {s s₁ : Store} {e : Exp} {b : Code} {v : Val} → Evaluates ρ s e v s₁ → OverflowsTask b (v ∷ ρ) s₁ → OverflowsTask (let' e b) ρ s

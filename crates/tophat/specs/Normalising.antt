@@ -9,7 +9,7 @@ use Prim.Native.Nat.{ℕ, suc}
 use lib.ListN.{getD}
 use Rattle.tophat.specs.Syntax.{Ty, Exp, Code, edit, enter, update, then, next, fail, and, or, xor, view, if, let', Val, vunit, vpair, Env, Store}
 use Rattle.tophat.specs.Syntax.{TaskOf, filled, blank, entered, before, after, both, either, orLeft, orRight, unpicked, pickedLeft, pickedRight, ifTrue, ifFalse, bound}
-use Rattle.tophat.specs.Evaluation.{EvaluatesTask}
+use Rattle.tophat.specs.Evaluation.{EvaluatesTask, OverflowsTask}
 
 -- 46: two values are paired, else there is none
 unfoldable pub pairOf : Option Val → Option Val → Option Val
@@ -83,11 +83,15 @@ mutual
   pub data RightFails : Code → Env → Store → Bool → Type 0 where
     r-evaluated : {ρ : Env} {s s₁ : Store} {b : Code} {u : TaskOf b} {x : Bool}
         → EvaluatesTask b ρ s u s₁ → Fails b ρ s₁ u x → RightFails b ρ s x
+    -- CR 3
+    r-overflow : {ρ : Env} {s : Store} {b : Code} → OverflowsTask b ρ s → RightFails b ρ s true
 
   -- `BranchFails c ρ s x`: whether the branch c of a 48, evaluated from s and normalised, fails is x
   pub data BranchFails : Code → Env → Store → Bool → Type 0 where
     b-normalised : {ρ : Env} {s s₁ s₂ : Store} {c : Code} {t t₁ : TaskOf c} {n : ℕ} {x : Bool}
         → EvaluatesTask c ρ s t s₁ → Normalises c ρ s₁ t t₁ s₂ n → Fails c ρ s₂ t₁ x → BranchFails c ρ s x
+    -- CR 3
+    b-overflow : {ρ : Env} {s : Store} {c : Code} → OverflowsTask c ρ s → BranchFails c ρ s true
 
   -- `Strides c ρ s t t₁ s₁`: one stride takes t in s to t₁ in s₁
   pub data Strides : (c : Code) → Env → Store → TaskOf c → TaskOf c → Store → Type 0 where

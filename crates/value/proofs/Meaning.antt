@@ -21,7 +21,7 @@ use Rattle.word.proofs.Lists.{numbers-bits}
 use Rattle.tophat.specs.Syntax.{maxLeaves, Ty, pair, leaves, Op, sum, difference, product, less, lessEqual, equal, andOp, orOp, Val, vunit, vtruth, vnumber, vpair}
 use Rattle.tophat.specs.Typing.{ValueType, v-unit, v-truth, v-number, v-pair, typeOf}
 use Rattle.tophat.specs.Leaves.{leavesOf, padded}
-use Rattle.tophat.proofs.ComputeEvaluation.{leaf, isTrue, apply}
+use Rattle.tophat.proofs.ComputeEvaluation.{leaf, isTrue, exceeds, apply}
 use Rattle.tophat.proofs.ComputeTyping.{firstTo, secondTo}
 use Rattle.tophat.proofs.TypingAgrees.{type-to}
 use Rattle.shape.specs.Shape.{asShape, maybeShape, pairShape, firstShape, secondShape, shapeLeaves}
@@ -30,6 +30,7 @@ use Rattle.shape.proofs.Puts.{by-test, leaves-pos, as-type}
 use Rattle.shape.proofs.Counts.{shape-leaves}
 use Rattle.value.specs.declared.Found.{Found}
 use Rattle.value.specs.Values.{leafBits, asValue, noLeaves, firstNumber, joinedAt, pairValue, firstValue, secondValue}
+use Rattle.value.specs.Evaluations.{applied}
 use Rattle.value.specs.Found.{asFound}
 
 -- ---- leaves by place
@@ -193,8 +194,11 @@ by-leaf equal v w = refl
 by-leaf andOp v w = refl
 by-leaf orOp v w = refl
 
-pub apply-value : (o : Op) (v w : Val) → IsWord (leaf v) → IsWord (leaf w) → apply o (firstNumber (asValue v)) (firstNumber (asValue w)) ≡ apply o v w
-apply-value o v w h g = ap₂ (apply o) (first-number v h) (first-number w g) ∙ by-leaf o v w
+-- an operator goes by the first leaves
+pub applied-value : (o : Op) (v w : Val) → IsWord (leaf v) → IsWord (leaf w) → applied o (firstNumber (asValue v)) (firstNumber (asValue w)) ≡ applied o v w
+unfolding exceeds leaf
+applied-value o v w h g =
+    ap₂ (λ x y. applied o x y) (first-number v h) (first-number w g) ∙ ap (λ z. record { over = exceeds o v w; value = asValue z }) (by-leaf o v w)
 
 -- ---- a value found, or none
 

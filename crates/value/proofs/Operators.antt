@@ -6,18 +6,22 @@ use native.Mathlib.Omega.{arith}
 use lib.IntN.{ℤ, _+ℤ_, _-ℤ_, _*ℤ_}
 use lib.Signed.{ltZ, leZ}
 use mir.Syntax.{w32}
-use mir.Val.{toZ, ofZ}
-use Rattle.word.specs.Word.{words, wrap, eqZ}
-use Rattle.word.proofs.TwosComplement.{bits-number, number-bits}
-use Rattle.word.proofs.Wrap.{wrap-word}
-use Rattle.tophat.specs.Syntax.{sum, Val, vunit, vtruth, vnumber}
+use mir.Val.{toZ}
+use Rattle.word.specs.declared.Reckoning.the-variants.{Word, Beyond}
+use Rattle.word.specs.Word.{words, isWord, eqZ}
+use Rattle.word.specs.Reckoning.{reckoning}
+use Rattle.word.proofs.TwosComplement.{bits-number}
+use Rattle.word.proofs.Results.{word-of, beyond-of}
+use Rattle.tophat.specs.Syntax.{sum, vunit, vtruth, vnumber}
 use Rattle.tophat.specs.Leaves.{leavesOf, padded, unitLeaf, truthLeaf, numberLeaf, leafNumber}
-use Rattle.tophat.proofs.ComputeEvaluation.{leaf, isTrue, apply}
+use Rattle.tophat.proofs.ComputeEvaluation.{leaf, isTrue, kept, exact, exceeds, apply}
 use Rattle.tophat.specs.Typing.{typeOf}
 use Rattle.match_laws.proofs.Ranges.{past}
 use Rattle.rows.specs.Trees.{operators, operatorOf}
 use Rattle.shape.specs.Shape.{put, asShape}
+use Rattle.value.specs.declared.Evaluation.{Evaluation}
 use Rattle.value.specs.Values.{leafBits, asValue, single}
+use Rattle.value.specs.Evaluations.{sureOf, afterOver, exactly, applied}
 
 -- ---- values of one leaf
 
@@ -47,8 +51,21 @@ pub tests-true : (x : ℕ) (r : Bool) → r ≡ eqZ (toZ w32 x) (toZ w32 1) → 
 unfolding isTrue leaf
 tests-true x r e = e
 
-wrapped : (r : ℕ) (z : ℤ) → r ≡ ofZ w32 (wrap z) → toZ w32 r ≡ wrap z
-wrapped r z e = ap (toZ w32) e ∙ number-bits (wrap z) (wrap-word z)
+-- an evaluation after one, by the flag of that one
+pub after-over : (x : Bool) (e : Evaluation) → x ≡ true → record { over = true; value = e .value } ≡ afterOver x e
+after-over x e h = ap (λ x. afterOver x e) (sym h)
+
+pub after-sure : (x : Bool) (e : Evaluation) → x ≡ false → e ≡ afterOver x e
+after-sure x e h = ap (λ x. afterOver x e) (sym h)
+
+-- a result that is a word, and one that is none
+pub exactly-word : (z : ℤ) (w : ℕ) → Word w ≡ reckoning z → sureOf (asValue (vnumber (toZ w32 w))) ≡ exactly z
+unfolding kept
+exactly-word z w e = let (h, k) = word-of z w e in rw (h, k)
+
+pub exactly-beyond : (z : ℤ) → Beyond ≡ reckoning z → record { over = true; value = asValue (vnumber (toZ w32 0)) } ≡ exactly z
+unfolding kept
+exactly-beyond z e = let h = beyond-of z e in rw h
 
 -- what is no operator's number is read as the sum's
 no-operator : (n : ℕ) → (1 ≤ n → n ≤ 8 → ⊥) → operatorOf n ≡ sum
@@ -58,45 +75,48 @@ no-operator (suc n) h = past operators sum (suc n) (omega (arith, h (omega arith
 
 module _ (op x y : ℕ) where
   -- the operator numbered op on the two numbers
-  abbrev Is : Val → Type 0
-  Is v = v ≡ apply (operatorOf op) (vnumber (toZ w32 x)) (vnumber (toZ w32 y))
+  abbrev Is : Evaluation → Type 0
+  Is r = r ≡ applied (operatorOf op) (vnumber (toZ w32 x)) (vnumber (toZ w32 y))
 
-  by-number : (k : ℕ) (v : Val) → op ≡ k → v ≡ apply (operatorOf k) (vnumber (toZ w32 x)) (vnumber (toZ w32 y)) → Is v
-  by-number k v h e = e ∙ ap (λ k. apply (operatorOf k) (vnumber (toZ w32 x)) (vnumber (toZ w32 y))) (sym h)
+  by-number : (k : ℕ) (r : Evaluation) → op ≡ k → r ≡ applied (operatorOf k) (vnumber (toZ w32 x)) (vnumber (toZ w32 y)) → Is r
+  by-number k r h e = e ∙ ap (λ k. applied (operatorOf k) (vnumber (toZ w32 x)) (vnumber (toZ w32 y))) (sym h)
 
-  pub sum-is : (r : ℕ) → op ≡ 1 → r ≡ ofZ w32 (wrap (toZ w32 x +ℤ toZ w32 y)) → Is (vnumber (toZ w32 r))
-  unfolding apply operatorOf leaf
-  sum-is r h e = by-number 1 (vnumber (toZ w32 r)) h (ap vnumber (wrapped r _ e))
+  pub sum-is : (r : Evaluation) → op ≡ 1 → r ≡ exactly (toZ w32 x +ℤ toZ w32 y) → Is r
+  unfolding apply exceeds exact operatorOf leaf
+  sum-is r h e = by-number 1 r h e
 
-  pub difference-is : (r : ℕ) → op ≡ 2 → r ≡ ofZ w32 (wrap (toZ w32 x -ℤ toZ w32 y)) → Is (vnumber (toZ w32 r))
-  unfolding apply operatorOf leaf
-  difference-is r h e = by-number 2 (vnumber (toZ w32 r)) h (ap vnumber (wrapped r _ e))
+  pub difference-is : (r : Evaluation) → op ≡ 2 → r ≡ exactly (toZ w32 x -ℤ toZ w32 y) → Is r
+  unfolding apply exceeds exact operatorOf leaf
+  difference-is r h e = by-number 2 r h e
 
-  pub product-is : (r : ℕ) → op ≡ 3 → r ≡ ofZ w32 (wrap (toZ w32 x *ℤ toZ w32 y)) → Is (vnumber (toZ w32 r))
-  unfolding apply operatorOf leaf
-  product-is r h e = by-number 3 (vnumber (toZ w32 r)) h (ap vnumber (wrapped r _ e))
+  pub product-is : (r : Evaluation) → op ≡ 3 → r ≡ exactly (toZ w32 x *ℤ toZ w32 y) → Is r
+  unfolding apply exceeds exact operatorOf leaf
+  product-is r h e = by-number 3 r h e
 
-  pub less-is : (r : Bool) → op ≡ 4 → r ≡ ltZ (toZ w32 x) (toZ w32 y) → Is (vtruth r)
-  unfolding apply operatorOf leaf
-  less-is r h e = by-number 4 (vtruth r) h (ap vtruth e)
+  abbrev told : Bool → Evaluation
+  told b = sureOf (asValue (vtruth b))
 
-  pub less-equal-is : (r : Bool) → op ≡ 5 → r ≡ leZ (toZ w32 x) (toZ w32 y) → Is (vtruth r)
-  unfolding apply operatorOf leaf
-  less-equal-is r h e = by-number 5 (vtruth r) h (ap vtruth e)
+  pub less-is : (r : Bool) → op ≡ 4 → r ≡ ltZ (toZ w32 x) (toZ w32 y) → Is (told r)
+  unfolding apply exceeds exact operatorOf leaf isWord
+  less-is r h e = by-number 4 (told r) h (ap told e)
 
-  pub equal-is : (r : Bool) → op ≡ 6 → r ≡ eqZ (toZ w32 x) (toZ w32 y) → Is (vtruth r)
-  unfolding apply operatorOf leaf
-  equal-is r h e = by-number 6 (vtruth r) h (ap vtruth e)
+  pub less-equal-is : (r : Bool) → op ≡ 5 → r ≡ leZ (toZ w32 x) (toZ w32 y) → Is (told r)
+  unfolding apply exceeds exact operatorOf leaf isWord
+  less-equal-is r h e = by-number 5 (told r) h (ap told e)
+
+  pub equal-is : (r : Bool) → op ≡ 6 → r ≡ eqZ (toZ w32 x) (toZ w32 y) → Is (told r)
+  unfolding apply exceeds exact operatorOf leaf isWord
+  equal-is r h e = by-number 6 (told r) h (ap told e)
 
   module _ (p q : Bool) (hp : p ≡ eqZ (toZ w32 x) (toZ w32 1)) (hq : q ≡ eqZ (toZ w32 y) (toZ w32 1)) where
-    pub and-is : (r : Bool) → op ≡ 7 → r ≡ (p && q) → Is (vtruth r)
-    unfolding apply operatorOf
-    and-is r h e = by-number 7 (vtruth r) h (ap vtruth (e ∙ ap₂ _&&_ (tests-true x p hp) (tests-true y q hq)))
+    pub and-is : (r : Bool) → op ≡ 7 → r ≡ (p && q) → Is (told r)
+    unfolding apply exceeds exact operatorOf isWord
+    and-is r h e = by-number 7 (told r) h (ap told (e ∙ ap₂ _&&_ (tests-true x p hp) (tests-true y q hq)))
 
-    pub or-is : (r : Bool) → op ≡ 8 → r ≡ (p || q) → Is (vtruth r)
-    unfolding apply operatorOf
-    or-is r h e = by-number 8 (vtruth r) h (ap vtruth (e ∙ ap₂ _||_ (tests-true x p hp) (tests-true y q hq)))
+    pub or-is : (r : Bool) → op ≡ 8 → r ≡ (p || q) → Is (told r)
+    unfolding apply exceeds exact operatorOf isWord
+    or-is r h e = by-number 8 (told r) h (ap told (e ∙ ap₂ _||_ (tests-true x p hp) (tests-true y q hq)))
 
-  pub other-is : (r : ℕ) → (1 ≤ op → op ≤ 8 → ⊥) → r ≡ ofZ w32 (wrap (toZ w32 x +ℤ toZ w32 y)) → Is (vnumber (toZ w32 r))
-  unfolding apply leaf
-  other-is r h e = ap vnumber (wrapped r _ e) ∙ ap (λ o. apply o (vnumber (toZ w32 x)) (vnumber (toZ w32 y))) (sym (no-operator op h))
+  pub other-is : (r : Evaluation) → (1 ≤ op → op ≤ 8 → ⊥) → r ≡ exactly (toZ w32 x +ℤ toZ w32 y) → Is r
+  unfolding apply exceeds exact leaf
+  other-is r h e = e ∙ ap (λ o. applied o (vnumber (toZ w32 x)) (vnumber (toZ w32 y))) (sym (no-operator op h))

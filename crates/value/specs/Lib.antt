@@ -1,3 +1,4 @@
 pub mod Values
 pub mod Found
+pub mod Evaluations
 pub mod Fits

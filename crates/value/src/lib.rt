@@ -11,6 +11,7 @@ use tophat::NO_LEAF;
 use tophat::NUMBER;
 use tophat::TRUTH;
 use tophat::UNIT;
+use word::Reckoning;
 use word::add;
 use word::at_most;
 use word::equal;
@@ -21,17 +22,20 @@ ghost use mathlib.Core.Path.{_≡_};
 ghost use mathlib.Core.Option.{some};
 ghost use mathlib.Core.Bool.{true};
 ghost use Prim.Native.Nat.{_≤_, _<_};
+ghost use lib.IntN.{ℤ};
 ghost use lib.ListN.{getD};
 ghost use mir.Syntax.{w32};
 ghost use mir.Val.{toZ};
 ghost use Rattle.word.specs.Word.{words, AllBits};
+ghost use Rattle.word.specs.Reckoning.{reckoning};
 ghost use Rattle.tophat.specs.Syntax.{maxLeaves, vunit, vtruth, vnumber};
 ghost use Rattle.tophat.specs.Leaves.{leafAt, meetsLeaf};
-ghost use Rattle.tophat.proofs.ComputeEvaluation.{isTrue, apply};
+ghost use Rattle.tophat.proofs.ComputeEvaluation.{isTrue};
 ghost use Rattle.rows.specs.Trees.{operatorOf};
 ghost use Rattle.value.specs.Fits.{fitsIn};
 ghost use Rattle.value.specs.Values.{asValue, firstNumber, single, joined, leavesFrom, pairValue, firstValue, secondValue};
 ghost use Rattle.value.specs.Found.{someFound, noneFound};
+ghost use Rattle.value.specs.Evaluations.{sureOf, afterOver, exactly, applied};
 
 pub struct Value {
     pub shape: u32,
@@ -41,6 +45,12 @@ pub struct Value {
 // A value, or none: then the value is all 0.
 pub struct Found {
     pub has: bool,
+    pub value: Value,
+}
+
+// What evaluating gives: a value, and whether a result left the words on the way; then the value goes on with 0 for it (CR 3).
+pub struct Evaluation {
+    pub over: bool,
     pub value: Value,
 }
 
@@ -108,22 +118,59 @@ pub fn is_true(a: Value) -> bool
     equal(leaves[0], 1)
 }
 
+// A value, and no result left the words.
+pub fn sure(v: Value) -> Evaluation
+    ensures { λ r. ⌜ r ≡ sureOf v ⌝ }
+{
+    Evaluation {
+        over: false,
+        value: v,
+    }
+}
+
+// An evaluation after one whose results left the words or did not.
+pub fn after(over: bool, e: Evaluation) -> Evaluation
+    ensures { λ r. ⌜ r ≡ afterOver over e ⌝ }
+{
+    let v = e.value;
+    if over {
+        return Evaluation {
+            over: true,
+            value: v,
+        };
+    }
+    e
+}
+
+// What an exact result comes to.
+fn result(r: Reckoning) -> Evaluation
+    ensures { λ e. ⌜ ((z : ℤ) → r ≡ reckoning z → e ≡ exactly z) ⌝ }
+{
+    match r {
+        Reckoning::Word(w) => sure(number(w)),
+        Reckoning::Beyond => Evaluation {
+            over: true,
+            value: number(0),
+        },
+    }
+}
+
 // Sum, difference, product.
-fn computed(op: u32, x: u32, y: u32) -> u32
+fn computed(op: u32, x: u32, y: u32) -> Evaluation
     requires { ⌜ (1 ≤ op) × (op ≤ 3) ⌝ }
-    ensures { λ r. ⌜ vnumber (toZ w32 r) ≡ apply (operatorOf op) (vnumber (toZ w32 x)) (vnumber (toZ w32 y)) ⌝ }
+    ensures { λ r. ⌜ r ≡ applied (operatorOf op) (vnumber (toZ w32 x)) (vnumber (toZ w32 y)) ⌝ }
 {
     match op {
-        1 => add(x, y),
-        2 => sub(x, y),
-        _ => mul(x, y),
+        1 => result(add(x, y)),
+        2 => result(sub(x, y)),
+        _ => result(mul(x, y)),
     }
 }
 
 // Less, less or equal, equal.
 fn compared(op: u32, x: u32, y: u32) -> bool
     requires { ⌜ (4 ≤ op) × (op ≤ 6) ⌝ }
-    ensures { λ r. ⌜ vtruth r ≡ apply (operatorOf op) (vnumber (toZ w32 x)) (vnumber (toZ w32 y)) ⌝ }
+    ensures { λ r. ⌜ sureOf (asValue (vtruth r)) ≡ applied (operatorOf op) (vnumber (toZ w32 x)) (vnumber (toZ w32 y)) ⌝ }
 {
     match op {
         4 => less(x, y),
@@ -135,7 +182,7 @@ fn compared(op: u32, x: u32, y: u32) -> bool
 // And, or.
 fn connected(op: u32, x: u32, y: u32) -> bool
     requires { ⌜ (7 ≤ op) × (op ≤ 8) ⌝ }
-    ensures { λ r. ⌜ vtruth r ≡ apply (operatorOf op) (vnumber (toZ w32 x)) (vnumber (toZ w32 y)) ⌝ }
+    ensures { λ r. ⌜ sureOf (asValue (vtruth r)) ≡ applied (operatorOf op) (vnumber (toZ w32 x)) (vnumber (toZ w32 y)) ⌝ }
 {
     let p = equal(x, 1);
     let q = equal(y, 1);
@@ -146,8 +193,8 @@ fn connected(op: u32, x: u32, y: u32) -> bool
 }
 
 // An operator on the first leaves of two values; what is no operator is the sum.
-pub fn apply(op: u32, a: Value, b: Value) -> Value
-    ensures { λ r. ⌜ r ≡ asValue (apply (operatorOf op) (firstNumber a) (firstNumber b)) ⌝ }
+pub fn apply(op: u32, a: Value, b: Value) -> Evaluation
+    ensures { λ r. ⌜ r ≡ applied (operatorOf op) (firstNumber a) (firstNumber b) ⌝ }
 {
     let xs = a.leaves;
     let ys = b.leaves;
@@ -155,16 +202,16 @@ pub fn apply(op: u32, a: Value, b: Value) -> Value
     let y = ys[0];
     match op {
         1..=3 => {
-            return number(computed(op, x, y));
+            return computed(op, x, y);
         }
         4..=6 => {
-            return truth(compared(op, x, y));
+            return sure(truth(compared(op, x, y)));
         }
         7..=8 => {
-            return truth(connected(op, x, y));
+            return sure(truth(connected(op, x, y)));
         }
         _ => {
-            return number(add(x, y));
+            return result(add(x, y));
         }
     }
 }

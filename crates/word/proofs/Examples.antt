@@ -4,25 +4,27 @@ use mathlib.Core.List.{[], _∷_}
 use lib.IntN.{pos, negsuc, _+ℤ_, _-ℤ_, _*ℤ_}
 use mir.Syntax.{w32}
 use mir.Val.{toZ, ofZ}
-use Rattle.word.specs.Word.{residue, wrap}
+use Rattle.word.specs.declared.Reckoning.the-variants.{Word, Beyond}
+use Rattle.word.specs.Word.{isWord}
+use Rattle.word.specs.Reckoning.{reckoning}
 use Rattle.word.specs.Laid.{laid}
 
--- past the greatest, below the least (01, P12), and around
-greatest-and-one : wrap (pos 2147483647 +ℤ pos 1) ≡ negsuc 2147483647
-unfolding wrap residue
+-- the ends of the words (CR 3, P12)
+greatest-and-one : reckoning (pos 2147483647 +ℤ pos 1) ≡ Beyond
+unfolding reckoning isWord
 greatest-and-one = refl
 
-least-less-one : wrap (negsuc 2147483647 -ℤ pos 1) ≡ pos 2147483647
-unfolding wrap residue
+least-less-none : reckoning (negsuc 2147483647 -ℤ pos 0) ≡ Word 2147483648
+unfolding reckoning isWord
+least-less-none = refl
+
+least-less-one : reckoning (negsuc 2147483647 -ℤ pos 1) ≡ Beyond
+unfolding reckoning isWord
 least-less-one = refl
 
-least-negated : wrap (negsuc 2147483647 *ℤ negsuc 0) ≡ negsuc 2147483647
-unfolding wrap residue
+least-negated : reckoning (negsuc 2147483647 *ℤ negsuc 0) ≡ Beyond
+unfolding reckoning isWord
 least-negated = refl
-
-squared : wrap (pos 65536 *ℤ pos 65536) ≡ pos 0
-unfolding wrap residue
-squared = refl
 
 all-bits : toZ w32 4294967295 ≡ negsuc 0
 all-bits = refl

@@ -1,7 +1,6 @@
-pub mod Residue
 pub mod TwosComplement
 pub mod Signs
-pub mod Wrap
+pub mod Results
 pub mod Order
 pub mod Laid
 pub mod Lists

@@ -1,14 +1,12 @@
--- Words: signed 32-bit numbers (01, "The sheet"), and how a sum, difference or product is brought back among them.
+-- Words: signed 32-bit numbers (01, "The sheet").
 -- A word's bits are those of two's complement: `toZ w32` reads bits as a number, `ofZ w32` gives a number's bits.
-use Prim.Native.Nat.{ℕ, suc, _-_, _%_, _<_}
+use Prim.Native.Nat.{ℕ, _<_}
 use mathlib.Core.Bool.{Bool, false}
 use mathlib.Core.List.{List}
-use lib.Dec.{eqb}
+use lib.Dec.{eqb, ltb}
 use lib.IntN.{ℤ, pos, negsuc}
 use lib.ListN.{getD}
 use lib.Signed.{mag}
-use mir.Syntax.{w32}
-use mir.Val.{toZ}
 
 -- how many words there are: 2 ^ 32
 abbrev pub words : ℕ
@@ -22,6 +20,10 @@ half = 2147483648
 abbrev pub IsWord : ℤ → Type 0
 IsWord z = mag z < half
 
+-- whether it is
+unfoldable pub isWord : ℤ → Bool
+isWord z = ltb (mag z) half
+
 -- a list of words (past its end a list reads as 0, a word)
 abbrev pub AllWords : List ℤ → Type 0
 AllWords l = (i : ℕ) → IsWord (getD l i (pos 0))
@@ -29,15 +31,6 @@ AllWords l = (i : ℕ) → IsWord (getD l i (pos 0))
 -- a list of bits: what a read of a slice of u32 makes known of it, `λ i. c .slice-known .given i .fits`
 abbrev pub AllBits : List ℕ → Type 0
 AllBits l = (i : ℕ) → getD l i 0 < words
-
--- what z leaves when divided by 2 ^ 32
-unfoldable pub residue : ℤ → ℕ
-residue (pos n) = n % words
-residue (negsuc n) = words - suc (n % words)
-
--- the word that is z modulo 2 ^ 32 (01: "wrap modulo 2^32 into the signed range")
-unfoldable pub wrap : ℤ → ℤ
-wrap z = toZ w32 (residue z)
 
 -- whether two numbers are one (beside `ltZ` and `leZ`, the tests of order)
 abbrev pub eqZ : ℤ → ℤ → Bool

@@ -1,6 +1,6 @@
 // Words: signed 32-bit numbers. Lent memory holds them as i32; inside they are u32, the bits of two's complement.
-// Here: sum, difference and product (`wrap`), the comparisons, and the way between bits and numbers, one by one and by slices.
-// Rests on specs/Word.antt, for what a word is and what wrapping does, and specs/Laid.antt, for what a copied slice leaves.
+// Here: sum, difference and product, the comparisons, and the way between bits and numbers, one by one and by slices. Rests on
+// specs/Word.antt, for what a word is, specs/Reckoning.antt, for a result that is none, and specs/Laid.antt, for what a copied slice leaves.
 ghost use mathlib.Core.Path.{_≡_};
 ghost use Prim.Native.Nat.{_+_, _%_};
 ghost use lib.IntN.{_+ℤ_, _-ℤ_, _*ℤ_};
@@ -8,28 +8,55 @@ ghost use lib.ListN.{length, take};
 ghost use lib.Signed.{ltZ, leZ};
 ghost use mir.Syntax.{w32};
 ghost use mir.Val.{toZ, ofZ};
-ghost use Rattle.word.specs.Word.{words, half, wrap, eqZ, AllWords};
+ghost use Rattle.word.specs.Word.{words, half, IsWord, eqZ, AllWords};
+ghost use Rattle.word.specs.Reckoning.{reckoning};
 ghost use Rattle.word.specs.Laid.{laid};
 
-// The bits of the sum.
-pub fn add(a: u32, b: u32) -> u32
-    ensures { λ r. ⌜ r ≡ ofZ w32 (wrap (toZ w32 a +ℤ toZ w32 b)) ⌝ }
-{
-    ((a as u64 + b as u64) % 0x1_0000_0000) as u32
+// What a sum, difference or product comes to: the bits of its word, or that it is beyond the words (CR 3).
+pub enum Reckoning {
+    Word(u32),
+    Beyond,
 }
 
-// The bits of the difference.
-pub fn sub(a: u32, b: u32) -> u32
-    ensures { λ r. ⌜ r ≡ ofZ w32 (wrap (toZ w32 a -ℤ toZ w32 b)) ⌝ }
+// What the exact result z comes to.
+fn reckoned(z: i64) -> Reckoning
+    ensures { λ r. ⌜ r ≡ reckoning z ⌝ }
 {
-    ((a as u64 + 0x1_0000_0000 - b as u64) % 0x1_0000_0000) as u32
+    if z < -2147483648 {
+        return Reckoning::Beyond;
+    }
+    if 2147483647 < z {
+        return Reckoning::Beyond;
+    }
+    Reckoning::Word(bits(z as i32))
 }
 
-// The bits of the product.
-pub fn mul(a: u32, b: u32) -> u32
-    ensures { λ r. ⌜ r ≡ ofZ w32 (wrap (toZ w32 a *ℤ toZ w32 b)) ⌝ }
+// The number of the bits u, in 64 bits: there a sum, difference or product of two is exact.
+fn wide(u: u32) -> i64
+    ensures { λ r. ⌜ (r ≡ toZ w32 u) × IsWord r ⌝ }
 {
-    ((a as u64 * b as u64) % 0x1_0000_0000) as u32
+    number(u) as i64
+}
+
+// The sum.
+pub fn add(a: u32, b: u32) -> Reckoning
+    ensures { λ r. ⌜ r ≡ reckoning (toZ w32 a +ℤ toZ w32 b) ⌝ }
+{
+    reckoned(wide(a) + wide(b))
+}
+
+// The difference.
+pub fn sub(a: u32, b: u32) -> Reckoning
+    ensures { λ r. ⌜ r ≡ reckoning (toZ w32 a -ℤ toZ w32 b) ⌝ }
+{
+    reckoned(wide(a) - wide(b))
+}
+
+// The product.
+pub fn mul(a: u32, b: u32) -> Reckoning
+    ensures { λ r. ⌜ r ≡ reckoning (toZ w32 a *ℤ toZ w32 b) ⌝ }
+{
+    reckoned(wide(a) * wide(b))
 }
 
 // a with its sign bit flipped: the order of such bits is that of the numbers.

@@ -10,7 +10,8 @@ use crate::ground::{answer, Ground};
 #[derive(Clone, Copy, Debug, PartialEq, Eq)]
 pub struct Looked<'l> {
     pub has_value: bool,
-    /// Whether the flow fails. Then it has no entries; one without entries, a quiet one, need not fail.
+    /// Whether the flow fails. Then it has no entries; one without entries, a quiet one, need not fail. A flow whose
+    /// start left the range fails as a whole: it has no value, and every event that can be read is refused with ground 9.
     pub failing: bool,
     /// The part of the list memory that holds entries, 27 bytes each.
     pub entries: &'l [u8],
@@ -22,7 +23,8 @@ pub fn load(sheet: &[u8], rows: &mut [i32]) -> Result<(), Ground> {
     answer(unsafe { exports::nannyjiffy_load(sheet.as_ptr(), sheet.len(), rows.as_mut_ptr(), rows.len()) })
 }
 
-/// Writes the rest that the flow of these rows starts in, 16 words a row, and gives the strides. Grounds 20, 21.
+/// Writes the rest that the flow of these rows starts in, 16 words a row, and gives the strides. A start whose sums leave
+/// the range is accepted, with 1 stride: the flow then fails as a whole (see [`Looked::failing`]). Grounds 20, 21.
 pub fn start(rows: &[i32], state: &mut [i32]) -> Result<u32, Ground> {
     let mut strides = 0;
     // SAFETY: as in `load`; `strides` is a local.

@@ -41,7 +41,8 @@ pub struct Rest<'f> {
 }
 
 impl<'f> Rest<'f> {
-    /// Where the flow starts.
+    /// Where the flow starts. Where a sum, difference or product leaves the range there, it fails as a whole: the screen
+    /// is failing, without value and entries, and stays so.
     pub fn start(flow: &'f Flow) -> Self {
         let mut state = [0; MAX_ROWS * STATE_WORDS];
         let strides = calls::start(flow.rows(), &mut state[..flow.count * STATE_WORDS]).expect(OWN);

@@ -16,10 +16,11 @@ pub enum Ground {
     Typing = 7,
     /// The path and the leaves may be blank, the action may not.
     Event = 8,
-    /// A blank leaf meets leaf kind 0 alone.
+    /// A blank leaf meets leaf kind 0 alone. A Continue, Left or Right whose sums leave the range is not taken.
     Handling = 9,
     Rows = 20,
     Memory = 21,
+    /// A last row that failed as a whole is a state where start fails so and the cells have their first contents.
     NoState = 22,
     NoRest = 23,
     List = 24,

@@ -57,6 +57,49 @@ fn blanks() {
     assert_eq!(rest.look().value, Some([12, 0, 0, 0]));
 }
 
+/// The flow of these rows: kind, A, B, C.
+fn flow_of(rows: &[[i32; 4]]) -> Flow {
+    let line = |(at, [kind, a, b, c]): (usize, &[i32; 4])| format!("{at:4}{kind:4}{a:12}{b:12}{c:12}\n");
+    Flow::load(rows.iter().enumerate().map(line).collect::<String>().as_bytes()).expect("accepted")
+}
+
+/// An event at the empty path.
+fn event(action: u32, leaf: i32) -> Vec<u8> {
+    format!("{:16}{action:2}{leaf:12}{:12}{:12}{:12}\n", 0, 0, 0, 0).into_bytes()
+}
+
+/// A start whose sum leaves the range is accepted, and the flow fails as a whole and stays so (CR 3).
+#[test]
+fn a_failed_start() {
+    let flow = flow_of(&[[22, i32::MAX, 0, 0], [22, 1, 0, 0], [24, 1, 0, 1], [40, 2, 0, 0]]);
+    let mut rest = Rest::start(&flow);
+    assert_eq!(rest.strides(), 1);
+    let is_failed = |rest: &Rest| {
+        let (screen, state) = (rest.look(), rest.state());
+        assert_eq!((screen.failing, screen.value, screen.count()), (true, None, 0));
+        // Tag 4 in the last row, and nothing else.
+        assert_eq!((state[48], state.iter().filter(|&&word| word != 0).count()), (4, 1));
+    };
+    is_failed(&rest);
+    assert_eq!(rest.handle(&event(1, 5)), Err(Ground::Handling));
+    is_failed(&rest);
+    assert_eq!(rest.handle(b""), Err(Ground::Event));
+    is_failed(&rest);
+}
+
+/// Twice what is entered, after Continue, which is lit only where that is within the range.
+#[test]
+fn a_right_side_beyond_the_range() {
+    let right = [[23, 0, 0, 0], [22, 2, 0, 0], [24, 3, 2, 3], [49, 4, 0, 0]];
+    let flow = flow_of(&[&[[3, 0, 0, 0], [41, 0, 0, 0]], &right[..], &[[44, 1, 5, 0]]].concat());
+    let mut rest = Rest::start(&flow);
+    assert_eq!(rest.handle(&event(1, 1 << 30)), Ok(()));
+    assert_eq!((rest.look().count(), rest.handle(&event(2, 0))), (1, Err(Ground::Handling)));
+    assert_eq!(rest.handle(&event(1, -(1 << 30))), Ok(()));
+    assert_eq!((rest.look().count(), rest.handle(&event(2, 0))), (2, Ok(())));
+    assert_eq!(rest.look().value, Some([i32::MIN, 0, 0, 0]));
+}
+
 #[test]
 fn grounds_have_their_numbers() {
     let numbers: Vec<u32> = (0..100).filter_map(Ground::of).map(Ground::number).collect();

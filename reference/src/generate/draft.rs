@@ -52,17 +52,23 @@ impl<'r> Draft<'r> {
     pub fn flow(mut self) -> Drafted {
         let of = self.some_type(self.limits.leaves);
         let code = match self.random.below(100) {
-            0..=39 => {
+            0..=26 => {
                 let fuel = self.fuel();
                 self.task(&of, fuel)
             }
-            40..=53 => self.racing(),
-            54..=61 => self.deep_binders(&of),
-            62..=67 => self.deep_marks(&of),
-            68..=71 => self.deep_picks(&of),
-            72..=76 => self.deep_left(&of),
+            27..=33 => {
+                let fuel = self.fuel();
+                self.at_the_end(&of, fuel)
+            }
+            34..=44 => self.trying(),
+            45..=55 => self.racing(),
+            56..=62 => self.deep_binders(&of),
+            63..=69 => self.deep_marks(&of),
+            70..=73 => self.deep_picks(&of),
+            74..=78 => self.deep_left(&of),
             _ => self.ordered(),
         };
+        let code = if self.random.chance(5) { self.behind_an_end(code) } else { code };
         self.drafted(code)
     }
 

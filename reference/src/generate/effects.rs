@@ -9,7 +9,7 @@ impl Draft<'_> {
     pub fn ordered(&mut self) -> Code {
         let cell = self.number_cell();
         let of = &self.some_type(self.limits.leaves - 1);
-        let task = match self.random.below(15) {
+        let task = match self.random.below(16) {
             0..=1 => {
                 let among = if self.random.chance(50) { &Operator::ALL[6..] } else { &Operator::ALL[..] };
                 let operator = *self.random.pick(among).expect("operators");
@@ -33,23 +33,23 @@ impl Draft<'_> {
             }
             // A choice whose branches write before they ask, or a step to it.
             5 => self.picking(cell, of),
-            6 => {
+            6..=7 => {
                 let right = self.under(Type::Number, |draft| draft.picking(cell, of));
                 Code::Step(Going::ByItself, Box::new(self.constant()), Box::new(right))
             }
             // A step whose right side writes before it asks.
-            7..=9 => {
+            8..=10 => {
                 let left = self.constant();
                 let right = self.under(Type::Number, |draft| draft.asking(cell, of));
                 let going = if self.random.chance(50) { Going::ByItself } else { Going::AtContinue };
                 Code::Step(going, Box::new(left), Box::new(right))
             }
             // A choice whose right would write.
-            10 => self.marked(|draft| {
+            11 => self.marked(|draft| {
                 let left = if draft.random.chance(50) { draft.constant() } else { draft.writer(cell) };
                 Code::Choice(Box::new(left), Box::new(draft.writer(cell)))
             }),
-            11 => {
+            12 => {
                 let step = self.watcher(cell);
                 let right = self.under(Type::Number, |draft| draft.right_side(of, 6));
                 Code::Step(Going::AtContinue, Box::new(step), Box::new(right))
@@ -72,7 +72,7 @@ impl Draft<'_> {
 
     /// The task, with something beside it that shows the cell: its editor, or a choice or a
     /// Continue that holds for some contents only.
-    fn beside(&mut self, task: Code, cell: Cell) -> Code {
+    pub fn beside(&mut self, task: Code, cell: Cell) -> Code {
         let shown = match self.random.below(10) {
             0..=2 => Code::Shared(cell),
             3..=4 => {

@@ -1,14 +1,15 @@
 //! Cases from a seed: inputs of sessions.
 //!
 //! [`draft`] makes well-typed flows out of [`plain`] expressions and [`tasks`], some of them in
-//! the [`shapes`] and with the [`effects`] that slips hide in; [`layout`] writes them as rows;
-//! [`faults`] breaks sheets near each ground; [`touches`] makes events, most of them from the list
-//! shown; [`blanks`] leaves fields of both blank. [`states`] makes states of a flow that no session
-//! need reach.
+//! the [`shapes`] and with the [`effects`] that slips hide in, some with numbers at the [`ends`] of the
+//! range; [`layout`] writes them as rows; [`faults`] breaks sheets near each ground; [`touches`] makes
+//! events, most of them from the list shown; [`blanks`] leaves fields of both blank. [`states`] makes
+//! states of a flow that no session need reach.
 
 pub mod blanks;
 pub mod draft;
 pub mod effects;
+pub mod ends;
 pub mod faults;
 pub mod layout;
 pub mod plain;
@@ -72,7 +73,7 @@ pub fn with_count(text: Vec<u8>) -> Vec<u8> {
 fn events(random: &mut Random, flow: &Flow) -> Vec<u8> {
     let (mut state, _) = State::start(flow);
     let mut events = Vec::new();
-    let count = if random.chance(5) { 100 } else { random.below(20) };
+    let count = if random.chance(5) { 100 } else { random.below(24) };
     for _ in 0..count {
         let entries = state.look().entries;
         if random.chance(weariness(&entries)) {

@@ -95,7 +95,7 @@ impl Draft<'_> {
     }
 
     /// A binder or a cell of this type.
-    fn seen(&mut self, of: &Type) -> Option<Plain> {
+    pub fn seen(&mut self, of: &Type) -> Option<Plain> {
         let binder = self.some_binder(of).map(Plain::Binder);
         let cell = self.some_cell(of).map(Plain::Read);
         if self.random.chance(50) {

@@ -136,7 +136,7 @@ impl Draft<'_> {
 
     /// Marks up to the limit, or near it, over tasks without a value.
     pub fn deep_marks(&mut self, of: &Type) -> Code {
-        let short = if self.random.chance(70) { 0 } else { self.random.below(6) };
+        let short = if self.random.chance(60) { 0 } else { self.random.below(7) };
         self.nested_marks(of, self.limits.marks.saturating_sub(short))
     }
 

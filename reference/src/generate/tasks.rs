@@ -80,11 +80,12 @@ impl Draft<'_> {
     /// A task for a right side or a branch: often guarded, so that it fails now and not later,
     /// or with a write in front.
     pub fn right_side(&mut self, of: &Type, fuel: usize) -> Code {
-        match self.random.below(10) {
+        match self.random.below(12) {
             0..=3 => {
                 let task = self.task(of, fuel.saturating_sub(5));
                 self.guarded(task, of)
             }
+            10..=11 => self.at_the_end(of, fuel.saturating_sub(5)),
             4..=5 => self.writing(fuel / 3, |draft| draft.task(of, fuel / 2)),
             6 => self.writing(fuel / 3, |draft| {
                 let task = draft.task(of, fuel / 2);

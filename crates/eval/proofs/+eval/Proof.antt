@@ -1,8 +1,10 @@
 -- `eval::eval` meets its contract, an arm by the law of its kind; its measure is the row, which falls. Assumes nothing.
-use mathlib.Core.Path.{sym, _∙_}
+use mathlib.Core.Path.{sym, ap, subst, _∙_}
 use mathlib.Core.Logic.{⊎-elim}
 use native.Mathlib.Omega.{arith}
 use borrow.Author.Needs.{needs}
+use Rattle.value.specs.Evaluations.{sureOf, afterOver}
+use Rattle.state.specs.Contracts.{EvalOk}
 use Rattle.state.proofs.Calls.{low-a, low-b, fine-at}
 use Rattle.eval.proofs.Arms.{call-a, call-b, call-c, eval-op, eval-if-true, eval-if-false, eval-pair, eval-part, eval-content, eval-assign, eval-let, eval-deep, eval-none}
 use Prim.Native.Nat.{ℕ, _<_}
@@ -18,9 +20,11 @@ use Rattle.rows.proofs.get.Reads as get-reads
 use Rattle.rows.proofs.operand.Reads as operand-reads
 use Rattle.state.proofs.put_value.Reads as put-value-reads
 use Rattle.state.proofs.read_value.Reads as read-value-reads
+use Rattle.value.proofs.after.Reads as after-reads
 use Rattle.value.proofs.apply.Reads as apply-reads
 use Rattle.value.proofs.is_true.Reads as is-true-reads
 use Rattle.value.proofs.pair.Reads as pair-reads
+use Rattle.value.proofs.sure.Reads as sure-reads
 use Rattle.value.proofs.unit.Reads as unit-reads
 use Rattle.eval.proofs.+eval.{statement}
 use Rattle.eval.proofs.+eval.Tie.{close}
@@ -44,10 +48,14 @@ pub +eval-spec : {M : Type 1} → statement M
   eval.Post,
   apply-reads.Asked,
   apply-reads.Learnt,
+  after-reads.Asked,
+  after-reads.Learnt,
   is-true-reads.Asked,
   is-true-reads.Learnt,
   pair-reads.Asked,
   pair-reads.Learnt,
+  sure-reads.Asked,
+  sure-reads.Learnt,
   read-value-reads.Asked,
   read-value-reads.Learnt,
   put-value-reads.Asked,
@@ -79,7 +87,7 @@ pub +eval-spec : {M : Type 1} → statement M
     call-c (start .pre) (get .get .result) (c .operand2 .result) (get .get .ensures) (c .operand2 .ensures) (omega (arith, match-at .match .keys1)))
     (λ c κs.
     let start = c .before .before .before .before .before .before .before .before in
-    (start .pre .1 .low, omega arith)) (λ c κs. search needs)
+    (start .pre .1 .low, omega arith)) (λ c κs. search needs) (λ c κs. search needs) (λ c κs. search needs)
     (λ c κs. (c .before .before .before .pre .1 .low, omega arith))
     (λ c κs.
     let match-at = c .before .before in
@@ -95,8 +103,10 @@ pub +eval-spec : {M : Type 1} → statement M
     let get = match-at .before in
     let start = get .before in
     call-b (start .pre) (get .get .result) (c .operand4 .result) (get .get .ensures) (c .operand4 .ensures) (omega (arith, match-at .match .keys2)))
+    (λ c κs. search needs)
     (λ c.
-    let operand4 = c .before in
+    let eval4 = c .before in
+    let operand4 = eval4 .before in
     let if1 = operand4 .before .before in
     let is-true = if1 .before in
     let eval3 = is-true .before in
@@ -105,9 +115,10 @@ pub +eval-spec : {M : Type 1} → statement M
     let get = match-at .before in
     let start = get .before in
     eval-if-true (start .args .rows .now) (start .args .row) (start .args .env .now) (start .args .depth) (start .args .state .now)
-    (eval3 .eval3 .last .1 .0) (c .eval4 .last .1 .0) (eval3 .eval3 .result) (c .eval4 .result) (is-true .is-true .result)
-    (is-true .is-true .ensures) (operand3 .operand3 .result) (operand4 .operand4 .result) (sym (get .get .ensures) ∙ match-at .match .keys2)
-    (operand3 .operand3 .ensures) (eval3 .eval3 .ensures) (c .eval4 .ensures) (if1 .if1 .taken) (operand4 .operand4 .ensures))
+    (eval3 .eval3 .last .1 .0) (eval4 .eval4 .last .1 .0) (eval3 .eval3 .result) (eval4 .eval4 .result) (c .after3 .result) (c .after3 .ensures)
+    (is-true .is-true .result) (is-true .is-true .ensures) (operand3 .operand3 .result) (operand4 .operand4 .result)
+    (sym (get .get .ensures) ∙ match-at .match .keys2) (operand3 .operand3 .ensures) (eval3 .eval3 .ensures) (eval4 .eval4 .ensures)
+    (if1 .if1 .taken) (operand4 .operand4 .ensures))
     (λ c κs.
     let start = c .before .before .before .before .before .before .before .before in
     (start .pre .1 .low, omega arith))
@@ -116,6 +127,7 @@ pub +eval-spec : {M : Type 1} → statement M
     let get = match-at .before in
     let start = get .before in
     call-c (start .pre) (get .get .result) (c .operand5 .result) (get .get .ensures) (c .operand5 .ensures) (omega (arith, match-at .match .keys2)))
+    (λ c κs. search needs)
     (λ c κs. (c .before .before .before .pre .1 .low, omega arith))
     (λ c κs.
     let match-at = c .before .before in
@@ -130,13 +142,14 @@ pub +eval-spec : {M : Type 1} → statement M
     let get = match-at .before in
     let start = get .before in
     call-b (start .pre) (get .get .result) (c .operand7 .result) (get .get .ensures) (c .operand7 .ensures) (omega (arith, match-at .match .keys3)))
-    (λ c κs. search needs) (λ c κs. (c .before .before .before .pre .1 .low, omega arith))
+    (λ c κs. search needs) (λ c κs. search needs) (λ c κs. search needs) (λ c κs. search needs) (λ c κs. (c .before .before .before .pre .1 .low, omega arith))
     (λ c κs.
     let match-at = c .before .before in
     let get = match-at .before in
     let start = get .before in
     let h = low-a (start .pre .1) (get .get .result) (c .operand8 .result) (get .get .ensures) (c .operand8 .ensures) (omega (arith, match-at .match .keys4)) in
     omega (arith, start .pre .1 .low))
+    (λ c κs. search needs)
     (λ c κs. (c .before .before .before .pre .1 .low, omega arith))
     (λ c κs.
     let match-at = c .before .before in
@@ -152,21 +165,22 @@ pub +eval-spec : {M : Type 1} → statement M
     let start = get .before in
     let h = low-a (start .pre .1) (get .get .result) (c .operand10 .result) (get .get .ensures) (c .operand10 .ensures) (omega (arith, match-at .match .keys5)) in
     omega (arith, start .pre .1 .low))
+    (λ c κs. search needs) (λ c κs. search needs)
     (λ c κs. search needs) (λ c κs. (c .before .before .before .pre .1 .low, omega arith))
     (λ c κs.
     let match-at = c .before .before in
     let get = match-at .before in
     let start = get .before in
     call-a (start .pre) (get .get .result) (c .operand11 .result) (get .get .ensures) (c .operand11 .ensures) (omega (arith, match-at .match .keys6)))
-    (λ c κs. search needs)
+    (λ c κs. search needs) (λ c κs. search needs)
     (λ c.
-    let if2 = c .before in
+    let if2 = c .before .before in
     let eval9 = if2 .before in
     let match-at = eval9 .before .before .before in
     let get = match-at .before in
     let start = get .before in
     eval-deep (start .args .rows .now) (start .args .row) (start .args .env .now) (start .args .depth) (start .args .state .now)
-    (eval9 .eval9 .last .1 .0) (c .unit2 .result) (sym (get .get .ensures) ∙ match-at .match .keys6) (if2 .if2 .taken))
+    (eval9 .eval9 .last .1 .0) (c .sure4 .result) (sym (get .get .ensures) ∙ match-at .match .keys6) (if2 .if2 .taken))
     (λ c κs. c .if2 .left)
     (λ c κs.
     let start = c .before .before .before .before .before .before .before .before in
@@ -179,11 +193,13 @@ pub +eval-spec : {M : Type 1} → statement M
     let start = get .before in
     let h = low-b (start .pre .1) (get .get .result) (operand12 .operand12 .result) (get .get .ensures) (operand12 .operand12 .ensures) (omega (arith, match-at .match .keys6)) in
     (omega (arith, start .pre .0), fine-at (start .pre .1) _ _ (omega arith) (omega (arith, if2 .if2 .left))))
+    (λ c κs. search needs)
     (λ c κs.
     let if3 = c .before in
     let get = if3 .before .before in
     let start = get .before in
     (start .pre .1 .low, start .pre .1 .room, get .get .ensures, if3 .if3 .left, omega (arith, c .if4 .taken)))
+    (λ c κs. search needs)
     (λ c κs.
     let start = c .before .before .before .before .before .before in
     (start .pre .1 .low, omega arith))
@@ -194,9 +210,11 @@ pub +eval-spec : {M : Type 1} → statement M
     let start = get .before in
     call-a (start .pre) (get .get .result) (c .operand13 .result) (get .get .ensures) (c .operand13 .ensures)
     (omega (arith, if4 .if4 .left, match-at .match .rest .0 .0 .0 .0 .0 .1)))
-    (λ c κs. search needs) (λ c κs. search needs)
+    (λ c κs. search needs) (λ c κs. search needs) (λ c κs. search needs) (λ c κs. search needs) (λ c κs. search needs)
     (λ c.
-    let get2 = c .before in
+    let after = c .before in
+    let apply = after .before in
+    let get2 = apply .before in
     let eval2 = get2 .before in
     let operand2 = eval2 .before in
     let eval = operand2 .before .before in
@@ -204,12 +222,16 @@ pub +eval-spec : {M : Type 1} → statement M
     let match-at = operand .before .before in
     let get = match-at .before in
     let start = get .before in
+    let x = eval .eval .result in
+    let y = eval2 .eval2 .result in
     eval-op (start .args .rows .now) (start .args .row) (start .args .env .now) (start .args .depth) (start .args .state .now)
-    (eval .eval .last .1 .0) (eval2 .eval2 .last .1 .0) (eval .eval .result) (eval2 .eval2 .result) (c .apply .result) (operand .operand .result)
+    (eval .eval .last .1 .0) (eval2 .eval2 .last .1 .0) x y (c .after2 .result) (operand .operand .result)
     (operand2 .operand2 .result) (get2 .get2 .result) (sym (get .get .ensures) ∙ match-at .match .keys1) (operand .operand .ensures)
-    (operand2 .operand2 .ensures) (get2 .get2 .ensures) (eval .eval .ensures) (eval2 .eval2 .ensures) (c .apply .ensures))
+    (operand2 .operand2 .ensures) (get2 .get2 .ensures) (eval .eval .ensures) (eval2 .eval2 .ensures)
+    (c .after2 .ensures ∙ ap (afterOver (x .over)) (after .after .ensures ∙ ap (afterOver (y .over)) (apply .apply .ensures))))
     (λ c.
-    let operand5 = c .before in
+    let eval5 = c .before in
+    let operand5 = eval5 .before in
     let if1 = operand5 .before .before in
     let is-true = if1 .before in
     let eval3 = is-true .before in
@@ -218,62 +240,94 @@ pub +eval-spec : {M : Type 1} → statement M
     let get = match-at .before in
     let start = get .before in
     eval-if-false (start .args .rows .now) (start .args .row) (start .args .env .now) (start .args .depth) (start .args .state .now)
-    (eval3 .eval3 .last .1 .0) (c .eval5 .last .1 .0) (eval3 .eval3 .result) (c .eval5 .result) (is-true .is-true .result)
-    (is-true .is-true .ensures) (operand3 .operand3 .result) (operand5 .operand5 .result) (sym (get .get .ensures) ∙ match-at .match .keys2)
-    (operand3 .operand3 .ensures) (eval3 .eval3 .ensures) (c .eval5 .ensures) (if1 .if1 .left) (operand5 .operand5 .ensures))
+    (eval3 .eval3 .last .1 .0) (eval5 .eval5 .last .1 .0) (eval3 .eval3 .result) (eval5 .eval5 .result) (c .after4 .result) (c .after4 .ensures)
+    (is-true .is-true .result) (is-true .is-true .ensures) (operand3 .operand3 .result) (operand5 .operand5 .result)
+    (sym (get .get .ensures) ∙ match-at .match .keys2) (operand3 .operand3 .ensures) (eval3 .eval3 .ensures) (eval5 .eval5 .ensures)
+    (if1 .if1 .left) (operand5 .operand5 .ensures))
     (λ c.
-    let eval7 = c .before in
+    let after5 = c .before in
+    let sure = after5 .before in
+    let pair = sure .before in
+    let eval7 = pair .before in
     let operand7 = eval7 .before in
     let eval6 = operand7 .before .before in
     let operand6 = eval6 .before in
     let match-at = operand6 .before .before in
     let get = match-at .before in
     let start = get .before in
+    let x = eval6 .eval6 .result in
+    let y = eval7 .eval7 .result in
     eval-pair (start .args .rows .now) (start .args .row) (start .args .env .now) (start .args .depth) (start .args .state .now)
-    (eval6 .eval6 .last .1 .0) (eval7 .eval7 .last .1 .0) (eval6 .eval6 .result) (eval7 .eval7 .result) (c .pair .result)
+    (eval6 .eval6 .last .1 .0) (eval7 .eval7 .last .1 .0) x y (c .after6 .result)
     (operand6 .operand6 .result) (operand7 .operand7 .result) (sym (get .get .ensures) ∙ match-at .match .keys3) (operand6 .operand6 .ensures)
-    (operand7 .operand7 .ensures) (eval6 .eval6 .ensures) (eval7 .eval7 .ensures) (c .pair .ensures))
+    (operand7 .operand7 .ensures) (eval6 .eval6 .ensures) (eval7 .eval7 .ensures)
+    (c .after6 .ensures ∙ ap (afterOver (x .over)) (after5 .after5 .ensures ∙ ap (afterOver (y .over)) (sure .sure .ensures ∙ ap sureOf (pair .pair .ensures)))))
     (λ c.
-    let operand8 = c .before in
+    let read-value = c .before in
+    let operand8 = read-value .before in
     let match-at = operand8 .before .before in
     let get = match-at .before in
     let start = get .before in
-    eval-content (start .args .rows .now) (start .args .row) (start .args .env .now) (start .args .depth) (start .args .state .now)
-    (c .read-value .result) (operand8 .operand8 .result) (sym (get .get .ensures) ∙ match-at .match .keys4) (operand8 .operand8 .ensures)
-    (c .read-value .ensures))
+    subst (EvalOk (start .args .rows .now) (start .args .state .now) (start .args .state .now) (start .args .row) (start .args .env .now) (start .args .depth)) (sym (c .sure2 .ensures))
+    (eval-content (start .args .rows .now) (start .args .row) (start .args .env .now) (start .args .depth) (start .args .state .now)
+    (read-value .read-value .result) (operand8 .operand8 .result) (sym (get .get .ensures) ∙ match-at .match .keys4) (operand8 .operand8 .ensures)
+    (read-value .read-value .ensures)))
     (λ c.
-    let put-value = c .before in
+    let sure3 = c .before in
+    let unit = sure3 .before in
+    let put-value = unit .before in
     let operand10 = put-value .before in
     let eval8 = operand10 .before .before in
     let operand9 = eval8 .before in
     let match-at = operand9 .before .before in
     let get = match-at .before in
     let start = get .before in
+    let x = eval8 .eval8 .result in
     eval-assign (start .args .rows .now) (start .args .row) (start .args .env .now) (start .args .depth) (start .args .state .now)
-    (eval8 .eval8 .last .1 .0) (put-value .put-value .last .0) (eval8 .eval8 .result) (c .unit .result) (operand10 .operand10 .result)
+    (eval8 .eval8 .last .1 .0) (put-value .put-value .last .0) x (c .after7 .result) (operand10 .operand10 .result)
     (operand9 .operand9 .result) (sym (get .get .ensures) ∙ match-at .match .keys5) (operand10 .operand10 .ensures) (operand9 .operand9 .ensures)
-    (eval8 .eval8 .ensures) (put-value .put-value .ensures) (c .unit .ensures))
-    (λ c. let s = c .before .before .before .before .before .before .before .before .before .before .before in eval-let (s .args .rows .now) (s .args .row) (s .args .env .now) (s .args .depth) (s .args .state .now) (c .before .before .before .before .before .before .eval9 .last .1 .0) (c .eval10 .last .1 .0) (c .before .before .before .before .pushed .result) (c .before .before .before .before .before .before .eval9 .result) (c .eval10 .result) (c .before .before .before .before .before .before .before .operand11 .result) (c .before .before .operand12 .result) (sym (c .before .before .before .before .before .before .before .before .before .before .get .ensures) ∙ c .before .before .before .before .before .before .before .before .before .match .keys6) (c .before .before .before .before .before .before .before .operand11 .ensures) (c .before .before .operand12 .ensures) (c .before .before .before .before .before .before .eval9 .ensures) (c .before .before .before .before .pushed .ensures) (c .eval10 .ensures))
+    (eval8 .eval8 .ensures) (put-value .put-value .ensures)
+    (c .after7 .ensures ∙ ap (afterOver (x .over)) (sure3 .sure3 .ensures ∙ ap sureOf (unit .unit .ensures))))
     (λ c.
-    let start = c .before .before .before .before .before in
-    c .constant .ensures (start .args .state .now))
+    let eval10 = c .before in
+    let operand12 = eval10 .before .before in
+    let pushed = operand12 .before .before in
+    let eval9 = pushed .before .before in
+    let operand11 = eval9 .before in
+    let match-at = operand11 .before .before in
+    let get = match-at .before in
+    let start = get .before in
+    eval-let (start .args .rows .now) (start .args .row) (start .args .env .now) (start .args .depth) (start .args .state .now)
+    (eval9 .eval9 .last .1 .0) (eval10 .eval10 .last .1 .0) (pushed .pushed .result) (eval9 .eval9 .result) (eval10 .eval10 .result)
+    (c .after8 .result) (c .after8 .ensures) (operand11 .operand11 .result) (operand12 .operand12 .result)
+    (sym (get .get .ensures) ∙ match-at .match .keys6) (operand11 .operand11 .ensures) (operand12 .operand12 .ensures)
+    (eval9 .eval9 .ensures) (pushed .pushed .ensures) (eval10 .eval10 .ensures))
     (λ c.
-    let eval11 = c .before in
+    let constant = c .before in
+    let start = constant .before .before .before .before .before in
+    subst (EvalOk (start .args .rows .now) (start .args .state .now) (start .args .state .now) (start .args .row) (start .args .env .now) (start .args .depth)) (sym (c .sure5 .ensures))
+    (constant .constant .ensures (start .args .state .now)))
+    (λ c.
+    let sure6 = c .before in
+    let part = sure6 .before in
+    let eval11 = part .before in
     let operand13 = eval11 .before in
     let if5 = operand13 .before .before in
     let if4 = if5 .before in
     let match-at = if4 .before .before in
     let get = match-at .before in
     let start = get .before in
+    let x = eval11 .eval11 .result in
     eval-part (start .args .rows .now) (start .args .row) (start .args .env .now) (start .args .depth) (start .args .state .now)
-    (eval11 .eval11 .last .1 .0) (eval11 .eval11 .result) (c .part .result) (operand13 .operand13 .result) (get .get .result) (get .get .ensures)
+    (eval11 .eval11 .last .1 .0) x (part .part .result) (c .after9 .result) (c .after9 .ensures ∙ ap (afterOver (x .over)) (sure6 .sure6 .ensures))
+    (operand13 .operand13 .result) (get .get .result) (get .get .ensures)
     (omega (arith, if4 .if4 .left, match-at .match .rest .0 .0 .0 .0 .0 .1, match-at .match .rest .0 .0 .0 .0 .1, match-at .match .rest .0 .0 .0 .1))
-    (if5 .if5 .taken) (operand13 .operand13 .ensures) (eval11 .eval11 .ensures) (c .part .ensures))
+    (if5 .if5 .taken) (operand13 .operand13 .ensures) (eval11 .eval11 .ensures) (part .part .ensures))
     (λ c.
-    let if3 = c .before in
+    let if3 = c .before .before in
     let match-at = if3 .before in
     let get = match-at .before in
     let start = get .before in
     let g = (get .get .ensures) in
-    eval-none (start .args .rows .now) (start .args .row) (start .args .env .now) (start .args .depth) (start .args .state .now) (c .unit3 .result)
+    eval-none (start .args .rows .now) (start .args .row) (start .args .env .now) (start .args .depth) (start .args .state .now) (c .sure7 .result)
     (λ p q. ⊎-elim (λ z. let y = z .taken in omega arith) (λ z. let y = z .2 .left in omega (arith, match-at .match .rest .1, match-at .match .rest .0 .1, match-at .match .rest .0 .0 .1)) (if3 .if3 .came)))

@@ -60,7 +60,8 @@ pub +evaluate-spec : {M : Type 1} → statement M
     let start = c .before .before .before .before .before .before .before .before .before .before .before in
     (start .pre .1) .low)
     (λ c.
-    let evaluate = c .before .before in
+    let put-tag = c .before in
+    let evaluate = put-tag .before .before in
     let operand2 = evaluate .before in
     let if1 = operand2 .before .before in
     let is-true = if1 .before in
@@ -70,10 +71,10 @@ pub +evaluate-spec : {M : Type 1} → statement M
     let get = match-at .before in
     let start = get .before in
     evaluate-true (start .args .rows .now) (start .args .row) (start .args .env .now) (start .args .depth) (start .args .state .now)
-    (eval .eval .last .1 .0) (evaluate .evaluate .last .1 .0) (c .put-tag .last .0) (eval .eval .result) (is-true .is-true .result)
+    (eval .eval .last .1 .0) (evaluate .evaluate .last .1 .0) (put-tag .put-tag .last .0) (eval .eval .result) (evaluate .evaluate .result) (is-true .is-true .result)
     (is-true .is-true .ensures) (operand .operand .result) (operand2 .operand2 .result) (sym (get .get .ensures) ∙ match-at .match .keys1)
     (operand .operand .ensures) (eval .eval .ensures) (evaluate .evaluate .ensures) (if1 .if1 .taken) (operand2 .operand2 .ensures)
-    (c .put-tag .ensures))
+    (put-tag .put-tag .ensures))
     (λ c κs.
     let start = c .before .before .before .before .before .before .before .before in
     ((start .pre .1) .low, omega arith))
@@ -157,7 +158,8 @@ pub +evaluate-spec : {M : Type 1} → statement M
     let start = c .before .before .before .before in
     (start .pre .1) .low)
     (λ c.
-    let evaluate2 = c .before .before in
+    let put-tag2 = c .before in
+    let evaluate2 = put-tag2 .before .before in
     let operand3 = evaluate2 .before in
     let if1 = operand3 .before .before in
     let is-true = if1 .before in
@@ -167,11 +169,25 @@ pub +evaluate-spec : {M : Type 1} → statement M
     let get = match-at .before in
     let start = get .before in
     evaluate-false (start .args .rows .now) (start .args .row) (start .args .env .now) (start .args .depth) (start .args .state .now)
-    (eval .eval .last .1 .0) (evaluate2 .evaluate2 .last .1 .0) (c .put-tag2 .last .0) (eval .eval .result) (is-true .is-true .result)
+    (eval .eval .last .1 .0) (evaluate2 .evaluate2 .last .1 .0) (put-tag2 .put-tag2 .last .0) (eval .eval .result) (evaluate2 .evaluate2 .result) (is-true .is-true .result)
     (is-true .is-true .ensures) (operand .operand .result) (operand3 .operand3 .result) (sym (get .get .ensures) ∙ match-at .match .keys1)
     (operand .operand .ensures) (eval .eval .ensures) (evaluate2 .evaluate2 .ensures) (if1 .if1 .left) (operand3 .operand3 .ensures)
-    (c .put-tag2 .ensures))
-    (λ c. let s = c .before .before .before .before .before .before .before .before .before .before .before .before .before .before .before in evaluate-let (s .args .rows .now) (s .args .row) (s .args .env .now) (s .args .depth) (s .args .state .now) (c .before .before .before .before .before .before .before .before .before .before .eval2 .last .1 .0) (c .before .before .before .before .before .before .before .before .put-value .last .0) (c .evaluate3 .last .1 .0) (c .before .before .before .before .bind .last .1 .1 .0) (c .before .before .before .before .bind .result) (c .before .before .before .before .before .before .before .before .before .before .eval2 .result) (c .before .before .before .before .before .before .before .before .before .before .before .operand4 .result) (c .before .before .operand5 .result) (c .before .before .before .before .before .before .before .before .before .before .before .operand4 .ensures) (c .before .before .operand5 .ensures) (c .before .before .before .before .before .before .before .before .before .before .eval2 .ensures) (c .before .before .before .before .before .before .before .before .put-value .ensures) (c .before .before .before .before .bind .ensures) (c .evaluate3 .ensures) (sym (c .before .before .before .before .before .before .before .before .before .before .before .before .before .before .get .ensures) ∙ c .before .before .before .before .before .before .before .before .before .before .before .before .before .match .keys2))
+    (put-tag2 .put-tag2 .ensures))
+    (λ c.
+    let evaluate3 = c .before in
+    let operand5 = evaluate3 .before .before in
+    let bind = operand5 .before .before in
+    let put-value = bind .before .before .before .before in
+    let eval2 = put-value .before .before in
+    let operand4 = eval2 .before in
+    let match-at = operand4 .before .before in
+    let get = match-at .before in
+    let start = get .before in
+    evaluate-let (start .args .rows .now) (start .args .row) (start .args .env .now) (start .args .depth) (start .args .state .now)
+    (eval2 .eval2 .last .1 .0) (put-value .put-value .last .0) (evaluate3 .evaluate3 .last .1 .0) (bind .bind .last .1 .1 .0) (bind .bind .result)
+    (eval2 .eval2 .result) (evaluate3 .evaluate3 .result) (operand4 .operand4 .result) (operand5 .operand5 .result) (operand4 .operand4 .ensures)
+    (operand5 .operand5 .ensures) (eval2 .eval2 .ensures) (put-value .put-value .ensures) (bind .bind .ensures) (evaluate3 .evaluate3 .ensures)
+    (sym (get .get .ensures) ∙ match-at .match .keys2))
     (λ c.
     let eval3 = c .before .before in
     let operand6 = eval3 .before in
@@ -189,7 +205,7 @@ pub +evaluate-spec : {M : Type 1} → statement M
     let get = if2 .before .before in
     let start = get .before in
     evaluate-step (start .args .rows .now) (start .args .row) (start .args .env .now) (start .args .depth) (start .args .state .now)
-    (evaluate4 .evaluate4 .last .1 .0) (c .put-tag3 .last .0) (operand7 .operand7 .result) (operand7 .operand7 .ensures)
+    (evaluate4 .evaluate4 .last .1 .0) (c .put-tag3 .last .0) (operand7 .operand7 .result) (evaluate4 .evaluate4 .result) (operand7 .operand7 .ensures)
     (evaluate4 .evaluate4 .ensures) (c .put-tag3 .ensures) (omega (arith, get .get .ensures, if2 .if2 .left))
     (omega (arith, get .get .ensures, if3 .if3 .taken)))
     (λ c.
@@ -203,7 +219,7 @@ pub +evaluate-spec : {M : Type 1} → statement M
     let start = get .before in
     evaluate-two (start .args .rows .now) (start .args .row) (start .args .env .now) (start .args .depth) (start .args .state .now)
     (evaluate5 .evaluate5 .last .1 .0) (evaluate6 .evaluate6 .last .1 .0) (c .put-tag4 .last .0) (operand8 .operand8 .result)
-    (operand9 .operand9 .result) (operand8 .operand8 .ensures) (operand9 .operand9 .ensures) (evaluate5 .evaluate5 .ensures)
+    (operand9 .operand9 .result) (evaluate5 .evaluate5 .result) (evaluate6 .evaluate6 .result) (operand8 .operand8 .ensures) (operand9 .operand9 .ensures) (evaluate5 .evaluate5 .ensures)
     (evaluate6 .evaluate6 .ensures) (c .put-tag4 .ensures) (omega (arith, get .get .ensures, if4 .if4 .left))
     (omega (arith, get .get .ensures, if5 .if5 .taken)))
     (λ c.

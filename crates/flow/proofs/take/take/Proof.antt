@@ -4,12 +4,13 @@ use borrow.Author.Needs.{needs}
 use borrow.Author.Tests.{not-false}
 use Rattle.call_definitions.specs.Calls.{opened}
 use Rattle.flow.proofs.OpenLaws.{opened-fine}
-use Rattle.flow.proofs.TakeLaws.{take-refused, take-8, take-9, take-0, opened-room}
+use Rattle.flow.proofs.TakeLaws.{take-refused, take-8, take-failed, take-9, take-0, opened-room}
 use Rattle.flow.proofs.take.take.Statement.{statement}
 use Rattle.flow.proofs.take.take.Tie as tie
 use Rattle.flow.proofs.take.take.Reads as reads
 use Rattle.flow.proofs.take.take.Lts as lts
 use Rattle.flow.proofs.answer.refused.Reads as refused-reads
+use Rattle.flow.proofs.take.take_failed.Reads as take-failed-reads
 use Rattle.flow.proofs.open.open.Reads as open-reads
 use Rattle.handle.proofs.handle.Reads as handle-reads
 use Rattle.normalising.proofs.normalise.Reads as normalise-reads
@@ -40,92 +41,95 @@ returns-2 c =
     take-8 (start .args .rows .now) (start .args .state .now) own words (o .result) (start .args .e) (o .ensures) (if1 .if1 .left) (if2 .if2 .taken)
     (c .refused2 .result) (c .refused2 .ensures)
 
-sub-last : tie.Need-sub-last
-sub-last c =
-    let if1 = c .before .before .before in
-    let start-at = if1 .before .before in
-    let opening = start-at in
-    let start = opening .before .before .before .before in
-    let o = opening .«open» in
-    let own = o .last .1 .1 .1 .0 in
-    let words = o .last .1 .1 .1 .1 .0 in
-    opened-fine (start .args .rows .now) (start .args .state .now) own words (o .result)
-    (opened (start .args .rows .now) (start .args .state .now) true) (o .ensures) (if1 .if1 .left) .0
-
-handle-requires : tie.Need-handle-requires
-handle-requires c κs =
-    let if2 = c .before .before .before .before in
-    let start-at = if2 .before .before in
-    let if1 = start-at in
-    let opening = if1 .before .before in
-    let start = opening .before .before .before .before in
-    let o = opening .«open» in
-    let own = o .last .1 .1 .1 .0 in
-    let words = o .last .1 .1 .1 .1 .0 in
-    (opened-fine (start .args .rows .now) (start .args .state .now) own words (o .result) (opened (start .args .rows .now) (start .args .state .now) true) (o .ensures) (if1 .if1 .left) .2, start .pre (not-false (start .args .e .readable) (if2 .if2 .left)))
-
 returns-3 : tie.Need-returns-3
 returns-3 c =
-    let start-at = c .before in
-    let if3 = start-at in
-    let handled = if3 .before in
-    let if2 = handled .before .before .before .before .before in
+    let if3 = c .before in
+    let if2 = if3 .before in
     let if1 = if2 .before .before in
     let opening = if1 .before .before in
     let start = opening .before .before .before .before in
     let o = opening .«open» in
-    let own = o .last .1 .1 .1 .0 in
-    let words = o .last .1 .1 .1 .1 .0 in
+    take-failed (start .args .rows .now) (start .args .state .now) (o .last .1 .1 .1 .0) (o .last .1 .1 .1 .1 .0) (o .result) (start .args .e) (o .ensures) (if1 .if1 .left) (if2 .if2 .left) (if3 .if3 .taken)
+    (c .take-failed .result) (c .take-failed .ensures)
+
+sub-last : tie.Need-sub-last
+sub-last c =
+    let if3 = c .before in
+    let if1 = if3 .before .before .before in
+    let opening = if1 .before .before in
+    let start = opening .before .before .before .before in
+    let o = opening .«open» in
+    opened-fine (start .args .rows .now) (start .args .state .now) (o .last .1 .1 .1 .0) (o .last .1 .1 .1 .1 .0) (o .result)
+    (opened (start .args .rows .now) (start .args .state .now) true) (o .ensures) (if1 .if1 .left) (if3 .if3 .left) .0
+
+handle-requires : tie.Need-handle-requires
+handle-requires c κs =
+    let if3 = c .before .before .before .before in
+    let if2 = if3 .before in
+    let if1 = if2 .before .before in
+    let opening = if1 .before .before in
+    let start = opening .before .before .before .before in
+    let o = opening .«open» in (
+      opened-fine (start .args .rows .now) (start .args .state .now) (o .last .1 .1 .1 .0) (o .last .1 .1 .1 .1 .0) (o .result) (opened (start .args .rows .now) (start .args .state .now) true) (o .ensures) (if1 .if1 .left) (if3 .if3 .left) .2,
+      start .pre (not-false (start .args .e .readable) (if2 .if2 .left)),
+    )
+
+returns-4 : tie.Need-returns-4
+returns-4 c =
+    let if4 = c .before in
+    let handled = if4 .before in
+    let if3 = handled .before .before .before .before .before in
+    let if2 = if3 .before in
+    let if1 = if2 .before .before in
+    let opening = if1 .before .before in
+    let start = opening .before .before .before .before in
+    let o = opening .«open» in
     let h = handled .handle in
-    take-9 (start .args .rows .now) (start .args .state .now) own words (o .result) (start .args .e) (if1 .if1 .left) (if2 .if2 .left)
-    (h .last .1 .0) _ (h .result) (h .ensures) (o .ensures) (if3 .if3 .taken) (c .refused3 .result) (c .refused3 .ensures)
+    take-9 (start .args .rows .now) (start .args .state .now) (o .last .1 .1 .1 .0) (o .last .1 .1 .1 .1 .0) (o .result) (start .args .e) (if1 .if1 .left) (if3 .if3 .left) (if2 .if2 .left)
+    (h .last .1 .0) _ (h .result) (h .ensures) (o .ensures) (if4 .if4 .taken) (c .refused3 .result) (c .refused3 .ensures)
 
 normalise-requires : tie.Need-normalise-requires
 normalise-requires c κs =
-    let if1 = c .before .before .before .before .before .before .before .before .before .before .before in
-    let start-at = if1 .before .before in
-    let opening = start-at in
+    let if3 = c .before .before .before .before .before .before .before .before .before in
+    let if1 = if3 .before .before .before in
+    let opening = if1 .before .before in
     let start = opening .before .before .before .before in
     let o = opening .«open» in
-    let own = o .last .1 .1 .1 .0 in
-    let words = o .last .1 .1 .1 .1 .0 in
-    opened-fine (start .args .rows .now) (start .args .state .now) own words (o .result)
-    (opened (start .args .rows .now) (start .args .state .now) true) (o .ensures) (if1 .if1 .left) .2
+    opened-fine (start .args .rows .now) (start .args .state .now) (o .last .1 .1 .1 .0) (o .last .1 .1 .1 .1 .0) (o .result)
+    (opened (start .args .rows .now) (start .args .state .now) true) (o .ensures) (if1 .if1 .left) (if3 .if3 .left) .2
 
 state-out-requires : tie.Need-state-out-requires
 state-out-requires c κs =
-    let if1 = c .before .before .before .before .before .before .before .before .before .before .before .before .before .before in
-    let start-at = if1 .before .before in
-    let opening = start-at in
+    let if3 = c .before .before .before .before .before .before .before .before .before .before .before .before in
+    let if1 = if3 .before .before .before in
+    let opening = if1 .before .before in
     let start = opening .before .before .before .before in
     let o = opening .«open» in
     let own = o .last .1 .1 .1 .0 in
     let words = o .last .1 .1 .1 .1 .0 in
     let x = opened (start .args .rows .now) (start .args .state .now) true in
-    (opened-room (start .args .rows .now) (start .args .state .now) own words (o .result) x (o .ensures) (if1 .if1 .left), opened-fine (start .args .rows .now) (start .args .state .now) own words (o .result) x (o .ensures) (if1 .if1 .left) .1)
+    (opened-room (start .args .rows .now) (start .args .state .now) own words (o .result) x (o .ensures) (if1 .if1 .left) (if3 .if3 .left), opened-fine (start .args .rows .now) (start .args .state .now) own words (o .result) x (o .ensures) (if1 .if1 .left) (if3 .if3 .left) .1)
 
-returns-4 : tie.Need-returns-4
-returns-4 c =
+returns-5 : tie.Need-returns-5
+returns-5 c =
     let state-out = c .before in
-    let start-at = state-out .before .before .before in
-    let normal = start-at in
-    let if3 = normal .before .before .before .before in
-    let handled = if3 .before in
-    let if2 = handled .before .before .before .before .before in
+    let normal = state-out .before .before .before in
+    let if4 = normal .before .before .before .before in
+    let handled = if4 .before in
+    let if3 = handled .before .before .before .before .before in
+    let if2 = if3 .before in
     let if1 = if2 .before .before in
     let opening = if1 .before .before in
     let start = opening .before .before .before .before in
     let o = opening .«open» in
-    let own = o .last .1 .1 .1 .0 in
-    let words = o .last .1 .1 .1 .1 .0 in
     let h = handled .handle in
     let m = normal .normalise in
     let w = state-out .state-out in
-    take-0 (start .args .rows .now) (start .args .state .now) own words (o .result) (start .args .e) (if1 .if1 .left) (if2 .if2 .left)
+    take-0 (start .args .rows .now) (start .args .state .now) (o .last .1 .1 .1 .0) (o .last .1 .1 .1 .1 .0) (o .result) (start .args .e) (if1 .if1 .left) (if3 .if3 .left) (if2 .if2 .left)
     (h .last .1 .0) _ (h .result) (h .ensures) (m .last .1 .0) _ (m .result) (w .last .1 .1 .0) (m .ensures) (w .ensures .1) (w .ensures .0)
-    (o .ensures) (if3 .if3 .left)
+    (o .ensures) (if4 .if4 .left)
 
 pub take-spec : {M : Type 1} → statement M
 take-spec = tie.close (tie.spec (λ c κs. search needs)
-    (λ c κs. search needs) (λ c. search needs) returns (λ c κs. search needs) (λ c. search needs) returns-2 sub-last handle-requires
-    (λ c κs. search needs) (λ c. search needs) returns-3 normalise-requires state-out-requires (λ c. search needs) returns-4)
+    (λ c κs. search needs) (λ c. search needs) returns (λ c κs. search needs) (λ c. search needs) returns-2 (λ c κs. search needs) (λ c. search needs) returns-3 sub-last handle-requires
+    (λ c κs. search needs) (λ c. search needs) returns-4 normalise-requires state-out-requires (λ c. search needs) returns-5)

@@ -3,7 +3,7 @@ use native.Mathlib.Omega.{arith}
 use borrow.Author.Needs.{needs}
 use Rattle.normalising.specs.Trying.{maxStrides}
 use Rattle.normalising.proofs.Calling.{call-same, not-t, not-f}
-use Rattle.normalising.proofs.Trying.{settle-moved, settle-asked, tried-is}
+use Rattle.normalising.proofs.Trying.{settle-over, settle-moved, settle-asked, tried-is}
 use Rattle.normalising.proofs.Resting.{Mid, mid-0, mid-more, mid-stop, mid-end}
 use Prim.Native.Nat.{ℕ, _-_, _≤_}
 use Rattle.normalising.proofs.normalise.Reads as normalise
@@ -60,31 +60,40 @@ normalise-returns-2 t c =
 pub settle-evaluate-requires : (t : ℕ) → settle-lts.Need-evaluate-requires (settle-calls t) (settle-at t) settle.Post
 settle-evaluate-requires t c κs = let s = c .before in s .pre .1
 
-pub settle-normalise-requires : (t : ℕ) → settle-lts.Need-normalise-requires (settle-calls t) (settle-at t) settle.Post
-settle-normalise-requires t c κs = let s = c .before .before .before in call-same (s .args .rows .now) (s .args .row) (s .args .depth) t 4 (s .pre) 3 (omega arith)
-
 pub settle-returns : (t : ℕ) → settle-lts.Need-returns (settle-calls t) (settle-at t) settle.Post
 settle-returns t c =
-    let normalise = c .before in
-    let evaluate = normalise .before .before in
+    let evaluate = c .before in
     let start = evaluate .before .before in
-    settle-moved (start .args .rows .now) (start .args .state .now) (evaluate .evaluate .last .1 .0) (normalise .normalise .last .1 .0)
-    (start .args .row) (start .args .env .now) (start .args .depth) (normalise .normalise .result) (evaluate .evaluate .ensures)
-    (normalise .normalise .ensures) (c .if1 .taken)
+    settle-over (start .args .rows .now) (start .args .state .now) (evaluate .evaluate .last .1 .0) (start .args .row) (start .args .env .now)
+    (start .args .depth) (evaluate .evaluate .result) (evaluate .evaluate .ensures) (c .if1 .taken)
 
-pub settle-failing-requires : (t : ℕ) → settle-lts.Need-failing-requires (settle-calls t) (settle-at t) settle.Post
-settle-failing-requires t c κs =
-    let start = c .before .before .before .before .before .before in
-    call-same (start .args .rows .now) (start .args .row) (start .args .depth) t 4 (start .pre) 0 (omega arith)
+pub settle-normalise-requires : (t : ℕ) → settle-lts.Need-normalise-requires (settle-calls t) (settle-at t) settle.Post
+settle-normalise-requires t c κs = let s = c .before .before .before .before in call-same (s .args .rows .now) (s .args .row) (s .args .depth) t 4 (s .pre) 3 (omega arith)
 
 pub settle-returns-2 : (t : ℕ) → settle-lts.Need-returns-2 (settle-calls t) (settle-at t) settle.Post
 settle-returns-2 t c =
+    let normalise = c .before in
+    let if1 = normalise .before .before in
+    let evaluate = if1 .before in
+    let start = evaluate .before .before in
+    settle-moved (start .args .rows .now) (start .args .state .now) (evaluate .evaluate .last .1 .0) (normalise .normalise .last .1 .0)
+    (start .args .row) (start .args .env .now) (start .args .depth) (normalise .normalise .result) (evaluate .evaluate .result)
+    (evaluate .evaluate .ensures) (normalise .normalise .ensures) (if1 .if1 .left) (c .if2 .taken)
+
+pub settle-failing-requires : (t : ℕ) → settle-lts.Need-failing-requires (settle-calls t) (settle-at t) settle.Post
+settle-failing-requires t c κs =
+    let start = c .before .before .before .before .before .before .before in
+    call-same (start .args .rows .now) (start .args .row) (start .args .depth) t 4 (start .pre) 0 (omega arith)
+
+pub settle-returns-3 : (t : ℕ) → settle-lts.Need-returns-3 (settle-calls t) (settle-at t) settle.Post
+settle-returns-3 t c =
     let normalise = c .before .before .before in
-    let evaluate = normalise .before .before in
+    let if1 = normalise .before .before in
+    let evaluate = if1 .before in
     let start = evaluate .before .before in
     settle-asked (start .args .rows .now) (start .args .state .now) (evaluate .evaluate .last .1 .0) (normalise .normalise .last .1 .0)
-    (start .args .row) (start .args .env .now) (start .args .depth) (normalise .normalise .result) (evaluate .evaluate .ensures)
-    (normalise .normalise .ensures) (c .failing .result) (c .failing .ensures)
+    (start .args .row) (start .args .env .now) (start .args .depth) (normalise .normalise .result) (evaluate .evaluate .result)
+    (evaluate .evaluate .ensures) (normalise .normalise .ensures) (if1 .if1 .left) (c .failing .result) (c .failing .ensures)
 
 pub tried-settle-requires : (t : ℕ) → tried-lts.Need-settle-requires (tried-calls t) (tried-at t) tried.Post
 tried-settle-requires t c κs = let s = c .before .before in call-same (s .args .rows .now) (s .args .row) (s .args .depth) t 5 (s .pre) 4 (omega arith)

@@ -2,9 +2,9 @@
 use mathlib.Core.Path.{refl}
 use borrow.Author.Needs.{needs}
 use Rattle.shape.specs.Shape.{put, asShape}
-use Rattle.flow.proofs.StartLaws.{content-truth, content-number}
-use Rattle.flow.proofs.start.content.Statement.{statement}
-use Rattle.flow.proofs.start.content.Tie as tie
+use Rattle.flow.proofs.FirstLaws.{content-truth, content-number}
+use Rattle.flow.proofs.firsts.content.Statement.{statement}
+use Rattle.flow.proofs.firsts.content.Tie as tie
 
 pub content-spec : {M : Type 1} → statement M
 unfolding asShape put

@@ -3,10 +3,10 @@ use native.Mathlib.Omega.{arith}
 use mathlib.Core.Path.{_≡_}
 use Prim.Native.Nat.{_-_, _≤_}
 use borrow.Author.Needs.{needs}
-use Rattle.flow.specs.Starts.{CellsFirst}
-use Rattle.flow.proofs.StartLaws.{no-firsts, more-firsts, all-firsts}
-use Rattle.flow.proofs.start.first_cells.Statement.{statement}
-use Rattle.flow.proofs.start.first_cells.Tie as tie
+use Rattle.flow.specs.Firsts.{CellsFirst}
+use Rattle.flow.proofs.FirstLaws.{no-firsts, more-firsts, all-firsts}
+use Rattle.flow.proofs.firsts.first_cells.Statement.{statement}
+use Rattle.flow.proofs.firsts.first_cells.Tie as tie
 
 abbrev Inv-loop : tie.InvT-loop
 Inv-loop rows n work₀ i₀ work i = (i ≤ n) × CellsFirst rows work₀ work i

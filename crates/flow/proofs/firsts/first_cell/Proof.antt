@@ -1,8 +1,8 @@
 -- `first_cell` meets its contract. Assumes nothing.
 use borrow.Author.Needs.{needs}
-use Rattle.flow.proofs.StartLaws.{first-is, first-none}
-use Rattle.flow.proofs.start.first_cell.Statement.{statement}
-use Rattle.flow.proofs.start.first_cell.Tie as tie
+use Rattle.flow.proofs.FirstLaws.{first-is, first-none}
+use Rattle.flow.proofs.firsts.first_cell.Statement.{statement}
+use Rattle.flow.proofs.firsts.first_cell.Tie as tie
 
 get-requires′ : tie.Need-get-requires
 get-requires′ = λ c κs. search needs

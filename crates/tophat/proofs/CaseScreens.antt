@@ -1,0 +1,121 @@
+-- Screens as 01 prints them, and cases: a flow, its cells and its events, with what 01 says of it and what the definitions compute. What is
+-- computed has its numbers from the calculus' tables; what 01 says has them as 01 writes them, and is in 01's order. Rests on the Compute files.
+use mathlib.Core.Bool.{Bool, true, false, cond}
+use mathlib.Core.Option.{Option, none, some}
+use mathlib.Core.List.{List, [], _∷_, map}
+use Prim.Native.Nat.{ℕ}
+use lib.IntN.{ℤ, pos}
+use Rattle.decimal.specs.Path.{Mark, first, second, Path}
+use Rattle.tophat.specs.Syntax.{Ty, Exp, enumber, Code, fail, TaskOf, failed, Val, vnumber, Store}
+use Rattle.tophat.specs.Typing.{typeOf}
+use Rattle.tophat.specs.Leaves.{leavesOf, padded, leafNumber, Given}
+use Rattle.tophat.specs.Normalising.{value}
+use Rattle.tophat.specs.Handling.{giving, pressing, actNumber, Action, give}
+use Rattle.tophat.specs.Showing.{Offer, fill, button}
+use Rattle.tophat.proofs.ComputeTyping.{inferTask}
+use Rattle.tophat.proofs.ComputeEvaluation.{overflowsTask}
+use Rattle.tophat.proofs.ComputeNormalising.{failing, normalise, settle}
+use Rattle.tophat.proofs.ComputeHandling.{handle}
+use Rattle.tophat.proofs.ComputeEntries.{entries}
+
+-- path, action, leaf kinds
+pub data Line : Type 0 where
+  line : List ℕ → ℕ → List ℕ → Line
+
+-- answer, strides, failing, value flag, leaves, entries
+pub data Screen : Type 0 where
+  screen : ℕ → ℕ → ℕ → ℕ → List ℤ → List Line → Screen
+
+unfoldable pub digit : Mark → ℕ
+digit first = 1
+digit second = 2
+
+unfoldable pub lineOf : Path → Offer → Line
+lineOf p (fill ks) = line (map digit p) (actNumber giving) (map leafNumber ks)
+lineOf p (button b) = line (map digit p) (actNumber (pressing b)) (padded 0 [])
+
+unfoldable pub flag : Bool → ℕ
+flag true = 1
+flag false = 0
+
+unfoldable pub valueFlag : Option Val → ℕ
+valueFlag none = 0
+valueFlag (some v) = 1
+
+unfoldable pub valueLeaves : Option Val → List ℤ
+valueLeaves none = padded (pos 0) []
+valueLeaves (some v) = padded (pos 0) (leavesOf v)
+
+unfoldable pub screenOf : (c : Code) → ℕ → ℕ → TaskOf c → Store → Screen
+screenOf c answer n t s =
+    screen answer n (flag (failing c [] s t)) (valueFlag (value c t s)) (valueLeaves (value c t s)) (map (λ e. lineOf (e .0) (e .1)) (entries c [] s t))
+
+-- A case: a flow, its cells and its events; and what 01 says of it: its type, the screens after start and after each event,
+-- and the cells in the end.
+pub record Case : Type 0 where
+  pub flow : Code
+  pub cells : Store
+  pub events : List (Path × Action)
+  pub type : Option Ty
+  pub shown : List Screen
+  pub kept : Store
+
+abbrev pub Outcome : Type 0
+Outcome = Option Ty × List Screen × Store
+
+unfoldable pub expected : Case → Outcome
+expected k = (k .type, k .shown, k .kept)
+
+-- answer, strides, task and store after an event
+unfoldable pub taken : (c : Code) → TaskOf c → Store → Option (TaskOf c × Store) → ℕ × ℕ × TaskOf c × Store
+taken c t s none = (9, 0, t, s)
+taken c t s (some r) = let (t₁, s₁, n) = normalise c [] (r .1) (r .0) in (0, n, t₁, s₁)
+
+unfoldable pub screens : (c : Code) → ℕ × ℕ × TaskOf c × Store → List (Path × Action) → List Screen × Store
+screens c (answer, n, t, s) [] = (screenOf c answer n t s ∷ [], s)
+screens c (answer, n, t, s) ((p, x) ∷ xs) =
+    let (ss, s₁) = screens c (taken c t s (handle c [] s t p x)) xs in
+    (screenOf c answer n t s ∷ ss, s₁)
+
+-- 45 of the flow's type, where the start leaves the words (CR 3)
+unfoldable pub failedWhole : Option Ty → Store → List (Path × Action) → List Screen × Store
+failedWhole none s xs = ([], s)
+failedWhole (some τ) s xs = screens (fail τ) (0, 1, failed, s) xs
+
+unfoldable pub computed : Case → Outcome
+computed k =
+    let c = k .flow in
+    let type = inferTask (map typeOf (k .cells)) [] c in
+    let (t, s, n) = settle c [] (k .cells) in
+    let (ss, s₁) = cond (overflowsTask c [] (k .cells)) (failedWhole type (k .cells) (k .events)) (screens c (0, n, t, s) (k .events)) in
+    (type, ss, s₁)
+
+-- numbers in flows, cells and events, and as the first of the leaves
+abbrev pub num : ℕ → Exp
+num n = enumber (pos n)
+
+abbrev pub cell : ℕ → Store
+cell n = vnumber (pos n) ∷ []
+
+abbrev pub single : ℤ → List ℤ
+single n = padded (pos 0) (n ∷ [])
+
+-- a number given, the other leaves 0 or blank
+abbrev pub giving1 : ℕ → Action
+giving1 n = give (padded (some (pos 0)) (some (pos n) ∷ []))
+
+abbrev pub givingBlank : List Given → Action
+givingBlank ls = give (padded none ls)
+
+abbrev pub value1 : ℕ → Path × Action
+value1 n = ([], giving1 n)
+
+-- the entry of an editor of one leaf of this kind at a path, of numbers; and a button's at the empty path
+abbrev pub editorOf : ℕ → List ℕ → Line
+editorOf k p = line p 1 (padded 0 (k ∷ []))
+
+abbrev pub editor : List ℕ → Line
+editor p = editorOf 3 p
+
+abbrev pub buttonLine : ℕ → Line
+buttonLine n = line [] n (padded 0 [])
