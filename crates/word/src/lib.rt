@@ -12,6 +12,11 @@ ghost use Rattle.word.specs.Word.{words, half, IsWord, eqZ, AllWords};
 ghost use Rattle.word.specs.Reckoning.{reckoning};
 ghost use Rattle.word.specs.Laid.{laid};
 
+// The ends of the words.
+const LEAST: i64 = -2147483648;
+
+const GREATEST: i64 = 2147483647;
+
 // What a sum, difference or product comes to: the bits of its word, or that it is beyond the words (CR 3).
 pub enum Reckoning {
     Word(u32),
@@ -22,10 +27,10 @@ pub enum Reckoning {
 fn reckoned(z: i64) -> Reckoning
     ensures { λ r. ⌜ r ≡ reckoning z ⌝ }
 {
-    if z < -2147483648 {
+    if z < LEAST {
         return Reckoning::Beyond;
     }
-    if 2147483647 < z {
+    if GREATEST < z {
         return Reckoning::Beyond;
     }
     Reckoning::Word(bits(z as i32))
