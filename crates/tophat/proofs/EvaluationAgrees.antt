@@ -2,9 +2,10 @@
 -- unless `overflows` says that it leaves the words; then the rules say so too. And what the rules derive is what the functions
 -- give, typed or not. Rests on ComputeEvaluation.
 use mathlib.Core.Path.{_≡_, refl, ap, _∙_}
-use mathlib.Core.Bool.{Bool, true, false, not, _||_}
+use mathlib.Core.Bool.{Bool, true, false, _||_}
 use mathlib.Core.List.{List}
 use Prim.Native.Nat.{ℕ}
+use borrow.Author.Tests.{not-true, not-false}
 use lib.Dec.{lit<}
 use lib.IntN.{ℤ}
 use lib.ListN.{getD, set}
@@ -82,14 +83,6 @@ record GoodApply (o : Op) (υ : Ty) (v w : Val) : Type 0 where
   derived : exceeds o v w ≡ false → Applies o v w (apply o v w)
   over : exceeds o v w ≡ true → Exceeds o v w
   typed : ValueType (apply o v w) υ
-
-not-false : (b : Bool) → not b ≡ false → b ≡ true
-not-false true e = refl
-not-false false e = apart refl e
-
-not-true : (b : Bool) → not b ≡ true → b ≡ false
-not-true false e = refl
-not-true true e = apart e refl
 
 reckon-good : {o : Op} {x y z : ℤ} → Reckons o x y z → GoodApply o number (vnumber x) (vnumber y)
 unfolding exceeds leaf
@@ -217,10 +210,6 @@ eval-is (e-snd d) = let (p, x) = eval-is d in (rw p, x)
 eval-is (e-deref d) = (rw (at-getD d), refl)
 eval-is (e-assign d) = let (p, x) = eval-is d in (rw p, x)
 eval-is (e-let d d₁) = let (p, x) = eval-is d in let (q, y) = eval-is d₁ in (rw (p, q), rw (p, x, y))
-
-or-right : (x : Bool) → x || true ≡ true
-or-right true = refl
-or-right false = refl
 
 pub overflows-is : {ρ : Env} {s : Store} {e : Exp} → Overflows ρ s e → overflows e ρ s ≡ true
 unfolding overflows branch isTrue leaf

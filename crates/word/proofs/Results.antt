@@ -110,18 +110,14 @@ sum-wide x y h k = record { sfits = wide-sum x y h (omega (arith, k)) }
 pub difference-wide : (x y : ℤ) → IsWord x → IsWord y → SFits w64 (x -ℤ y)
 difference-wide x y h k = let n = mag-neg y in record { sfits = wide-sum x (negℤ y) h (omega (arith, k, n)) }
 
-mag-negated : (n : ℕ) → mag (negℤ (pos n)) ≤ n
-mag-negated zero = omega arith
-mag-negated (suc n) = omega arith
-
 -- a product of two magnitudes, each at most that of the least word
 square : (a b : ℕ) → a ≤ half → b ≤ half → a * b ≤ 4611686018427387904
 square a b h k = mul-le-mul h k
 
 wide-product : (x y : ℤ) → mag x < half → mag y < half → mag (x *ℤ y) < wideHalf
 wide-product (pos a) (pos b) h k = let m = square a b (omega (arith, h)) (omega (arith, k)) in omega (arith, m)
-wide-product (pos a) (negsuc b) h k = let m = square a (suc b) (omega (arith, h)) (omega (arith, k)) in let n = mag-negated (a * suc b) in omega (arith, m, n)
-wide-product (negsuc a) (pos b) h k = let m = square (suc a) b (omega (arith, h)) (omega (arith, k)) in let n = mag-negated (suc a * b) in omega (arith, m, n)
+wide-product (pos a) (negsuc b) h k = let m = square a (suc b) (omega (arith, h)) (omega (arith, k)) in let n = mag-neg (pos (a * suc b)) in omega (arith, m, n)
+wide-product (negsuc a) (pos b) h k = let m = square (suc a) b (omega (arith, h)) (omega (arith, k)) in let n = mag-neg (pos (suc a * b)) in omega (arith, m, n)
 wide-product (negsuc a) (negsuc b) h k = let m = square (suc a) (suc b) (omega (arith, h)) (omega (arith, k)) in omega (arith, m)
 
 pub product-wide : (x y : ℤ) → IsWord x → IsWord y → SFits w64 (x *ℤ y)
