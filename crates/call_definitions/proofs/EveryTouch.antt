@@ -8,12 +8,12 @@
 -- - the state words are the writing of one state (specs/States), and of no other: a task of type τ and a store of the cells' types, which
 --   normalising does not change; the typing rules give the task, as a sheet could have it, the type τ. The task is one of c; or c, evaluated in
 --   the cells' first contents, leaves the words (CR 3), and it is 45 of the type τ in these;
--- - look answers 21 where its value memory is not 4 words, else 24 where its list memory is under 27 bytes an entry, else 0; then
+-- - look answers 21 where its value memory is not 8 words, else 24 where its list memory is under 35 bytes an entry, else 0; then
 --   it hands back the list shown, and all that it answers is derived by the rules (`LookAnswers`, specs/Answers);
 -- - handle answers 8 to an event that cannot be read; to a readable one 9 exactly when no handling rule derives a step, and 0
 --   exactly when one does; all that it answers and leaves is derived by the rules (`HandleAnswers`), and it counts at most 1 more
 --   stride than the rows of kind 43 and 47;
--- - the list shown is k entries of 27 bytes, each of which can be read. An event is answered 0 exactly when one of them covers it:
+-- - the list shown is k entries of 35 bytes, each of which can be read. An event is answered 0 exactly when one of them covers it:
 --   both say the same path and action, and the event's leaves meet the entry's leaf kinds. Two places that cover one event are one
 --   place, and each entry covers some event: no entry is dead; each way to meet its leaf kinds, with blanks where they are 0, is said
 --   by some event's bytes;

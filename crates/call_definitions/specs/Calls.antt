@@ -111,7 +111,7 @@ handleCall rows ws event = handleIn rows ws (eventOf event) (opened rows ws true
 
 -- ---- look
 
--- ground 24: list memory under 27 bytes an entry
+-- ground 24: list memory under 35 bytes an entry (CR 4)
 unfoldable pub lookIn : List ℤ → List ℕ → Opened → LookAnswer
 lookIn values list (refusedBy g) = lookRefusal g values list
 lookIn values list (restOf z) =

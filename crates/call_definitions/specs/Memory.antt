@@ -49,7 +49,7 @@ lookRefusal g values list = record { number = g; hasValue = 0; fails = 0; value 
 abbrev pub flag : Bool → ℕ
 flag b = cond b 1 0
 
--- 01: "value in 4 words, unused 0, all 0 without a value"
+-- CR 4: "Values are 8 words"; 01: "unused 0, all 0 without a value"
 unfoldable pub valueMemory : Option Val → List ℤ
 valueMemory none = replicate maxLeaves (pos 0)
 valueMemory (some v) = padded (pos 0) (leavesOf v)

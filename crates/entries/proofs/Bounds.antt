@@ -1,4 +1,4 @@
--- From the outermost row: a list that has 27 bytes a task row has the entries of the task at its front. Rests on crate formats'
+-- From the outermost row: a list that has 35 bytes a task row has the entries of the task at its front. Rests on crate formats'
 -- EntriesFit.
 use mathlib.Core.Path.{refl, sym, subst}
 use mathlib.Core.List.{List, []}

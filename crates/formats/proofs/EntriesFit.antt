@@ -1,5 +1,5 @@
 -- The entries of a well-typed task can be written: in a code whose marks fit, no path has over 16, and each entry has a leaf kind for
--- each leaf. So a list has 27 bytes an entry, and at most one entry a task row. Rests on ListsRead, and on the calculus' typing.
+-- each leaf. So a list has 35 bytes an entry, and at most one entry a task row. Rests on ListsRead, and on the calculus' typing.
 use mathlib.Core.Path.{_≡_, refl, sym, subst}
 use mathlib.Core.Bool.{Bool, true, false, not}
 use mathlib.Core.Option.{Option, none, some}
@@ -84,10 +84,10 @@ module _ {Σ : List Ty} {s : Store} (g : AllSmall Σ) (q : ValueTypes s Σ) wher
   entries-fit m ρ (k-if-false b d e) h l f = entries-fit m ρ e h l (f .1)
   entries-fit m ρ (k-bound b v e) h l f = entries-fit m _ e (small-cons (type-leaves b g h) h) l f
 
-  -- 27 bytes an entry
+  -- 35 bytes an entry
   pub entries-bytes : {τ : Ty} {c : Code} {t : TaskOf c} → TaskType Σ [] c t τ → MarksFit 0 c → length (listText (entries c [] s t)) ≡ length (entries c [] s t) * entryBytes
   entries-bytes k f = list-length (entries-fit 0 [] k small-nil (omega arith) f)
 
-  -- at most 27 bytes a task row
+  -- at most 35 bytes a task row
   pub bytes-most : {τ : Ty} {c : Code} {t : TaskOf c} → TaskType Σ [] c t τ → MarksFit 0 c → length (listText (entries c [] s t)) ≤ taskRows c * entryBytes
   bytes-most {c = c} {t = t} k f = let e = entries-bytes k f in let b = entries-bound c [] s t in omega (arith, e, b)

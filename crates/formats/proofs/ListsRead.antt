@@ -1,4 +1,4 @@
--- The bytes of a list are read back as the entries that they were written for, 27 each; and an entry's bytes cover an event's exactly
+-- The bytes of a list are read back as the entries that they were written for, 35 each; and an entry's bytes cover an event's exactly
 -- where the calculus' entry covers what the event says. Rests on TouchesRead.
 use mathlib.Core.Path.{_≡_, refl, sym, ap, _∙_}
 use mathlib.Core.Bool.{Bool, true, false, cond}
@@ -53,7 +53,7 @@ module _ (e : Entry) (few : length (e .0) ≤ maxMarks) (all : length (offerKind
   unfolding entryText
   text-is = text-of path (offerAct (e .1)) actionColumns kinds
 
-  -- 27 bytes
+  -- 35 bytes
   pub entry-length : length (entryText e) ≡ entryBytes
   entry-length = ap length text-is ∙ text-length path path-few (offerAct (e .1)) actionColumns parts kinds-all
 

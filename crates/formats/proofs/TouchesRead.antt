@@ -1,5 +1,5 @@
 -- Events and entries are read back: a path, an action and fields of one width have a text that says them, numbers and, in an event,
--- blanks. So every touch has its 67 bytes. Rests on Records.
+-- blanks. So every touch has its 115 bytes. Rests on Records.
 use mathlib.Core.Path.{_≡_, refl, sym, ap, ap₂, _∙_}
 use mathlib.Core.Bool.{true}
 use mathlib.Core.Option.{Option, none, some, bind}

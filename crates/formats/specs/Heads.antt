@@ -6,7 +6,7 @@ use Rattle.decimal.specs.Field.{rowColumns, wordColumns, actionColumns}
 use Rattle.tophat.specs.Syntax.{maxLeaves}
 use Rattle.formats.specs.Records.{total, recordBytes}
 
--- 01: "answer (4), strides (4), failing (2), value flag (2), leaves (4 of 12), entry count (4)", and byte 10
+-- CR 4: head lines are 112 and byte 10. 01: "answer (4), strides (4), failing (2), value flag (2)", eight leaves of 12, "entry count (4)"
 abbrev pub headFront : List ℕ
 headFront = rowColumns ∷ rowColumns ∷ actionColumns ∷ actionColumns ∷ []
 

@@ -27,7 +27,7 @@ offerKinds (button b) = replicate maxLeaves noLeaf
 abbrev pub noKinds : List ℕ
 noKinds = replicate maxLeaves 0
 
--- 01: "path and action as above, four leaf kinds of 2 columns .., byte 10", by their numbers
+-- 01: "path and action as above", then CR 4's eight "leaf kinds of 2 columns .., byte 10", by their numbers
 abbrev pub numbersEntry : Path → ℕ → List ℕ → List ℕ
 numbersEntry p a ks = touchText p a actionColumns (map pos ks) ++ newline ∷ []
 

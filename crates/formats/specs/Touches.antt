@@ -16,11 +16,11 @@ use Rattle.tophat.specs.Leaves.{Given, Leaf, leafNumber, leafTable, Meets}
 use Rattle.tophat.specs.Handling.{Act, giving, pressing, actNumber, actTable, Action, give, press}
 use Rattle.formats.specs.Records.{recordBytes, isRecord, fieldsAt, numberSaid, each, pathField, itemsText}
 
--- 01: "An event is 67 bytes: path in columns 1-16 .., action 17-18 .., four leaves of 12 columns, byte 10"
+-- CR 4: events are 115 bytes. 01: "path in columns 1-16 .., action 17-18 ..", then eight "leaves of 12 columns, byte 10"
 abbrev pub eventColumns : List ℕ
 eventColumns = pathColumns ∷ actionColumns ∷ replicate maxLeaves wordColumns
 
--- 01: "A list entry is 27 bytes: path and action as above, four leaf kinds of 2 columns .., byte 10"
+-- CR 4: entries are 35 bytes. 01: "path and action as above", then eight "leaf kinds of 2 columns .., byte 10"
 abbrev pub entryColumns : List ℕ
 entryColumns = pathColumns ∷ actionColumns ∷ replicate maxLeaves actionColumns
 

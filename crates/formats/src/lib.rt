@@ -23,12 +23,12 @@ pub const ACTION_AT: usize = PATH_COLUMNS;
 
 pub const LEAVES_AT: usize = ACTION_AT + ACTION_COLUMNS;
 
-// 01: "An event is 67 bytes", "A list entry is 27 bytes"; byte 10 is the last.
+// CR 4: "events 115 bytes, entries 35"; byte 10 is the last.
 pub const EVENT_BYTES: usize = LEAVES_AT + MAX_LEAVES * WORD_COLUMNS + 1;
 
 pub const ENTRY_BYTES: usize = LEAVES_AT + MAX_LEAVES * ACTION_COLUMNS + 1;
 
-// 01: a head line is the answer, strides, two flags, a number for each leaf, the entry count and byte 10.
+// A head line is the answer, strides, two flags, a number for each leaf and the entry count; CR 4: "112 and byte 10".
 pub const HEAD_LEAVES_AT: usize = 2 * ROW_COLUMNS + 2 * ACTION_COLUMNS;
 
 pub const HEAD_ENTRIES_AT: usize = HEAD_LEAVES_AT + MAX_LEAVES * WORD_COLUMNS;
@@ -106,7 +106,7 @@ pub fn write_numbers(s: &mut [u8], at: usize, width: usize, numbers: [u32; MAX_L
     ensures { λ _. ⌜ now (s .exit) ≡ putItems (now (s .entry)) at (itemsOf width numbers) ⌝ }
     ensures { λ _. ⌜ length numbers ≡ maxLeaves ⌝ }
 {
-    for k in 0..MAX_LEAVES {
-        field::write(s, at + k * width, width, numbers[k]);
+    for i in 0..MAX_LEAVES {
+        field::write(s, at + i * width, width, numbers[i]);
     }
 }

@@ -1,4 +1,4 @@
-// Ground 6: a type row over 4 leaves, or over 16 binders or marks around a row. Counts stand in a table in eight bits,
+// Ground 6: a type row over 8 leaves, or over 16 binders or marks around a row. Counts stand in a table in eight bits,
 // filled from below; each stops one past its limit.
 
 ghost use mathlib.Core.Path.{_≡_};

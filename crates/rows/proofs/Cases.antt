@@ -39,6 +39,10 @@ abbrev aroundShown : ℕ → ℕ → List Row
 aroundShown k zero = (1, 0, 0, 0) ∷ (20, 0, 0, 0) ∷ (49, 1, 0, 0) ∷ []
 aroundShown k (suc n) = aroundShown k n ++ (45, 0, 0, 0) ∷ (k, 2 * n + 3, 2 * n + 2, 0) ∷ []
 
+-- types of 1, 2, 4 and 8 leaves
+abbrev eightLeaves : List Row
+eightLeaves = (3, 0, 0, 0) ∷ (4, 0, 0, 0) ∷ (4, 1, 1, 0) ∷ (4, 2, 2, 0) ∷ []
+
 -- a ground, and rows that get it
 abbrev cases : List (ℕ × List Row)
 cases =
@@ -63,13 +67,17 @@ cases =
     (0, (3, 0, 0, 0) ∷ (45, 0, 0, 0) ∷ (45, 0, 0, 0) ∷ (48, 1, 2, 0) ∷ []) ∷  -- a type named twice
     (5, (22, 1, 0, 0) ∷ (22, 2, 0, 0) ∷ (24, 1, 0, 1) ∷ []) ∷  -- the last row plain, of kind 24
     (5, (3, 0, 0, 0) ∷ []) ∷  -- the last row a type
-    (6, (3, 0, 0, 0) ∷ (4, 0, 0, 0) ∷ (4, 1, 1, 0) ∷ (4, 2, 0, 0) ∷ (41, 0, 0, 0) ∷ []) ∷  -- a type of 5 leaves
-    (0, (3, 0, 0, 0) ∷ (4, 0, 0, 0) ∷ (4, 1, 1, 0) ∷ (41, 2, 0, 0) ∷ []) ∷  -- a type of 4 leaves
+    (0, eightLeaves ++ (41, 3, 0, 0) ∷ []) ∷  -- a type of 8 leaves
+    (6, eightLeaves ++ (4, 3, 0, 0) ∷ (41, 4, 0, 0) ∷ []) ∷  -- a type of 9 leaves
+    (6, eightLeaves ++ (4, 3, 0, 0) ∷ (41, 0, 0, 0) ∷ []) ∷  -- one that no row names
     (7, (22, 1, 0, 0) ∷ (21, 1, 0, 0) ∷ (24, 1, 0, 1) ∷ (40, 2, 0, 0) ∷ []) ∷  -- a sum of a truth
     (7, (23, 0, 0, 0) ∷ (40, 0, 0, 0) ∷ []) ∷  -- a 23 that reaches no binder
     (7, (22, 1, 0, 0) ∷ (22, 2, 0, 0) ∷ (31, 0, 1, 0) ∷ []) ∷  -- the last row plain, of kind 31
     (7, (1, 0, 0, 0) ∷ (3, 0, 0, 0) ∷ (45, 0, 0, 0) ∷ (45, 1, 0, 0) ∷ (47, 2, 3, 0) ∷ []) ∷  -- choices of two types
-    (7, (3, 0, 0, 0) ∷ (4, 0, 0, 0) ∷ (4, 1, 1, 0) ∷ (41, 2, 0, 0) ∷ (41, 0, 0, 0) ∷ (46, 3, 4, 0) ∷ []) ∷  -- 46 over 4 leaves
+    (0, eightLeaves ++ (41, 2, 0, 0) ∷ (41, 2, 0, 0) ∷ (46, 4, 5, 0) ∷ []) ∷  -- 46 of 4 and 4 leaves
+    (7, eightLeaves ++ (41, 3, 0, 0) ∷ (41, 0, 0, 0) ∷ (46, 4, 5, 0) ∷ []) ∷  -- 46 over 8 leaves
+    (0, eightLeaves ++ (41, 2, 0, 0) ∷ (23, 0, 0, 0) ∷ (23, 0, 0, 0) ∷ (26, 5, 6, 0) ∷ (40, 7, 0, 0) ∷ (43, 4, 8, 0) ∷ []) ∷  -- 26 of 4 and 4 leaves
+    (7, eightLeaves ++ (41, 3, 0, 0) ∷ (23, 0, 0, 0) ∷ (22, 1, 0, 0) ∷ (26, 5, 6, 0) ∷ (40, 7, 0, 0) ∷ (43, 4, 8, 0) ∷ []) ∷  -- 26 over 8 leaves
     (0, binders 16 ++ (40, 32, 0, 0) ∷ []) ∷  -- 16 binders
     (6, binders 17 ++ (40, 34, 0, 0) ∷ []) ∷  -- 17 binders
     (0, around 47 16) ∷  -- 16 marks

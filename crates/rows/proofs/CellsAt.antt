@@ -1,5 +1,5 @@
 -- The cells of n rows: a type and a content for each row, at a cell's row those of the cell. The first store is of the cells'
--- types, which have at most 4 leaves. Rests on TreesAgree and the calculus' typing.
+-- types, which have at most maxLeaves leaves. Rests on TreesAgree and the calculus' typing.
 use mathlib.Core.Path.{_≡_, refl, sym, subst, _∙_}
 use mathlib.Core.Logic.{⊎-elim}
 use mathlib.Core.List.{List, [], _∷_, _++_}
@@ -60,7 +60,7 @@ module _ {rs : List ℕ} where
   cell-known {j = j} {τ = τ} (c-number {i = i} {Σ = Σ} d c) l r = one-more Σ number i j (cells-length d .0) l (λ e. one-cell c (subst (λ k. ReadsCell rs k τ) e r)) (λ b. cell-known d b r)
   cell-known {j = j} {τ = τ} (c-other {i = i} {Σ = Σ} d c) l r = one-more Σ unit i j (cells-length d .0) l (λ e. no-cell c (subst (λ k. ReadsCell rs k τ) e r)) (λ b. cell-known d b r)
 
-  -- the cells' types have at most 4 leaves
+  -- the cells' types have at most maxLeaves leaves
   pub cells-small : {n : ℕ} {Σ : List Ty} {s : Store} → Cells rs n Σ s → AllSmall Σ
   unfolding leaves
   cells-small c-none = small-nil

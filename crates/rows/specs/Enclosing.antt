@@ -1,4 +1,4 @@
--- Ground 6 (01): a type row over 4 leaves, or over 16 binders or marks around a row. `Under` says what encloses a row;
+-- Ground 6 (01, CR 4): a type row over 8 leaves, or over 16 binders or marks around a row. `Under` says what encloses a row;
 -- the counts from below, which compute, are proved to be the most that it allows (proofs/Most). Rests on Rows.
 use mathlib.Core.Path.{_≡_}
 use mathlib.Core.Bool.{Bool, true, _&&_, _||_, cond}

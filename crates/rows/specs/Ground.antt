@@ -31,7 +31,7 @@ pub record WellFormed (rs : List ℕ) (n : ℕ) : Type 0 where
   pub sorted : passes4 rs n ≡ true
   pub named : passes5 rs n ≡ true
 
--- nor ground 6: types of at most 4 leaves, and never more than 16 binders or marks around a row
+-- nor ground 6: types of at most 8 leaves, and never more than 16 binders or marks around a row
 pub record Small (rs : List ℕ) (n : ℕ) : Type 0 where
   pub types : {i : ℕ} {τ : Ty} → i < n → ReadsType rs i τ → leaves τ ≤ maxLeaves
   pub binders : {j i b m : ℕ} → j < n → Under rs j i b m → b ≤ maxBinders

@@ -24,7 +24,7 @@ notSorted = 4
 abbrev pub notNamed : ℕ
 notNamed = 5
 
--- a type row over 4 leaves, or over 16 binders or marks
+-- a type row over 8 leaves (CR 4), or over 16 binders or marks
 abbrev pub notSmall : ℕ
 notSmall = 6
 
@@ -58,6 +58,6 @@ notState = 22
 abbrev pub notAtRest : ℕ
 notAtRest = 23
 
--- list memory under 27 bytes an entry
+-- list memory under 35 bytes an entry (CR 4)
 abbrev pub listTooShort : ℕ
 listTooShort = 24

@@ -16,7 +16,7 @@ pub const NOT_SORTED: u32 = 4;
 // The naming rule broken, or a last row that is no task.
 pub const NOT_NAMED: u32 = 5;
 
-// A type row over 4 leaves, or over 16 binders or marks.
+// A type row over 8 leaves (CR 4), or over 16 binders or marks.
 pub const NOT_SMALL: u32 = 6;
 
 // No typing for the last row as a task.
@@ -40,5 +40,5 @@ pub const NOT_STATE: u32 = 22;
 // Normalising would change it.
 pub const NOT_AT_REST: u32 = 23;
 
-// List memory under 27 bytes an entry.
+// List memory under 35 bytes an entry (CR 4).
 pub const LIST_TOO_SHORT: u32 = 24;

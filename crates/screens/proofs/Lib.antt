@@ -7,3 +7,4 @@ mod Sessions
 mod Cases
 mod ShownCases
 mod BlankCases
+mod WideCases

@@ -18,13 +18,13 @@ quiet-both-sheet =
 
 abbrev quiet-both-touches : List String
 quiet-both-touches =
-    "               1 1           7           0           0           0" ∷
+    "               1 1           7           0           0           0           0           0           0           0" ∷
     []
 
 abbrev quiet-both-screens : List String
 quiet-both-screens =
-    "   0   1 0 0           0           0           0           0   0" ∷
-    "   9   0 0 0           0           0           0           0   0" ∷
+    "   0   1 0 0           0           0           0           0           0           0           0           0   0" ∷
+    "   9   0 0 0           0           0           0           0           0           0           0           0   0" ∷
     []
 
 -- A shown 1, Continue to fail: no entry, and not failing; Continue is refused
@@ -39,13 +39,13 @@ quiet-next-sheet =
 
 abbrev quiet-next-touches : List String
 quiet-next-touches =
-    "               0 2           0           0           0           0" ∷
+    "               0 2           0           0           0           0           0           0           0           0" ∷
     []
 
 abbrev quiet-next-screens : List String
 quiet-next-screens =
-    "   0   1 0 0           0           0           0           0   0" ∷
-    "   9   0 0 0           0           0           0           0   0" ∷
+    "   0   1 0 0           0           0           0           0           0           0           0           0   0" ∷
+    "   9   0 0 0           0           0           0           0           0           0           0           0   0" ∷
     []
 
 -- A total nobody can type over: copies are entered; the total is shown and takes no value, and Continue is lit; what is shown then is the value
@@ -65,22 +65,22 @@ total-sheet =
 
 abbrev total-touches : List String
 total-touches =
-    "               0 1           3           0           0           0" ∷
-    "               0 1           1           0           0           0" ∷
-    "               0 2           0           0           0           0" ∷
-    "               0 1           1           0           0           0" ∷
+    "               0 1           3           0           0           0           0           0           0           0" ∷
+    "               0 1           1           0           0           0           0           0           0           0" ∷
+    "               0 2           0           0           0           0           0           0           0           0" ∷
+    "               0 1           1           0           0           0           0           0           0           0" ∷
     []
 
 abbrev total-screens : List String
 total-screens =
-    "   0   1 0 0           0           0           0           0   1" ∷
-    "               0 1 3 0 0 0" ∷
-    "   0   2 0 0           0           0           0           0   1" ∷
-    "               0 2 0 0 0 0" ∷
-    "   9   0 0 0           0           0           0           0   1" ∷
-    "               0 2 0 0 0 0" ∷
-    "   0   1 0 1          87           0           0           0   0" ∷
-    "   9   0 0 1          87           0           0           0   0" ∷
+    "   0   1 0 0           0           0           0           0           0           0           0           0   1" ∷
+    "               0 1 3 0 0 0 0 0 0 0" ∷
+    "   0   2 0 0           0           0           0           0           0           0           0           0   1" ∷
+    "               0 2 0 0 0 0 0 0 0 0" ∷
+    "   9   0 0 0           0           0           0           0           0           0           0           0   1" ∷
+    "               0 2 0 0 0 0 0 0 0 0" ∷
+    "   0   1 0 1          87           0           0           0           0           0           0           0   0" ∷
+    "   9   0 0 1          87           0           0           0           0           0           0           0   0" ∷
     []
 
 all-agree : agree (

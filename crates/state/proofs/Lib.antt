@@ -12,3 +12,4 @@ pub mod SitsOf
 pub mod Failed
 pub mod Reading
 pub mod LentLaws
+pub mod NarrowWords

@@ -39,31 +39,35 @@ put-laid xs {ws} {i} n h e l r = after [] xs ws 0 refl (omega arith) e (record {
 
 -- ---- values that fit their row
 
+-- P holds of every value that a task has: contents and bound values
+abbrev pub Each : (Val → Type 0) → (c : Code) → TaskOf c → Type 0
+Each P (edit e) (filled v) = P v
+Each P (enter τ) blank = Unit {0}
+Each P (enter τ) (entered v) = P v
+Each P (update n) t = Unit {0}
+Each P (then a b) (before t) = Each P a t
+Each P (then a b) (after v u) = P v × Each P b u
+Each P (next a b) (before t) = Each P a t
+Each P (next a b) (after v u) = P v × Each P b u
+Each P (fail τ) t = Unit {0}
+Each P (and a b) (both t u) = Each P a t × Each P b u
+Each P (or a b) (either t u) = Each P a t × Each P b u
+Each P (or a b) (orLeft t) = Each P a t
+Each P (or a b) (orRight u) = Each P b u
+Each P (xor a b) unpicked = Unit {0}
+Each P (xor a b) (pickedLeft t) = Each P a t
+Each P (xor a b) (pickedRight u) = Each P b u
+Each P (view e) (filled v) = P v
+Each P (if e a b) (ifTrue t) = Each P a t
+Each P (if e a b) (ifFalse u) = Each P b u
+Each P (let' e b) (bound v u) = P v × Each P b u
+
 -- the values of a task have words enough in a row
 abbrev pub Short : Val → Type 0
 Short v = length (own ∷ valueWords v) ≤ stateWords
 
 abbrev pub Fits : (c : Code) → TaskOf c → Type 0
-Fits (edit e) (filled v) = Short v
-Fits (enter τ) blank = Unit {0}
-Fits (enter τ) (entered v) = Short v
-Fits (update n) t = Unit {0}
-Fits (then a b) (before t) = Fits a t
-Fits (then a b) (after v u) = Short v × Fits b u
-Fits (next a b) (before t) = Fits a t
-Fits (next a b) (after v u) = Short v × Fits b u
-Fits (fail τ) t = Unit {0}
-Fits (and a b) (both t u) = Fits a t × Fits b u
-Fits (or a b) (either t u) = Fits a t × Fits b u
-Fits (or a b) (orLeft t) = Fits a t
-Fits (or a b) (orRight u) = Fits b u
-Fits (xor a b) unpicked = Unit {0}
-Fits (xor a b) (pickedLeft t) = Fits a t
-Fits (xor a b) (pickedRight u) = Fits b u
-Fits (view e) (filled v) = Short v
-Fits (if e a b) (ifTrue t) = Fits a t
-Fits (if e a b) (ifFalse u) = Fits b u
-Fits (let' e b) (bound v u) = Short v × Fits b u
+Fits c t = Each Short c t
 
 -- ---- a task written into rows of zeros
 

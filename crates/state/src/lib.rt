@@ -101,8 +101,8 @@ pub fn put_value(state: &mut [u32; STATE_SIZE], row: usize, tag: u32, v: Value)
     let leaves = v.leaves;
     put_tag(state, row, tag);
     put(state, row, SHAPE, v.shape);
-    for i in 0..MAX_LEAVES {
-        put(state, row, LEAVES + i, leaves[i]);
+    for k in 0..MAX_LEAVES {
+        put(state, row, LEAVES + k, leaves[k]);
     }
 }
 

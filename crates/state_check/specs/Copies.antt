@@ -17,7 +17,7 @@ use Rattle.state.specs.Holds.{treeOf, Foot, Sits, Cell, Row, Clear, Holds, Same
 use Rattle.state.specs.Words.{Laid, valueAt}
 use Rattle.state.specs.Reading.{readTask, cellAt, readStore}
 
--- the cells have the types Σ, and no type passes 4 leaves
+-- the cells have the types Σ, and no type passes maxLeaves
 pub record Sheet (rs : List ℕ) (n : ℕ) (Σ : List Ty) : Type 0 where
   pub known : (i : ℕ) (τ : Ty) → i < n → ReadsCell rs i τ → nth Σ i ≡ some τ
   pub small : (i : ℕ) (τ : Ty) → i < n → ReadsType rs i τ → leaves τ ≤ maxLeaves

@@ -1,17 +1,18 @@
--- 01's proved cases, P1 to P12, one for 01's numbers, CR 1's, CR 2's and CR 3's, as one computed check: what the definitions give for each
+-- 01's proved cases, P1 to P12, one for 01's numbers, and those of CR 1 to CR 4, as one computed check: what the definitions give for each
 -- flow and its touches is what 01 says. Rests on CaseScreens.
 use mathlib.Core.Path.{_≡_, refl}
 use mathlib.Core.Bool.{Bool, true, false}
 use mathlib.Core.Option.{none, some, bind}
 use mathlib.Core.List.{List, [], _∷_, map}
+use Prim.Native.Nat.{ℕ}
 use lib.IntN.{ℤ, pos, negsuc}
 use native.Mathlib.Decide.{decLe}
 use Rattle.word.specs.Word.{isWord}
 use Rattle.decimal.specs.Path.{first, second}
-use Rattle.tophat.specs.Syntax.{leaves, moves, unit, truth, number, pair, Op, sum, difference, product, lessEqual, equal, enumber, ebinder, eop, eassign}
+use Rattle.tophat.specs.Syntax.{leaves, moves, Ty, unit, truth, number, pair, Op, sum, difference, product, lessEqual, equal, enumber, ebinder, eop, eassign}
 use Rattle.tophat.specs.Syntax.{edit, enter, update, then, next, fail, and, or, xor, view, if, let', vnumber}
 use Rattle.tophat.specs.Typing.{typeOf}
-use Rattle.tophat.specs.Leaves.{leavesOf, padded, leafKinds, valueOf, meetsLeaf, meets, numberGiven, given}
+use Rattle.tophat.specs.Leaves.{leavesOf, padded, Given, leafKinds, valueOf, meetsLeaf, meets, numberGiven, given}
 use Rattle.tophat.specs.Normalising.{value, pairOf}
 use Rattle.tophat.specs.Handling.{continue, left, right, give, press}
 use Rattle.tophat.specs.Showing.{marked, offers, buttonIf}
@@ -20,7 +21,7 @@ use Rattle.tophat.proofs.ComputeEvaluation.{eval, branch, isTrue, apply
 use Rattle.tophat.proofs.ComputeNormalising.{failing, normalise, settle, strides, unlessStill, goOn, goOnWith, chooseRight, chooseLeft}
 use Rattle.tophat.proofs.ComputeHandling.{handle, mapTask, thenSome, atEditor, atMark, atSides, atContinue, unlessFailing}
 use Rattle.tophat.proofs.ComputeEntries.{entries, continueIf}
-use Rattle.tophat.proofs.CaseScreens.{screen, digit, lineOf, flag, valueFlag, valueLeaves, screenOf, Case, expected, taken, screens, failedWhole, computed}
+use Rattle.tophat.proofs.CaseScreens.{Line, line, screen, digit, lineOf, flag, valueFlag, valueLeaves, screenOf, Case, expected, taken, screens, failedWhole, computed}
 use Rattle.tophat.proofs.CaseScreens.{num, cell, single, giving1, givingBlank, value1, editorOf, editor, buttonLine}
 
 -- P1 to P4: 01's session: started, value 12, value 4, Continue
@@ -275,8 +276,51 @@ over-xor = record {
   kept = [];
 }
 
+-- CR 4: an editor of 8 leaves of all kinds. A unit that is not 0 is refused, and so is leaf 8 left blank; all 8 are taken, and shown
+abbrev eight : Ty
+eight = let four = pair (pair (pair number truth) unit) number in pair four four
+
+abbrev eightLine : List ℕ → Line
+eightLine p = line p 1 (3 ∷ 2 ∷ 1 ∷ 3 ∷ 3 ∷ 2 ∷ 1 ∷ 3 ∷ [])
+
+abbrev noLeaves : List ℤ
+noLeaves = pos 0 ∷ pos 0 ∷ pos 0 ∷ pos 0 ∷ pos 0 ∷ pos 0 ∷ pos 0 ∷ pos 0 ∷ []
+
+abbrev eightLeaves : ℕ → List Given → List Given
+eightLeaves u ls = some (pos 11) ∷ some (pos 1) ∷ some (pos u) ∷ some (pos 14) ∷ some (pos 15) ∷ some (pos 0) ∷ some (pos 0) ∷ ls
+
+abbrev pub wide : Case
+wide = record {
+  flow = enter eight;
+  cells = [];
+  events =
+      ([], give (eightLeaves 5 (some (negsuc 17) ∷ [])))
+      ∷ ([], give (eightLeaves 0 (none ∷ [])))
+      ∷ ([], give (eightLeaves 0 (some (negsuc 17) ∷ [])))
+      ∷ [];
+  type = some eight;
+  shown =
+      screen 0 1 0 0 noLeaves (eightLine [] ∷ [])
+      ∷ screen 9 0 0 0 noLeaves (eightLine [] ∷ [])
+      ∷ screen 9 0 0 0 noLeaves (eightLine [] ∷ [])
+      ∷ screen 0 1 0 1 (pos 11 ∷ pos 1 ∷ pos 0 ∷ pos 14 ∷ pos 15 ∷ pos 0 ∷ pos 0 ∷ negsuc 17 ∷ []) (eightLine [] ∷ [])
+      ∷ [];
+  kept = [];
+}
+
+-- CR 4: both of 8 leaves and of one have no type
+abbrev pub nine : Case
+nine = record {
+  flow = and (enter eight) (enter number);
+  cells = [];
+  events = [];
+  type = none;
+  shown = screen 0 1 0 0 noLeaves (eightLine (1 ∷ []) ∷ editor (2 ∷ []) ∷ []) ∷ [];
+  kept = [];
+}
+
 unfoldable pub cases : List Case
-cases = p1-p4 ∷ p5 ∷ p6 ∷ p7 ∷ p8 ∷ p9 ∷ p10 ∷ p11 ∷ p12 ∷ buttons ∷ quiet-both ∷ quiet-next ∷ shown-on ∷ blanks ∷ over-start ∷ over-then ∷ over-next ∷ over-xor ∷ []
+cases = p1-p4 ∷ p5 ∷ p6 ∷ p7 ∷ p8 ∷ p9 ∷ p10 ∷ p11 ∷ p12 ∷ buttons ∷ quiet-both ∷ quiet-next ∷ shown-on ∷ blanks ∷ over-start ∷ over-then ∷ over-next ∷ over-xor ∷ wide ∷ nine ∷ []
 
 -- what is computed is what 01 says
 pub cases-hold : map computed cases ≡ map expected cases

@@ -12,7 +12,7 @@ use Rattle.tophat.specs.Typing.{k-both, k-either, k-or-left, k-or-right,
 use Rattle.tophat.specs.Residual.{quoted, residual}
 use Rattle.tophat.proofs.TypeLeaves.{type-leaves, task-type-leaves}
 
--- a value of a type that has at most 4 leaves is an expression of it
+-- a value of a type that has at most maxLeaves leaves is an expression of it
 quoted-typed : {Σ Γ : List Ty} {v : Val} {τ : Ty} → ValueType v τ → leaves τ ≤ maxLeaves → HasType Σ Γ (quoted v) τ
 unfolding quoted leaves
 quoted-typed v-unit l = t-unit

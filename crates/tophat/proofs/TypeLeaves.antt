@@ -1,4 +1,4 @@
--- 01: "A type has at most 4 leaves": where the cells' and the binders' types have, every derived type has. Rests on Typing.
+-- CR 4: "A type may have 8 leaves": where the cells' and the binders' types have, every derived type has. Rests on Typing.
 use mathlib.Core.List.{List}
 use Prim.Native.Nat.{ℕ, _≤_}
 use native.Mathlib.Omega.{arith}

@@ -6,9 +6,9 @@ use mathlib.Core.HLevel.{Discrete}
 use Prim.Native.Nat.{ℕ, _+_}
 use lib.IntN.{ℤ}
 
--- 01: "A type has at most 4 leaves"
+-- CR 4: "A type may have 8 leaves"
 abbrev pub maxLeaves : ℕ
-maxLeaves = 4
+maxLeaves = 8
 
 -- types: kinds 1 to 4
 pub data Ty : Type 0 where

@@ -26,7 +26,7 @@ pub data OpType : Op → Ty → Ty → Type 0 where
   o-and : OpType andOp truth truth
   o-or : OpType orOp truth truth
 
--- plain expressions. 01: "an expression whose type passes 4 leaves has no type"
+-- plain expressions. 01: "an expression whose type passes" CR 4's "8 leaves has no type"
 pub data HasType (Σ : List Ty) : List Ty → Exp → Ty → Type 0 where
   t-unit : {Γ : List Ty} → HasType Σ Γ eunit unit
   t-truth : {Γ : List Ty} {b : Bool} → HasType Σ Γ (etruth b) truth
@@ -85,7 +85,7 @@ pub data ValueTypes : List Val → List Ty → Type 0 where
   v-cons : {v : Val} {τ : Ty} {vs : List Val} {τs : List Ty}
       → ValueType v τ → ValueTypes vs τs → ValueTypes (v ∷ vs) (τ ∷ τs)
 
--- 01: "A type has at most 4 leaves"; of the cells' and the binders' types
+-- CR 4: "A type may have 8 leaves"; of the cells' and the binders' types
 pub data AllSmall : List Ty → Type 0 where
   small-nil : AllSmall []
   small-cons : {τ : Ty} {τs : List Ty} → leaves τ ≤ maxLeaves → AllSmall τs → AllSmall (τ ∷ τs)

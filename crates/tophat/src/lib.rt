@@ -1,8 +1,8 @@
 // The calculus: its rules in specs/, the theorems on them in proofs/. There is no function here; the numbers that 01 gives to the
 // calculus' notions have their names in code here.
 
-// 01: "A type has at most 4 leaves"
-pub const MAX_LEAVES: usize = 4;
+// CR 4: "A type may have 8 leaves"
+pub const MAX_LEAVES: usize = 8;
 
 // 01: leaf kinds "(1, 2, 3; 0 unused)". A leaf's digit in a type's number (crate shape) is its kind.
 pub const NO_LEAF: u32 = 0;

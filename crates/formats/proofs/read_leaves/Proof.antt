@@ -38,7 +38,7 @@ returns c =
     let test = leaf .before in
     let loop = test .before in
     let start = loop .before .before in
-    read-none (start .args .s .now) (start .args .at) (start .args .width) (loop .loop .k) (test .loop-test .taken) (leaf .read-leaf .result) (leaf .read-leaf .ensures) (not-true _ (c .if1 .taken))
+    read-none (start .args .s .now) (start .args .at) (start .args .width) (loop .loop .k) (omega arith) (leaf .read-leaf .result) (leaf .read-leaf .ensures) (not-true _ (c .if1 .taken))
 
 loop-again : tie.Need-loop-again Inv-loop μ-loop
 loop-again c =
@@ -49,7 +49,7 @@ loop-again c =
       omega arith,
       length-set (loop .loop .words) (loop .loop .k) (leaf .read-leaf .result .bits) ∙ loop .loop .inv .1,
       length-set (loop .loop .blank) (loop .loop .k) (leaf .read-leaf .result .blank) ∙ loop .loop .inv .2,
-      read-more (start .args .s .now) (start .args .at) (start .args .width) (loop .loop .k) (test .loop-test .taken) (leaf .read-leaf .result) (leaf .read-leaf .ensures)
+      read-more (start .args .s .now) (start .args .at) (start .args .width) (loop .loop .k) (omega arith) (leaf .read-leaf .result) (leaf .read-leaf .ensures)
           (loop .loop .words) (loop .loop .blank) (loop .loop .inv .3) (not-false _ (c .if1 .left)),
     )
 

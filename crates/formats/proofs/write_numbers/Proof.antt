@@ -1,4 +1,4 @@
--- `write_numbers` meets its contract: the first k fields are written. Assumes nothing.
+-- `write_numbers` meets its contract: the first i fields are written. Assumes nothing.
 use mathlib.Core.Path.{_≡_, refl, _∙_}
 use Prim.Native.Nat.{_-_, _≤_}
 use native.Mathlib.Nat.{mul-le-mul-right}
@@ -15,10 +15,10 @@ use Rattle.formats.proofs.write_numbers.Lts as lts
 use Rattle.decimal.proofs.field.write.Reads as write-reads
 
 abbrev Inv-loop : tie.InvT-loop
-Inv-loop s₀ at width numbers k₀ s k = (k ≤ maxLeaves) × (length s ≡ length s₀) × (s ≡ putItems s₀ at (itemsOf width (take k numbers)))
+Inv-loop s₀ at width numbers i₀ s i = (i ≤ maxLeaves) × (length s ≡ length s₀) × (s ≡ putItems s₀ at (itemsOf width (take i numbers)))
 
 abbrev μ-loop : tie.MeasureT-loop
-μ-loop s₀ at width numbers k₀ s k = maxLeaves - k
+μ-loop s₀ at width numbers i₀ s i = maxLeaves - i
 
 loop-holds : tie.Need-loop-holds Inv-loop μ-loop
 unfolding putItems
@@ -43,14 +43,14 @@ loop-again c =
     let loop = start-at in
     let start = loop .before .before in
     let long : length (start .args .t4) ≡ maxLeaves = let g = start .good in search needs in
-    (omega arith, write .write .kept .0 ∙ loop .loop .inv .1, write-more (start .args .s .now) (start .args .at) (start .args .width) (start .args .t4) (loop .loop .k) (loop .loop .s) (write .write .last .0) (omega (arith, long)) (loop .loop .inv .2) (write .write .ensures .1))
+    (omega arith, write .write .kept .0 ∙ loop .loop .inv .1, write-more (start .args .s .now) (start .args .at) (start .args .width) (start .args .t4) (loop .loop .i) (loop .loop .s) (write .write .last .0) (omega (arith, long)) (loop .loop .inv .2) (write .write .ensures .1))
 
 returns : tie.Need-returns Inv-loop μ-loop
 returns c =
     let loop = c .before in
     let start = loop .before .before in
     let long : length (start .args .t4) ≡ maxLeaves = let g = start .good in search needs in
-    (write-all (start .args .s .now) (start .args .at) (start .args .width) (start .args .t4) (loop .loop .k) (loop .loop .s) (omega (arith, long)) (loop .loop .inv .2), long)
+    (write-all (start .args .s .now) (start .args .at) (start .args .width) (start .args .t4) (loop .loop .i) (loop .loop .s) (omega (arith, long)) (loop .loop .inv .2), long)
 
 pub write-numbers-spec : {M : Type 1} → statement M
 write-numbers-spec = tie.close (tie.spec Inv-loop μ-loop loop-holds mul-write add-write

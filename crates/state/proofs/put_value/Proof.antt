@@ -11,10 +11,10 @@ use Rattle.state.proofs.put_value.Statement.{statement}
 use Rattle.state.proofs.put_value.Tie as tie
 
 abbrev Inv-loop : tie.InvT-loop
-Inv-loop state₀ row tag leaves i₀ state i = (i ≤ maxLeaves) × LeavesTo state₀ state row 2 leaves i
+Inv-loop state₀ row tag leaves k₀ state k = (k ≤ maxLeaves) × LeavesTo state₀ state row 2 leaves k
 
 abbrev μ-loop : tie.MeasureT-loop
-μ-loop state₀ row tag leaves i₀ state i = maxLeaves - i
+μ-loop state₀ row tag leaves k₀ state k = maxLeaves - k
 
 pub put-value-spec : {M : Type 1} → statement M
 put-value-spec = tie.close (tie.spec
@@ -26,11 +26,11 @@ put-value-spec = tie.close (tie.spec
     (λ c.
     let l = c .before .before .before .loop in
     let s = c .before .before .before .before .before .before .before .before .before in
-    (omega arith, leaves-more (s .args .v .leaves) (l .i) (search needs) (put-is (omega arith) (c .put2 .ensures .0) (c .put2 .ensures .1)) (l .inv .1)))
+    (omega arith, leaves-more (s .args .v .leaves) (l .k) (let e : length (s .args .v .leaves) ≡ maxLeaves = search needs in omega (arith, c .before .before .loop-test .taken)) (put-is (omega arith) (c .put2 .ensures .0) (c .put2 .ensures .1)) (l .inv .1)))
     (λ c.
     let l = c .before .loop in
     let s = c .before .before .before .before .before .before .before in
     let a = s .args in
     let e : length (a .v .leaves) ≡ maxLeaves = search needs in
-    leaves-all (a .v .leaves) (l .i) (omega (arith, c .loop-test .left)) (l .inv .1) (a .state .now) (a .tag ∷ a .v .shape ∷ []) refl
+    leaves-all (a .v .leaves) (l .k) (omega (arith, c .loop-test .left)) (l .inv .1) (a .state .now) (a .tag ∷ a .v .shape ∷ []) refl
     (laid-more refl (put-is (omega arith) (c .before .before .put .ensures .0) (c .before .before .put .ensures .1)) (c .before .before .before .before .put-tag .ensures))))

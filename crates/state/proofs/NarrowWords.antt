@@ -1,0 +1,131 @@
+-- The words of a state of narrow types (CR 4: "State memory keeps 16 words a row"): where what a flow holds has at most k leaves, each row is 0
+-- behind its tag, a shape and k leaves. So a flow whose types have at most four leaves has the states that it had when a type had no
+-- more, and one that was kept then is read now. Rests on Typed.
+use mathlib.Core.Path.{_≡_, refl, sym, ap, _∙_}
+use mathlib.Core.Bool.{Bool, true, false, cond}
+use mathlib.Core.List.{List, [], _∷_}
+use Prim.Native.Nat.{ℕ, zero, suc, _+_, _*_, _-_, _≤_, _<_}
+use native.Mathlib.Decide.{ℕ-discrete}
+use native.Mathlib.Omega.{arith}
+use lib.IntN.{pos}
+use lib.ListN.{length, getD, set, List·getD-eq-default}
+use lib.Seq.{getD-set-other}
+use mir.Syntax.{w32}
+use mir.Val.{ofZ}
+use Rattle.tophat.specs.Syntax.{maxLeaves, Ty, leaves, Code, edit, enter, update, then, next, fail, and, or, xor, view, if, let', Val, vunit, Store}
+use Rattle.tophat.specs.Syntax.{TaskOf, filled, blank, entered, before, after, both, either, orLeft, orRight, unpicked, pickedLeft, pickedRight, ifTrue, ifFalse, bound}
+use Rattle.tophat.specs.Typing.{typeOf, ValueTypes, TaskType}
+use Rattle.tophat.specs.Leaves.{leavesOf}
+use Rattle.value.proofs.Meaning.{leaves-length, leaf-at}
+use Rattle.rows.specs.Kinds.{cellK}
+use Rattle.rows.specs.Rows.{opA, opB, opC, isKind}
+use Rattle.state.specs.Layout.{stateWords, place, at, valueWords, own, one, other, whole, putWords, tagged, valued, writeTask, writeCells, encode, encodeFailed}
+use Rattle.state.proofs.Words.{zeroWords, padding, place-one}
+use Rattle.state.proofs.Writes.{Each}
+use Rattle.state.proofs.Typed.{Narrow, NarrowCells, each-narrow, store-narrow, short}
+
+-- ---- words put before word b of a row
+
+-- every row is 0 from word b on
+pub record ZeroFrom (b : ℕ) (ws : List ℕ) : Type 0 where
+  pub words : (i m : ℕ) → b ≤ m → m < stateWords → at ws i m ≡ 0
+
+set-zero : (ws : List ℕ) (p : ℕ) → getD (set ws p 0) p 0 ≡ 0
+set-zero [] p = refl
+set-zero (w ∷ ws) zero = refl
+set-zero (w ∷ ws) (suc p) = set-zero ws p
+
+module _ (b : ℕ) where
+  zero-set : {ws : List ℕ} (i m x : ℕ) → m < stateWords → (b ≤ m → x ≡ 0) → ZeroFrom b ws → ZeroFrom b (set ws (place i m) x)
+  zero-set {ws} i m x h z g = record { words = λ j k p q. by j k p q (ℕ-discrete (place j k) (place i m)) }
+    where
+      by : (j k : ℕ) → b ≤ k → k < stateWords → Dec (place j k ≡ place i m) → at (set ws (place i m) x) j k ≡ 0
+      by j k p q (yes e) =
+          let (_, r) = place-one j i k m q h e in
+          rw (e, z (omega (arith, p, r))) (set-zero ws (place i m))
+      by j k p q (no n) = getD-set-other ws (place i m) (place j k) x 0 n ∙ g .words j k p q
+
+  zero-put : (xs : List ℕ) {ws : List ℕ} (i m : ℕ) → m + length xs ≤ stateWords → ((q : ℕ) → b ≤ m + q → getD xs q 0 ≡ 0) → ZeroFrom b ws → ZeroFrom b (putWords ws i m xs)
+  unfolding putWords
+  zero-put [] i m h z g = g
+  zero-put (x ∷ xs) i m h z g = zero-put xs i (suc m) (omega arith) (λ q l. z (suc q) (omega arith)) (zero-set i m x (omega arith) (λ l. z 0 (omega arith)) g)
+
+-- ---- a task and cells whose values have at most k leaves
+
+abbrev Few : ℕ → Val → Type 0
+Few k v = leaves (typeOf v) ≤ k
+
+module _ (k : ℕ) (most : k ≤ maxLeaves) where
+  -- a tag, a shape, and k leaves
+  abbrev Clean : List ℕ → Type 0
+  Clean ws = ZeroFrom (2 + k) ws
+
+  leaf-zero : (v : Val) → Few k v → (q : ℕ) → 2 + k ≤ q → (x : ℕ) → getD (x ∷ valueWords v) q 0 ≡ 0
+  unfolding valueWords
+  leaf-zero v l zero h x = absurd (omega arith)
+  leaf-zero v l (suc zero) h x = absurd (omega arith)
+  leaf-zero v l (suc (suc q)) h x = leaf-at v q ∙ ap (ofZ w32) (List·getD-eq-default (leavesOf v) (pos 0) (let e = leaves-length v in omega arith))
+
+  tag-clean : {ws : List ℕ} (i x : ℕ) → Clean ws → Clean (tagged ws i x)
+  tag-clean i x g = zero-put (2 + k) (x ∷ []) i 0 (omega arith) (λ q h. none q (omega arith)) g
+    where
+      none : (q : ℕ) → 2 + k ≤ q → getD (x ∷ []) q 0 ≡ 0
+      none zero h = absurd (omega arith)
+      none (suc q) h = refl
+
+  value-clean : {ws : List ℕ} (i x : ℕ) (v : Val) → Few k v → Clean ws → Clean (valued ws i x v)
+  value-clean i x v l g = zero-put (2 + k) (x ∷ valueWords v) i 0 (let s = short v (omega arith) in omega arith) (λ q h. leaf-zero v l q (omega arith) x) g
+
+  module _ (rs : List ℕ) where
+    task-clean : (i : ℕ) (c : Code) (t : TaskOf c) {ws : List ℕ} → Each (Few k) c t → Clean ws → Clean (writeTask rs i c t ws)
+    unfolding writeTask
+    task-clean i (edit e) (filled v) f g = value-clean i own v f g
+    task-clean i (enter τ) blank f g = tag-clean i own g
+    task-clean i (enter τ) (entered v) f g = value-clean i one v f g
+    task-clean i (update n) t f g = tag-clean i own g
+    task-clean i (then a b) (before t) f g = task-clean (opA rs i) a t f (tag-clean i own g)
+    task-clean i (then a b) (after v u) f g = task-clean (opB rs i) b u (f .1) (value-clean i one v (f .0) g)
+    task-clean i (next a b) (before t) f g = task-clean (opA rs i) a t f (tag-clean i own g)
+    task-clean i (next a b) (after v u) f g = task-clean (opB rs i) b u (f .1) (value-clean i one v (f .0) g)
+    task-clean i (fail τ) t f g = tag-clean i own g
+    task-clean i (and a b) (both t u) f g = task-clean (opB rs i) b u (f .1) (task-clean (opA rs i) a t (f .0) (tag-clean i own g))
+    task-clean i (or a b) (either t u) f g = task-clean (opB rs i) b u (f .1) (task-clean (opA rs i) a t (f .0) (tag-clean i own g))
+    task-clean i (or a b) (orLeft t) f g = task-clean (opA rs i) a t f (tag-clean i one g)
+    task-clean i (or a b) (orRight u) f g = task-clean (opB rs i) b u f (tag-clean i other g)
+    task-clean i (xor a b) unpicked f g = tag-clean i own g
+    task-clean i (xor a b) (pickedLeft t) f g = task-clean (opA rs i) a t f (tag-clean i one g)
+    task-clean i (xor a b) (pickedRight u) f g = task-clean (opB rs i) b u f (tag-clean i other g)
+    task-clean i (view e) (filled v) f g = value-clean i own v f g
+    task-clean i (if e a b) (ifTrue t) f g = task-clean (opB rs i) a t f (tag-clean i one g)
+    task-clean i (if e a b) (ifFalse u) f g = task-clean (opC rs i) b u f (tag-clean i other g)
+    task-clean i (let' e b) (bound v u) f g = task-clean (opB rs i) b u (f .1) (value-clean i one v (f .0) g)
+
+    cell-clean : (b : Bool) (i : ℕ) (v : Val) {ws : List ℕ} → Few k v → Clean ws → Clean (cond b (valued ws i own v) ws)
+    cell-clean true i v l g = value-clean i own v l g
+    cell-clean false i v l g = g
+
+    cells-clean : (n : ℕ) (s : Store) {ws : List ℕ} → ((j : ℕ) → Few k (getD s j vunit)) → Clean ws → Clean (writeCells rs n s ws)
+    unfolding writeCells
+    cells-clean zero s f g = g
+    cells-clean (suc n) s f g = cell-clean (isKind rs n cellK) n (getD s n vunit) (f n) (cells-clean n s f g)
+
+    -- ---- a state of a flow of narrow types
+
+    module _ (some : 1 ≤ k) {Σ : List Ty} (cells : NarrowCells k Σ) (n : ℕ) {s : Store} (h : ValueTypes s Σ) where
+      first-clean : Clean (writeCells rs n s (zeroWords (n * stateWords)))
+      first-clean = cells-clean n s (store-narrow (Few k) (λ v l. l) some h cells) (record { words = λ i m p q. padding [] (n * stateWords) (place i m) })
+
+      pub narrow-words : {c : Code} {t : TaskOf c} {τ : Ty} → Narrow k Σ [] c → TaskType Σ [] c t τ → Clean (encode rs n c t s)
+      unfolding encode
+      narrow-words {c} {t} d e = task-clean (n - 1) c t (each-narrow (Few k) (λ v l. l) d e) first-clean
+
+      pub narrow-words-failed : Clean (encodeFailed rs n s)
+      unfolding encodeFailed
+      narrow-words-failed = tag-clean (n - 1) whole first-clean
+
+-- ---- CR 4: types of at most four leaves
+
+-- words 6 to 15 of every row are 0
+pub same-words-under-4 : {Σ : List Ty} {c : Code} {t : TaskOf c} {s : Store} {τ : Ty} → Narrow 4 Σ [] c → NarrowCells 4 Σ → TaskType Σ [] c t τ → ValueTypes s Σ
+    → (rs : List ℕ) (n i m : ℕ) → 6 ≤ m → m < stateWords → at (encode rs n c t s) i m ≡ 0
+same-words-under-4 d g e h rs n = narrow-words 4 (omega arith) rs (omega arith) g n h d e .words
