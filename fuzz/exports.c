@@ -17,6 +17,8 @@
 
 enum { PAGE = 4096, ROOM = 32 * PAGE, GUARD = 64, COUNTERS = 1 << 14 };
 enum { PATTERN = 0xc3, MOST_WORDS = 6000, MOST_BYTES = 20000 };
+/* Bytes of a word, of a row and of a row of a state, and of a row count with its byte 10. */
+enum { WORD = sizeof(int32_t), ROW = WORD * NANNYJIFFY_ROW_WORDS, STATE_ROW = WORD * NANNYJIFFY_STATE_WORDS, COUNT = 5 };
 
 __attribute__((section("__libfuzzer_extra_counters"))) static uint8_t counters[COUNTERS];
 
@@ -35,12 +37,12 @@ static void ask(int holds, const char *what) {
 /* A memory: `room` is the fence, `own` what a call is to be lent. Words or bytes, by `unit`. */
 struct memory {
     uint8_t *room;
-    uint8_t own[MOST_WORDS * 4];
+    uint8_t own[MOST_WORDS * WORD];
     size_t count, unit;
 };
 
-static struct memory sheet = {.unit = 1}, rows = {.unit = 4}, state = {.unit = 4}, value = {.unit = 4}, list = {.unit = 1},
-                     event = {.unit = 1};
+static struct memory sheet = {.unit = 1}, rows = {.unit = WORD}, state = {.unit = WORD}, value = {.unit = WORD},
+                     list = {.unit = 1}, event = {.unit = 1};
 
 static size_t bytes(const struct memory *m) { return m->count * m->unit; }
 
@@ -67,7 +69,7 @@ static int kept(const struct memory *m, size_t after) {
 static void take(struct memory *m) { memcpy(m->own, m->room + ROOM - bytes(m), bytes(m)); }
 
 static void resize(struct memory *m, size_t count) {
-    size_t most = m->unit == 4 ? MOST_WORDS : MOST_BYTES, before = bytes(m);
+    size_t most = m->unit == WORD ? MOST_WORDS : MOST_BYTES, before = bytes(m);
     m->count = count < most ? count : most;
     if (bytes(m) > before) memset(m->own + before, 0, bytes(m) - before);
 }
@@ -86,9 +88,9 @@ static int listed(uint32_t number, const char *numbers) {
 /* Rows of kind 43 and 47, and 1. */
 static uint32_t most_strides(void) {
     uint32_t most = 1;
-    for (size_t at = 0; at + 4 <= rows.count; at += 4) {
+    for (size_t at = 0; at + NANNYJIFFY_ROW_WORDS <= rows.count; at += NANNYJIFFY_ROW_WORDS) {
         int32_t kind;
-        memcpy(&kind, rows.own + 4 * at, 4);
+        memcpy(&kind, rows.own + WORD * at, WORD);
         most += kind == 43 || kind == 47;
     }
     return most;
@@ -109,7 +111,7 @@ static uint32_t load(void) {
 /* Whether the last row is tagged as failed as a whole. */
 static int failed_whole(void) {
     int32_t tag = 0;
-    if (state.count >= 16) memcpy(&tag, state.own + 4 * (state.count - 16), 4);
+    if (bytes(&state) >= STATE_ROW) memcpy(&tag, state.own + bytes(&state) - STATE_ROW, WORD);
     return tag == 4;
 }
 
@@ -122,12 +124,13 @@ static uint32_t look(void) {
                                       list.count, &valued, &fails, &written);
     ask(listed(number, "auvwxy"), "look answers a number that is not its own");
     ask(kept(&rows, 0) && kept(&state, 0), "look changed what it reads");
-    ask(valued <= 1 && fails <= 1 && written <= list.count && written % 27 == 0, "flags or entries");
+    ask(valued <= 1 && fails <= 1 && written <= list.count && written % NANNYJIFFY_ENTRY_BYTES == 0, "flags or entries");
     ask(kept(&list, written), "look changed the list after its part");
     ask(number == 0 || (!valued && !fails && !written && kept(&value, 0)), "a refused look left something");
     ask(!fails || written == 0, "entries where the flow fails");
     ask(number != 0 || !failed_whole() || (fails && !valued), "a last row that failed as a whole is no fail");
-    ask(number != 0 || valued || !(lent_value[0] | lent_value[1] | lent_value[2] | lent_value[3]), "leaves without a value");
+    for (int leaf = 0; number == 0 && !valued && leaf < NANNYJIFFY_VALUE_WORDS; leaf++)
+        ask(lent_value[leaf] == 0, "leaves without a value");
     kept(&value, 0); /* for its guard bytes */
     shown(2, number, (uint32_t)written * 4 + valued * 2 + fails);
     return number;
@@ -143,11 +146,11 @@ static void moved(const char *numbers, uint32_t number, uint32_t strides, uint32
     if (number != 0) return;
     take(&state);
     size_t before = value.count;
-    resize(&value, 4);
+    resize(&value, NANNYJIFFY_VALUE_WORDS);
     number = look();
     resize(&value, before);
     ask(number == 0 || number == 24, "what a call left is no rest");
-    for (size_t row = 0; row * 4 < rows.count; row++) shown(5, rows.own[16 * row], state.own[64 * row]);
+    for (size_t row = 0; row * ROW < bytes(&rows); row++) shown(5, rows.own[ROW * row], state.own[STATE_ROW * row]);
 }
 
 static uint32_t start(void) {
@@ -190,7 +193,7 @@ static void raw(const uint8_t *data, size_t size) {
     load();
     fill(&rows, data, part);
     fill(&value, data + part, size % 2 ? part : 0);
-    if (size % 2 == 0) resize(&value, 4);
+    if (size % 2 == 0) resize(&value, NANNYJIFFY_VALUE_WORDS);
     fill(&list, data + part, part);
     fill(&event, data + 2 * part, part);
     fill(&state, data + 3 * part, size - 3 * part);
@@ -202,22 +205,22 @@ static void raw(const uint8_t *data, size_t size) {
 int LLVMFuzzerTestOneInput(const uint8_t *data, size_t size) {
     struct memory *memories[] = {&sheet, &rows, &state, &value, &list, &event};
     for (int at = 0; at < 6; at++) resize(memories[at], 0);
-    char field[6] = {0};
-    memcpy(field, data, size < 5 ? size : 5);
-    size_t count = (size_t)strtoul(field, NULL, 10);
-    if (count == 0 || count > 300 || size < 5 + 45 * count) {
+    char field[COUNT + 1] = {0};
+    memcpy(field, data, size < COUNT ? size : COUNT);
+    size_t count = (size_t)strtoul(field, NULL, 10), sheet_end = COUNT + NANNYJIFFY_LINE_BYTES * count;
+    if (count == 0 || count > 300 || size < sheet_end) {
         raw(data, size);
         return 0;
     }
-    fill(&sheet, data + 5, 45 * count);
-    resize(&rows, 4 * count);
-    resize(&value, 4);
-    resize(&list, 27 * count);
+    fill(&sheet, data + COUNT, sheet_end - COUNT);
+    resize(&rows, NANNYJIFFY_ROW_WORDS * count);
+    resize(&value, NANNYJIFFY_VALUE_WORDS);
+    resize(&list, NANNYJIFFY_LIST_BYTES(count));
     if (load() != 0) return 0;
-    resize(&state, 16 * count);
+    resize(&state, NANNYJIFFY_STATE_WORDS * count);
     start();
-    for (size_t at = 5 + 45 * count; at < size; at += 67) {
-        size_t rest = size - at < 67 ? size - at : 67;
+    for (size_t at = sheet_end; at < size; at += NANNYJIFFY_EVENT_BYTES) {
+        size_t rest = size - at < NANNYJIFFY_EVENT_BYTES ? size - at : NANNYJIFFY_EVENT_BYTES;
         if (data[at] >= 128) {
             poke(data + at, rest);
         } else {

@@ -24,16 +24,20 @@
 extern "C" {
 #endif
 
-/* A sheet is 1 to 256 lines, each of 45 bytes; an event is 67 bytes; a list entry is 27. */
+/* A sheet is 1 to 256 lines, each of 45 bytes; a type has at most 8 leaves. */
 #define NANNYJIFFY_MAX_ROWS 256
 #define NANNYJIFFY_LINE_BYTES 45
-#define NANNYJIFFY_EVENT_BYTES 67
-#define NANNYJIFFY_ENTRY_BYTES 27
+#define NANNYJIFFY_MAX_LEAVES 8
+
+/* An event is 115 bytes: path, action, 8 leaves of 12 columns, byte 10; a list entry is 35: path, action, 8 leaf kinds of 2
+ * columns, byte 10. */
+#define NANNYJIFFY_EVENT_BYTES (16 + 2 + 12 * NANNYJIFFY_MAX_LEAVES + 1)
+#define NANNYJIFFY_ENTRY_BYTES (16 + 2 + 2 * NANNYJIFFY_MAX_LEAVES + 1)
 
 /* Words of rows memory and of a state for each row, and words of a value. */
 #define NANNYJIFFY_ROW_WORDS 4
 #define NANNYJIFFY_STATE_WORDS 16
-#define NANNYJIFFY_VALUE_WORDS 4
+#define NANNYJIFFY_VALUE_WORDS NANNYJIFFY_MAX_LEAVES
 
 /* Stack that suffices for each call, 2.5 MiB. */
 #define NANNYJIFFY_STACK_BYTES 2621440
@@ -51,7 +55,7 @@ enum nannyjiffy_number {
     NANNYJIFFY_NOT_LISTED = 3, /* a kind, operator, truth or unused operand not as listed */
     NANNYJIFFY_SORT = 4,       /* an operand not a lower row, or not of the sort asked */
     NANNYJIFFY_NAMING = 5,     /* the naming rule broken, or a last row that is no task by its kind */
-    NANNYJIFFY_LIMIT = 6,      /* a type row over 4 leaves, or over 16 binders or marks */
+    NANNYJIFFY_LIMIT = 6,      /* a type row over 8 leaves, or over 16 binders or marks */
     NANNYJIFFY_TYPING = 7,     /* no typing for the last row as a task */
     NANNYJIFFY_EVENT = 8,      /* event length, byte 10, field, path digit or action bad, or a leaf not 0 at actions 2 to 4; a
                                 * blank action, but no blank leaf and no blank path */
@@ -63,7 +67,7 @@ enum nannyjiffy_number {
     NANNYJIFFY_NO_STATE = 22,  /* not the writing of a state; a last row that failed as a whole is one where start fails so and
                                 * the cells have their first contents, and nowhere else */
     NANNYJIFFY_NO_REST = 23,   /* normalising would change the state */
-    NANNYJIFFY_LIST = 24       /* list memory under 27 bytes an entry */
+    NANNYJIFFY_LIST = 24       /* list memory under 35 bytes an entry */
 };
 
 /* Loads a sheet. Asks 1, 21, 2, 3, 4, 5, 6, 7.
@@ -83,14 +87,14 @@ uint32_t nannyjiffy_start(const int32_t *rows, size_t rows_words, int32_t *state
 /* Looks at a rest. Asks 20, 21, 22, 23, 24.
  *   rows    read, as by start
  *   state   read: what start or handle wrote; 16 words a row exactly, else 21
- *   value   accepted: all 4 words written, the value's leaves, unused ones 0, all 0 without a value; 4 words exactly, else 21
- *   list    accepted: the entries from its first byte on, 27 bytes each; the bytes after them keep their content.
+ *   value   accepted: all 8 words written, the value's leaves, unused ones 0, all 0 without a value; 8 words exactly, else 21
+ *   list    accepted: the entries from its first byte on, 35 bytes each; the bytes after them keep their content.
  *           Too short for the entries: 24. NANNYJIFFY_LIST_BYTES(rows) always suffice; a quiet flow, one without entries,
  *           needs none
  *   valued  1 with a value, else 0; refused: 0
  *   fails   1 where the flow fails, else 0; a flow that fails is quiet, a quiet one need not fail; it is 1 after a failed
  *           start; refused: 0
- *   bytes   how many bytes of the list the entries are, a multiple of 27; refused: 0 */
+ *   bytes   how many bytes of the list the entries are, a multiple of 35; refused: 0 */
 uint32_t nannyjiffy_look(const int32_t *rows, size_t rows_words, const int32_t *state, size_t state_words, int32_t *value,
                          size_t value_words, uint8_t *list, size_t list_bytes, uint32_t *valued, uint32_t *fails,
                          size_t *bytes);
@@ -98,7 +102,7 @@ uint32_t nannyjiffy_look(const int32_t *rows, size_t rows_words, const int32_t *
 /* Handles an event, and normalises. Asks 20, 21, 22, 23, 8, 9.
  *   rows     read, as by start
  *   state    a rest; accepted: every word written, the rest that the event leads to; 16 words a row exactly, else 21
- *   event    read: 67 bytes, else 8
+ *   event    read: 115 bytes, else 8
  *   strides  how many strides normalising took, as by start; refused: 0 */
 uint32_t nannyjiffy_handle(const int32_t *rows, size_t rows_words, int32_t *state, size_t state_words,
                            const uint8_t *event, size_t event_bytes, uint32_t *strides);

@@ -23,11 +23,12 @@ static const char sheet[ROWS * NANNYJIFFY_LINE_BYTES + 1] =
     "  10  25           4           8           9\n"
     "  11  43           1          10           0\n";
 
-/* Path, action, four leaves: value 12, value 4, Continue. */
+/* Path, action, leaves: value 12, value 4, Continue. The last seven leaves are not used. */
+#define UNUSED "           0           0           0           0           0           0           0"
 static const char events[3][NANNYJIFFY_EVENT_BYTES + 1] = {
-    "               0 1          12           0           0           0\n",
-    "               0 1           4           0           0           0\n",
-    "               0 2           0           0           0           0\n",
+    "               0 1          12" UNUSED "\n",
+    "               0 1           4" UNUSED "\n",
+    "               0 2           0" UNUSED "\n",
 };
 
 static int32_t rows[ROWS * NANNYJIFFY_ROW_WORDS];

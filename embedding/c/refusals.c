@@ -1,14 +1,14 @@
 /* Each export from C with memory that is wrong in one way: the number that it answers, its single answers, and that lent memory, and
- * what stands beside it, keeps its content; blanks, where they are read as 0 and where not; a look at a quiet flow, which needs no
- * list memory; and a start that leaves the range, which is accepted and fails as a whole. Prints nothing where all is as
- * nannyjiffy.h says. */
+ * what stands beside it, keeps its content; lengths as they were with four leaves; a value of eight leaves; blanks, where they
+ * are read as 0 and where not; a look at a quiet flow, which needs no list memory; and a start that leaves the range, which is
+ * accepted and fails as a whole. Prints nothing where all is as nannyjiffy.h says. */
 #include "nannyjiffy.h"
 
 #include <stdio.h>
 #include <stdlib.h>
 #include <string.h>
 
-enum { ROWS = 2, BEYOND_ROWS = 4 };
+enum { ROWS = 2, BEYOND_ROWS = 4, WIDE_ROWS = 5 };
 
 static const char sheet[] = "   0   3           0           0           0\n"
                             "   1  41           0           0           0\n";
@@ -21,17 +21,40 @@ static const char beyond[] = "   0  22  2147483647           0           0\n"
                              "   2  24           1           0           1\n"
                              "   3  40           2           0           0\n";
 static const int32_t within[BEYOND_ROWS * NANNYJIFFY_ROW_WORDS] = {22, INT32_MAX, 0, 0, 22, 0, 0, 0, 24, 1, 0, 1, 40, 2, 0, 0};
-static const char entry[] = "               0 1 3 0 0 0\n";
-static const char give[] = "               0 1          12           0           0           0\n";
+/* An editor of 8 numbers; with row 4 a type of 9 leaves, which is too wide. */
+static const char wide[] = "   0   3           0           0           0\n"
+                           "   1   4           0           0           0\n"
+                           "   2   4           1           1           0\n"
+                           "   3   4           2           2           0\n"
+                           "   4  41           3           0           0\n";
+static const char too_wide[] = "   4   4           3           0           0\n"
+                               "   5  41           4           0           0\n";
+static const char give_wide[] = "               0 1           1           2           3           4"
+                                "           5           6           7 -2147483648\n";
+
+/* The last seven leaves of an event, as 0 and as blanks. */
+#define ZEROS "           0           0           0           0           0           0           0"
+#define BLANKS "                                                                                    "
+
+static const char entry[] = "               0 1 3 0 0 0 0 0 0 0\n";
+static const char give[] = "               0 1          12" ZEROS "\n";
+/* The same with four leaves, as events, entries and values once had. */
+static const char give_four[] = "               0 1          12           0           0           0\n";
+static const char entry_four[] = "               0 1 3 0 0 0\n";
+enum { FOUR_WORDS = 4 };
 /* The same with blanks: where nothing is meant, and where something is. */
 static const char sheet_blank[] = "   0   3                                    \n"
                                   "   1  41           0                        \n";
 static const char sheet_missing[] = "   0   3                                    \n"
                                     "   1  41                                    \n";
-static const char give_blank[] = "                 1           7                                    \n";
-static const char give_missing[] = "                 1                       0           0           0\n";
-static const char no_action[] = "               0            12           0           0           0\n";
-static const char left[] = "               0 3           0           0           0           0\n";
+static const char give_blank[] = "                 1           7" BLANKS "\n";
+static const char give_missing[] = "                 1            " ZEROS "\n";
+static const char no_action[] = "               0            12" ZEROS "\n";
+static const char left[] = "               0 3           0" ZEROS "\n";
+
+_Static_assert(sizeof give == NANNYJIFFY_EVENT_BYTES + 1 && sizeof give_blank == sizeof give, "an event");
+_Static_assert(sizeof give_wide == sizeof give && sizeof give_four == 67 + 1, "an event of eight leaves, and of four");
+_Static_assert(sizeof entry == NANNYJIFFY_ENTRY_BYTES + 1 && sizeof entry_four == 27 + 1, "an entry, and one of four leaves");
 
 /* Each memory has room in front and behind that no call may write. */
 static struct {
@@ -92,7 +115,7 @@ static void check_look(uint32_t number, uint32_t expected)
 static void check_failed_start(void)
 {
     int32_t rows[BEYOND_ROWS * NANNYJIFFY_ROW_WORDS], state[BEYOND_ROWS * NANNYJIFFY_STATE_WORDS];
-    int32_t failed[BEYOND_ROWS * NANNYJIFFY_STATE_WORDS] = {0}, value[NANNYJIFFY_VALUE_WORDS] = {7, 7, 7, 7};
+    int32_t failed[BEYOND_ROWS * NANNYJIFFY_STATE_WORDS] = {0}, value[NANNYJIFFY_VALUE_WORDS];
     const size_t rows_words = BEYOND_ROWS * NANNYJIFFY_ROW_WORDS, state_words = BEYOND_ROWS * NANNYJIFFY_STATE_WORDS;
     const int32_t no_value[NANNYJIFFY_VALUE_WORDS] = {0};
     uint32_t strides = 99, valued = 99, fails = 99;
@@ -100,6 +123,7 @@ static void check_failed_start(void)
     uint8_t list[1] = {7};
 
     memset(state, 0x77, sizeof state);
+    memset(value, 0x77, sizeof value);
     failed[(BEYOND_ROWS - 1) * NANNYJIFFY_STATE_WORDS] = 4;
     CHECK(nannyjiffy_load((const uint8_t *)beyond, sizeof beyond - 1, rows, rows_words) == NANNYJIFFY_ACCEPTED);
     CHECK(nannyjiffy_start(rows, rows_words, state, state_words, &strides) == NANNYJIFFY_ACCEPTED && strides == 1);
@@ -120,10 +144,38 @@ static void check_failed_start(void)
                             &strides) == NANNYJIFFY_NO_STATE && strides == 0);
 }
 
+/* An editor of eight leaves: all of them stand in the state and in the value; a type of nine is refused. */
+static void check_eight_leaves(void)
+{
+    const size_t rows_words = WIDE_ROWS * NANNYJIFFY_ROW_WORDS, state_words = WIDE_ROWS * NANNYJIFFY_STATE_WORDS;
+    static const int32_t leaves[NANNYJIFFY_VALUE_WORDS] = {1, 2, 3, 4, 5, 6, 7, INT32_MIN};
+    int32_t rows[(WIDE_ROWS + 1) * NANNYJIFFY_ROW_WORDS], state[WIDE_ROWS * NANNYJIFFY_STATE_WORDS];
+    int32_t value[NANNYJIFFY_VALUE_WORDS];
+    const int32_t *last = &state[(WIDE_ROWS - 1) * NANNYJIFFY_STATE_WORDS];
+    uint32_t strides = 99, valued = 99, fails = 99;
+    size_t bytes = 99;
+    uint8_t list[NANNYJIFFY_ENTRY_BYTES];
+    char text[(WIDE_ROWS + 1) * NANNYJIFFY_LINE_BYTES];
+
+    memcpy(text, wide, sizeof text - 2 * NANNYJIFFY_LINE_BYTES);
+    memcpy(text + sizeof text - 2 * NANNYJIFFY_LINE_BYTES, too_wide, 2 * NANNYJIFFY_LINE_BYTES);
+    CHECK(nannyjiffy_load((const uint8_t *)text, sizeof text, rows, rows_words + NANNYJIFFY_ROW_WORDS) == NANNYJIFFY_LIMIT);
+    CHECK(nannyjiffy_load((const uint8_t *)wide, sizeof wide - 1, rows, rows_words) == NANNYJIFFY_ACCEPTED);
+    CHECK(nannyjiffy_start(rows, rows_words, state, state_words, &strides) == NANNYJIFFY_ACCEPTED && strides == 1);
+    CHECK(nannyjiffy_handle(rows, rows_words, state, state_words, (const uint8_t *)give_wide, sizeof give_wide - 1,
+                            &strides) == NANNYJIFFY_ACCEPTED && strides == 1);
+    CHECK(last[0] == 2 && memcmp(&last[2], leaves, sizeof leaves) == 0);
+    CHECK(nannyjiffy_look(rows, rows_words, state, state_words, value, NANNYJIFFY_VALUE_WORDS, list, sizeof list, &valued,
+                          &fails, &bytes) == NANNYJIFFY_ACCEPTED);
+    CHECK(valued == 1 && fails == 0 && bytes == NANNYJIFFY_ENTRY_BYTES && memcmp(value, leaves, sizeof value) == 0);
+    CHECK(memcmp(list, "               0 1 3 3 3 3 3 3 3 3\n", sizeof list) == 0);
+}
+
 int main(void)
 {
     uint32_t strides;
     check_failed_start();
+    check_eight_leaves();
     memset(&lent, 0x77, sizeof lent);
     kept = lent;
 
@@ -150,9 +202,12 @@ int main(void)
     CHECK(memcmp(&lent, &kept, sizeof lent) == 0);
     check_look(look(STATE_WORDS - 1, NANNYJIFFY_VALUE_WORDS, sizeof entry), NANNYJIFFY_MEMORY);
     check_look(look(STATE_WORDS, NANNYJIFFY_VALUE_WORDS + 1, sizeof entry), NANNYJIFFY_MEMORY);
+    check_look(look(STATE_WORDS, FOUR_WORDS, sizeof entry), NANNYJIFFY_MEMORY);
     check_look(look(STATE_WORDS, NANNYJIFFY_VALUE_WORDS, NANNYJIFFY_ENTRY_BYTES - 1), NANNYJIFFY_LIST);
+    check_look(look(STATE_WORDS, NANNYJIFFY_VALUE_WORDS, sizeof entry_four - 1), NANNYJIFFY_LIST);
     CHECK(handle(STATE_WORDS - 1, give, NANNYJIFFY_EVENT_BYTES, &strides) == NANNYJIFFY_MEMORY && strides == 0);
     CHECK(handle(STATE_WORDS, give, NANNYJIFFY_EVENT_BYTES - 1, &strides) == NANNYJIFFY_EVENT && strides == 0);
+    CHECK(handle(STATE_WORDS, give_four, sizeof give_four - 1, &strides) == NANNYJIFFY_EVENT && strides == 0);
     CHECK(handle(STATE_WORDS, no_action, NANNYJIFFY_EVENT_BYTES, &strides) == NANNYJIFFY_EVENT && strides == 0);
     CHECK(handle(STATE_WORDS, left, NANNYJIFFY_EVENT_BYTES, &strides) == NANNYJIFFY_HANDLING && strides == 0);
     CHECK(handle(STATE_WORDS, give_missing, NANNYJIFFY_EVENT_BYTES, &strides) == NANNYJIFFY_HANDLING && strides == 0);
@@ -166,7 +221,7 @@ int main(void)
     CHECK(memcmp(&lent, &kept, sizeof lent) == 0);
     CHECK(look(STATE_WORDS, NANNYJIFFY_VALUE_WORDS, sizeof lent.list - 1) == NANNYJIFFY_ACCEPTED);
     CHECK(seen.valued == 1 && seen.fails == 0 && seen.bytes == NANNYJIFFY_ENTRY_BYTES);
-    memcpy(kept.value, (const int32_t[]){12, 0, 0, 0}, sizeof lent.value - sizeof(int32_t));
+    memcpy(kept.value, (const int32_t[NANNYJIFFY_VALUE_WORDS]){12}, NANNYJIFFY_VALUE_WORDS * sizeof(int32_t));
     memcpy(kept.list, entry, NANNYJIFFY_ENTRY_BYTES);
     CHECK(memcmp(&lent, &kept, sizeof lent) == 0);
 

@@ -4,10 +4,11 @@ use crate::sessions::{change_bytes, hash};
 use crate::{blanks, lines};
 use reference::calls::{self, ROW};
 use reference::engine::Answers;
-use reference::event::EVENT;
+use reference::event::{ENTRY, EVENT};
 use reference::flow::Flow;
 use reference::generate::{states, touches};
 use reference::lent::{self, Lent};
+use reference::limits::LEAVES;
 use reference::random::Random;
 use reference::rules::Rules;
 use reference::session;
@@ -35,13 +36,13 @@ pub fn of_session(input: &[u8]) -> Vec<Lent> {
 
 fn of_state(flow: &Flow, state: &State, event: Vec<u8>) -> Lent {
     let rows = calls::words_of_rows(&flow.rows);
-    let list = vec![b'.'; calls::ENTRY * state.look().entries.len()];
+    let list = vec![b'.'; ENTRY * state.look().entries.len()];
     Lent {
         text: sheet::write(&flow.rows),
         room: vec![7; rows.len()],
         rows,
         state: words::write(flow, state),
-        value: vec![7; 4],
+        value: vec![7; LEAVES],
         list,
         event,
     }
@@ -74,9 +75,9 @@ fn change(random: &mut Random, lent: &mut Lent, other: &Lent) {
         3 => change_words(random, &mut lent.room, &other.room, ROW),
         4 => change_words(random, &mut lent.rows, &other.rows, ROW),
         5..=7 => change_words(random, &mut lent.state, &other.state, STATE_ROW),
-        8 => change_words(random, &mut lent.value, &other.value, 4),
+        8 => change_words(random, &mut lent.value, &other.value, LEAVES),
         9 => lent.event.clone_from(&other.event),
-        10 => lent.list.resize(random.below(2 * lent.list.len() + 60), b'.'),
+        10 => lent.list.resize(random.below(2 * (lent.list.len() + ENTRY)), b'.'),
         11..=13 => change_rows(random, lent, other),
         14..=17 => run(random, lent),
         18 => drawn(random, lent),
@@ -143,8 +144,8 @@ fn run(random: &mut Random, lent: &mut Lent) {
     let Some(mut state) = words::read(&flow, &lent.state) else { return };
     let entries = state.look().entries;
     lent.event = touches::event(random, &entries);
-    lent.list.resize(calls::ENTRY * entries.len(), b'.');
-    lent.value.resize(4, 7);
+    lent.list.resize(ENTRY * entries.len(), b'.');
+    lent.value.resize(LEAVES, 7);
     if random.chance(50) && state.rests() && state.handle(&lent.event).is_ok() {
         *lent = of_state(&flow, &state, touches::event(random, &state.look().entries));
     }

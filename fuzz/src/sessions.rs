@@ -1,11 +1,11 @@
 //! Sessions: bytes to count, rows and events and back, and changes of them.
 
 use crate::{blanks, lines};
-use reference::event::EVENT;
+use reference::event::{with_four_leaves, ACTION, ENTRY, EVENT, PATH};
 use reference::generate::{self, touches};
 use reference::random::Random;
 use reference::rules::Rules;
-use reference::session::{self, COUNT};
+use reference::session::{self, COUNT, HEAD, HEAD_COUNT};
 use reference::sheet::{self, Row, LINE};
 use reference::slips::Slip;
 use reference::state::State;
@@ -13,7 +13,7 @@ use reference::state::State;
 /// Bytes that fields are made of, and some that they are not.
 const BYTES: &[u8] = b"    0123456789-+\n\r\t\0\xffx";
 /// Bytes of a session at most.
-const MOST: usize = 16_000;
+const MOST: usize = 20_000;
 
 /// A session of those in the pool, changed in one or some ways; now and then one of the second implementation's cases.
 pub fn make(random: &mut Random, pool: &[Vec<u8>]) -> Vec<u8> {
@@ -83,15 +83,17 @@ fn change_rows(random: &mut Random, input: &mut Vec<u8>, other: &[u8]) {
     *input = [generate::counted(&rows), events.to_vec()].concat();
 }
 
-/// Events in another order, twice, left out, or those of another session.
+/// Events in another order, twice, left out, those of another session, or one of four leaves at the end.
 fn change_events(random: &mut Random, input: &mut Vec<u8>, other: &[u8]) {
     let (Some((rows, events)), Some((_, others))) = (parts(input), parts(other)) else { return };
+    let old = events.chunks_exact(EVENT).last().map(with_four_leaves).unwrap_or_default();
     let mut events: Vec<&[u8]> = events.chunks(EVENT).collect();
     let at = random.below(events.len() + 1);
-    match random.below(4) {
+    match random.below(5) {
         0 => events.extend(others.chunks(EVENT)),
         1 => drop(events.drain(at..)),
-        2 if at < events.len() => drop(events.remove(at)),
+        2 => events.push(&old),
+        3 if at < events.len() => drop(events.remove(at)),
         _ if at < events.len() => {
             let with = random.below(events.len());
             events.swap(at, with);
@@ -124,9 +126,9 @@ fn touch(random: &mut Random, input: &mut Vec<u8>) {
 pub fn shown(screens: &[u8]) -> Vec<u64> {
     let (mut shown, mut before) = (Vec::new(), 0);
     let mut rest = screens;
-    while let Some((head, after)) = rest.split_at_checked(65) {
-        let count = number(&head[60..64]) as usize;
-        let Some((entries, after)) = after.split_at_checked(27 * count) else { break };
+    while let Some((head, after)) = rest.split_at_checked(HEAD) {
+        let count = number(&head[HEAD_COUNT]) as usize;
+        let Some((entries, after)) = after.split_at_checked(ENTRY * count) else { break };
         let own = hash([number(&head[..4]), number(&head[4..8]), number(&head[8..12]), count as u64]);
         shown.extend([own, hash([own, before, 0, 1]), hash([own, actions(entries), 0, 2])]);
         (rest, before) = (after, own);
@@ -136,9 +138,11 @@ pub fn shown(screens: &[u8]) -> Vec<u64> {
 
 /// Actions, path lengths and leaf kinds of entries.
 fn actions(entries: &[u8]) -> u64 {
-    entries.chunks(27).fold(0, |sum, entry| {
-        let marks = entry[..16].iter().filter(|&&byte| byte != b' ').count() as u64;
-        hash([sum, marks, number(&entry[16..18]), number(&entry[18..26])])
+    entries.chunks(ENTRY).fold(0, |sum, entry| {
+        let (path, rest) = entry.split_at(PATH);
+        let (action, kinds) = rest.split_at(ACTION);
+        let marks = path.iter().filter(|&&byte| byte != b' ').count() as u64;
+        hash([sum, marks, number(action), number(kinds)])
     })
 }
 

@@ -6,6 +6,7 @@ use crate::generate::blanks::unused;
 use crate::generate::with_count;
 use crate::limits::LEAVES;
 use crate::sheet::{self, Row, COLUMNS, LINE};
+use crate::value::padded;
 use std::ops::Range;
 
 /// The rows of an accepted sheet that has each of the 27 kinds.
@@ -94,15 +95,8 @@ pub fn each_set_blank(event: &[u8]) -> Vec<Vec<u8>> {
 /// A session of a sheet of every kind, touched in each of its parts.
 fn touched(text: Vec<u8>) -> Vec<u8> {
     let touches = [("11", 1), ("11", 2), ("1", 1), ("2", 3), ("2", 1), ("2", 4), ("", 1)];
-    let events = touches.map(|(path, action)| event::write(path, action, given(i32::from(action == 1))));
+    let events = touches.map(|(path, action)| event::write(path, action, padded(&[i32::from(action == 1)])));
     [with_count(text), events.concat()].concat()
-}
-
-/// Leaves of which the first is this one.
-fn given(first: i32) -> [i32; LEAVES] {
-    let mut leaves = [0; LEAVES];
-    leaves[0] = first;
-    leaves
 }
 
 /// Each operand of each kind blank, and all unused ones.
@@ -160,7 +154,7 @@ fn nearly() -> Vec<(String, Vec<u8>)> {
         inputs.push((format!("C {nearly:?}"), with_count(in_sheet)));
         let events: Vec<Vec<u8>> = (0..LEAVES)
             .map(|leaf| {
-                let mut event = event::write("", 1, given(5));
+                let mut event = event::write("", 1, padded(&[5]));
                 event[leaf_columns(leaf)].copy_from_slice(format!("{nearly:>LEAF$}").as_bytes());
                 event
             })
@@ -170,17 +164,34 @@ fn nearly() -> Vec<(String, Vec<u8>)> {
     inputs
 }
 
+/// The types unit, truth and number, and one of each further number of leaves, each with leaves that fit it.
+pub fn each_width() -> Vec<(Row, Vec<i32>)> {
+    let fitting = [0, 1, 7];
+    let mut types: Vec<(Row, Vec<i32>)> =
+        (1..).zip(fitting).map(|(kind, leaf)| (Row::new(kind, 0, 0, 0), vec![leaf])).collect();
+    // A basic type by turns, and by turns first and second; before it stood unit.
+    let mut before = 0;
+    for leaves in 2..=LEAVES {
+        let basic = leaves % 3;
+        let (inner, leaf) = (&types[before].1[..], &[fitting[basic]][..]);
+        types.push(match leaves % 2 {
+            0 => (Row::new(4, before as i32, basic as i32, 0), [inner, leaf].concat()),
+            _ => (Row::new(4, basic as i32, before as i32, 0), [leaf, inner].concat()),
+        });
+        before = types.len() - 1;
+    }
+    types
+}
+
 /// Editors of each number of leaves, and of each kind of leaf, with each set of leaves blank, at 0 and at
 /// leaves that fit; and with the action blank.
 fn editors() -> Vec<(String, Vec<u8>)> {
-    let types = [Row::new(1, 0, 0, 0), Row::new(2, 0, 0, 0), Row::new(3, 0, 0, 0)];
-    let pairs = [Row::new(4, 0, 1, 0), Row::new(4, 3, 2, 0), Row::new(4, 0, 4, 0)];
+    let (types, fitting): (Vec<Row>, Vec<Vec<i32>>) = each_width().into_iter().unzip();
     let mut inputs = Vec::new();
-    for (of, fitting) in [&[0][..], &[1], &[7], &[0, 1], &[0, 1, 7], &[0, 0, 1, 7]].into_iter().enumerate() {
-        let mut rows = [&types[..], &pairs].concat();
+    for (of, fitting) in fitting.iter().enumerate() {
+        let mut rows = types.clone();
         rows.push(Row::new(41, of as i32, 0, 0));
-        let mut leaves = [0; LEAVES];
-        leaves[..fitting.len()].copy_from_slice(fitting);
+        let leaves = padded(fitting);
         let mut events = each_set_blank(&event::write("", 1, [0; LEAVES]));
         events.extend(each_set_blank(&event::write("", 1, leaves)));
         let mut blank_action = event::write("", 1, leaves);

@@ -1,7 +1,7 @@
 //! The four calls on lent memory (01, "Grounds in the state"): rows, states and values are words,
-//! 4 and 16 a row and 4; lists and events are bytes. A refusal leaves all lent memory as it was.
+//! 4 and 16 a row and 8; lists and events are bytes. A refusal leaves all lent memory as it was.
 
-use crate::event::Entry;
+use crate::event::{Entry, ENTRY};
 use crate::flow::Flow;
 use crate::grounds::Ground;
 use crate::limits::LEAVES;
@@ -13,8 +13,6 @@ use crate::words::{self, STATE_ROW};
 
 /// Words a row of the rows memory: kind, A, B, C.
 pub const ROW: usize = 4;
-/// Bytes an entry of the list.
-pub const ENTRY: usize = 27;
 
 /// What a look answers; the value's leaves and the entries are in lent memory.
 #[derive(Clone, Copy, Debug, Default, PartialEq, Eq)]
@@ -71,7 +69,7 @@ pub fn start(rows: &[i32], state: &mut [i32]) -> (u32, u32) {
     moved(started, state)
 }
 
-/// Shows value, flags and list of a rest. Grounds 20 to 24. An accepted look writes all 4 words of
+/// Shows value, flags and list of a rest. Grounds 20 to 24. An accepted look writes all 8 words of
 /// the value memory, and the list memory up to the bytes that it answers.
 pub fn look(rows: &[i32], state: &[i32], value: &mut [i32], list: &mut [u8]) -> Looked {
     let looked = flow_of(rows).and_then(|flow| {

@@ -1,8 +1,8 @@
 //! What cases cover: counts over kinds, operators, grounds, strides, lists, events, rows, blanks, numbers beyond the
-//! range.
+//! range, leaves.
 
 use crate::binders::Binders;
-use crate::event::{leaf_columns, Event, EVENT, PATH};
+use crate::event::{leaf_columns, Action, Entry, Event, EVENT, PATH};
 use crate::field;
 use crate::flow::Flow;
 use crate::grounds::Ground;
@@ -88,6 +88,18 @@ pub struct Coverage {
     /// Accepted sheets that leave the range (CR 3), once for each place where they do at some screen: at start
     /// ([`AT_START`]), in a right side ([`RIGHT_SIDE`], and by itself 43 or 44), in a branch (48).
     pub overflows: Tally,
+    /// Leaves (CR 4) of the editors that the screens of an accepted sheet list, and of the values that they show, once a
+    /// sheet for each number; and of the value that each accepted event gives.
+    pub editors: Tally,
+    pub shown: Tally,
+    pub given: Tally,
+}
+
+/// The numbers of leaves that a session comes to, as in [`Coverage::editors`] and [`Coverage::shown`].
+#[derive(Default)]
+struct Widths {
+    editors: BTreeSet<usize>,
+    shown: BTreeSet<usize>,
 }
 
 /// The places that are no kind, of [`Coverage::overflows`].
@@ -115,8 +127,8 @@ impl Coverage {
         blank_operands(text).for_each(|row| self.blank_operands.add(flow.rows[row].kind as usize));
         let (mut state, strides) = State::start(&flow);
         self.strides.add(strides);
-        self.add_screen(&state);
-        let mut places = BTreeSet::new();
+        let (mut places, mut widths) = (BTreeSet::new(), Widths::default());
+        let mut entries = self.add_screen(&state, &mut widths);
         add_overflows(&state, &mut places);
         for event in input.chunks(EVENT) {
             let handled = state.handle(event);
@@ -125,11 +137,15 @@ impl Coverage {
                 self.strides.add(strides);
                 self.actions.add(event.action.number() as usize);
                 self.paths.add(event.path.len());
+                let touched = entries.iter().find(|entry| entry.path == event.path && entry.action == event.action);
+                touched.and_then(editor_leaves).into_iter().for_each(|leaves| self.given.add(leaves));
             }
-            self.add_screen(&state);
+            entries = self.add_screen(&state, &mut widths);
             add_overflows(&state, &mut places);
         }
         places.into_iter().for_each(|place| self.overflows.add(place));
+        widths.editors.into_iter().for_each(|leaves| self.editors.add(leaves));
+        widths.shown.into_iter().for_each(|leaves| self.shown.add(leaves));
     }
 
     fn add_event(&mut self, event: &[u8], answer: usize) {
@@ -157,7 +173,8 @@ impl Coverage {
         self.leaves.add(flow.own_type.leaves());
     }
 
-    fn add_screen(&mut self, state: &State) {
+    /// Gives the entries of the screen.
+    fn add_screen(&mut self, state: &State, widths: &mut Widths) -> Vec<Entry> {
         let look = state.look();
         self.entries.add(look.entries.len());
         self.failing.add(look.failing.into());
@@ -165,7 +182,15 @@ impl Coverage {
         if look.entries.is_empty() {
             self.quiet.add(look.failing.into());
         }
+        widths.editors.extend(look.entries.iter().filter_map(editor_leaves));
+        widths.shown.extend(look.value.map(|value| value.type_of().leaves()));
+        look.entries
     }
+}
+
+/// The leaves of the editor that an entry is of; none where it is a button's.
+fn editor_leaves(entry: &Entry) -> Option<usize> {
+    (entry.action == Action::Value).then(|| entry.kinds.iter().filter(|&&kind| kind != 0).count())
 }
 
 /// Adds the places where this state leaves the range.
@@ -236,6 +261,9 @@ impl fmt::Display for Coverage {
             ("events with a blank leaf by answer", &self.blank_leaves),
             ("events with a blank path by answer", &self.blank_paths),
             ("sheets that leave the range, at start 0, in a right side 1, in kinds", &self.overflows),
+            ("sheets by leaves of editors listed", &self.editors),
+            ("sheets by leaves of values shown", &self.shown),
+            ("values accepted by leaves", &self.given),
         ];
         for (name, tally) in tallies {
             writeln!(out, "{name} ({}):{tally}", tally.total())?;

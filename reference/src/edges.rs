@@ -1,12 +1,14 @@
 //! Sessions at the edges: 01's own (lines, binders, a field too large, an empty text), and those of
-//! row counts, events cut short, marks, depth, shown values, [blanks](crate::blank_edges) and [numbers beyond the
-//! range](crate::overflow_edges).
+//! row counts, events cut short, marks, depth, shown values, [blanks](crate::blank_edges), [numbers beyond the
+//! range](crate::overflow_edges) and [leaves](crate::leaf_edges).
 
 use crate::blank_edges;
 use crate::event;
 use crate::generate::counted;
+use crate::leaf_edges;
 use crate::overflow_edges;
 use crate::sheet::{Row, LINES};
+use crate::value::padded;
 
 /// Rows being added. Row 0 is the type number.
 struct Rows(Vec<Row>);
@@ -49,6 +51,7 @@ pub fn inputs() -> Vec<(String, Vec<u8>)> {
     inputs.extend(shown());
     inputs.extend(blank_edges::inputs());
     inputs.extend(overflow_edges::inputs());
+    inputs.extend(leaf_edges::inputs());
     for levels in [1, 2, 16, 64, 126] {
         inputs.push((format!("{levels} choices deep"), with(&picks(levels), &vec![press(3); levels])));
     }
@@ -63,11 +66,11 @@ fn with(rows: &[Row], events: &[Vec<u8>]) -> Vec<u8> {
 }
 
 fn value(number: i32) -> Vec<u8> {
-    event::write("", 1, [number, 0, 0, 0])
+    event::write("", 1, padded(&[number]))
 }
 
 fn press(action: i32) -> Vec<u8> {
-    event::write("", action, [0; 4])
+    event::write("", action, padded(&[]))
 }
 
 /// A filled editor after types that nothing names.
@@ -132,7 +135,7 @@ fn steps(levels: usize) -> Vec<Row> {
 /// in every other place, right and wrong. All are touched alike.
 fn shown() -> Vec<(String, Vec<u8>)> {
     let touches = [("", 1), ("1", 1), ("2", 1), ("", 2), ("", 3), ("", 4), ("", 2), ("", 1), ("1", 1), ("2", 1)];
-    let touches = touches.map(|(path, action)| event::write(path, action, [i32::from(action == 1), 0, 0, 0]));
+    let touches = touches.map(|(path, action)| event::write(path, action, padded(&[i32::from(action == 1)])));
     let mut sheets = Vec::new();
     for kind in [43, 44, 46, 47, 48] {
         for (left, right) in [(41, 49), (49, 41), (45, 49), (49, 45), (49, 49)] {

@@ -35,7 +35,7 @@ impl Rules {
             Plain::Unit => Value::Unit,
             Plain::Truth(truth) => Value::Truth(*truth),
             Plain::Number(number) => Value::Number(*number),
-            Plain::Binder(outward) => self.binder(env, *outward as usize).clone(),
+            Plain::Binder(outward) => self.binder(env, *outward as usize),
             Plain::Operation(operator, left, right) => {
                 if self.slip == Slip::ShortCircuit {
                     let known = self.plain(env, &mut store.clone(), left)?;
@@ -81,12 +81,15 @@ impl Rules {
     }
 
     /// The value of binder `outward`, 0 the nearest.
-    fn binder<'s>(&self, env: &Env<'s>, outward: usize) -> &'s Value {
+    fn binder(&self, env: &Env, outward: usize) -> Value {
         let value = env.get(outward).expect("reaches a binder, by ground 7");
-        if self.slip == Slip::BinderNextOut {
-            return env.get(outward + 1).filter(|next| next.type_of() == value.type_of()).unwrap_or(value);
+        match self.slip {
+            Slip::BinderNextOut => {
+                env.get(outward + 1).filter(|next| next.type_of() == value.type_of()).unwrap_or(value).clone()
+            }
+            Slip::BoundLeafDropped => value.without_last_leaf(),
+            _ => value.clone(),
         }
-        value
     }
 
     /// The left value and then, from the store that it leaves, the right.

@@ -1,17 +1,29 @@
 //! Events and list entries as bytes (01, "Touches and what is shown").
 
 use crate::field::{self, Field};
-use crate::limits::LEAVES;
+use crate::limits::{LEAVES, LEAVES_BEFORE};
 use crate::slips::Slip;
 use crate::value::{Given, Leaves};
 use std::io::{self, Write};
 use std::ops::Range;
 
-/// Bytes an event, and columns of a path, an action and a leaf.
-pub const EVENT: usize = PATH + ACTION + LEAVES * LEAF + 1;
+/// Bytes an event and an entry of the list, and columns of a path, an action, a leaf and a leaf kind.
+pub const EVENT: usize = event_bytes(LEAVES);
+pub const ENTRY: usize = entry_bytes(LEAVES);
 pub const PATH: usize = 16;
 pub const ACTION: usize = 2;
 pub const LEAF: usize = 12;
+pub const KIND: usize = 2;
+
+/// The bytes of an event of so many leaves.
+pub const fn event_bytes(leaves: usize) -> usize {
+    PATH + ACTION + leaves * LEAF + 1
+}
+
+/// The bytes of an entry of so many leaf kinds.
+pub const fn entry_bytes(leaves: usize) -> usize {
+    PATH + ACTION + leaves * KIND + 1
+}
 
 /// The columns of leaf `at`.
 pub fn leaf_columns(at: usize) -> Range<usize> {
@@ -52,19 +64,13 @@ impl<'e> Event<'e> {
     /// The event in these bytes; none where ground 8 holds.
     pub fn read(bytes: &'e [u8], slip: Slip) -> Option<Self> {
         let (last, fields) = bytes.split_last()?;
-        if bytes.len() != EVENT || (*last != b'\n' && slip != Slip::EventByteTenUnread) {
+        let count = leaves_in(bytes.len(), slip)?;
+        if *last != b'\n' && slip != Slip::EventByteTenUnread {
             return None;
         }
         let path = read_path(&fields[..PATH], slip)?;
         let action = read_action(&fields[PATH..PATH + ACTION], slip)?;
-        let mut leaves = [None; LEAVES];
-        for (at, leaf) in leaves.iter_mut().enumerate() {
-            *leaf = match field::read(&fields[leaf_columns(at)], slip) {
-                Field::Number(number) => Some(number),
-                Field::Blank if slip != Slip::BlankLeafIsEight => None,
-                Field::Blank | Field::Unreadable => return None,
-            };
-        }
+        let leaves = read_leaves(fields, count, slip)?;
         // A leaf not 0 at actions 2 to 4; a blank is none.
         let given = |leaf: &Option<i32>| match leaf {
             Some(number) => *number != 0,
@@ -80,6 +86,30 @@ impl<'e> Event<'e> {
             _ => (!unused).then_some(Event { path, action, leaves }),
         }
     }
+}
+
+/// How many leaves an event of so many bytes has; none where no event has that length.
+fn leaves_in(bytes: usize, slip: Slip) -> Option<usize> {
+    match slip {
+        Slip::EventsOf67 => (bytes == event_bytes(LEAVES_BEFORE)).then_some(LEAVES_BEFORE),
+        Slip::EventOf67Read if bytes == event_bytes(LEAVES_BEFORE) => Some(LEAVES_BEFORE),
+        _ => (bytes == EVENT).then_some(LEAVES),
+    }
+}
+
+/// The first `count` leaves, each a number or blank; none where one is neither. Those after them, which a slip leaves
+/// unread, are 0.
+fn read_leaves(fields: &[u8], count: usize, slip: Slip) -> Option<Given> {
+    let mut leaves = [Some(0); LEAVES];
+    let read = if slip == Slip::LastLeafUnread { LEAVES - 1 } else { count };
+    for (at, leaf) in leaves.iter_mut().enumerate().take(read) {
+        *leaf = match field::read(&fields[leaf_columns(at)], slip) {
+            Field::Number(number) => Some(number),
+            Field::Blank if slip != Slip::BlankLeafIsEight => None,
+            Field::Blank | Field::Unreadable => return None,
+        };
+    }
+    Some(leaves)
 }
 
 /// The action; none where it is blank.
@@ -114,15 +144,16 @@ pub struct Entry {
 }
 
 impl Entry {
-    /// Path and action as in an event, four leaf kinds of 2 columns, byte 10. What is unused is
-    /// written as 0.
+    /// Path and action as in an event, the leaf kinds, byte 10. What is unused is written as 0.
     pub fn write(&self, out: &mut impl Write, slip: Slip) -> io::Result<()> {
         write_path(out, &self.path)?;
         field::write(out, self.action.number(), ACTION)?;
-        for kind in self.kinds {
+        let count = if slip == Slip::EntriesOf27 { LEAVES_BEFORE } else { LEAVES };
+        for (at, &kind) in self.kinds.iter().enumerate().take(count) {
             match kind {
-                0 if slip == Slip::BlankWritten => out.write_all(b"  ")?,
-                _ => field::write(out, kind, 2)?,
+                0 if slip == Slip::BlankWritten => write!(out, "{:KIND$}", "")?,
+                _ if slip == Slip::LastKindNotShown && at == LEAVES - 1 => field::write(out, 0, KIND)?,
+                _ => field::write(out, kind, KIND)?,
             }
         }
         out.write_all(b"\n")
@@ -132,8 +163,14 @@ impl Entry {
 /// The bytes of an event; path and action may be any text and number.
 pub fn write(path: &str, action: i32, leaves: Leaves) -> Vec<u8> {
     let path = if path.is_empty() { "0" } else { path };
-    let [a, b, c, d] = leaves;
-    format!("{path:>PATH$}{action:>ACTION$}{a:>LEAF$}{b:>LEAF$}{c:>LEAF$}{d:>LEAF$}\n").into_bytes()
+    let leaves = leaves.map(|leaf| format!("{leaf:>LEAF$}")).concat();
+    format!("{path:>PATH$}{action:>ACTION$}{leaves}\n").into_bytes()
+}
+
+/// The event with its first four leaves alone, as events were before CR 4: 67 bytes, or all that there are.
+pub fn with_four_leaves(event: &[u8]) -> Vec<u8> {
+    let columns = event.len().min(event_bytes(LEAVES_BEFORE) - 1);
+    [&event[..columns], b"\n"].concat()
 }
 
 /// Writes a path right-justified, `0` for the empty one.

@@ -13,7 +13,7 @@ pub enum Ground {
     Sort = 4,
     /// 5: the naming rule broken, or a last row that is no task by its kind.
     Naming = 5,
-    /// 6: a type row over 4 leaves, or over 16 binders or marks.
+    /// 6: a type row over 8 leaves, or over 16 binders or marks.
     Limit = 6,
     /// 7: no typing for the last row as a task.
     Typing = 7,
@@ -29,7 +29,7 @@ pub enum Ground {
     NoState = 22,
     /// 23: normalising would change the state.
     NoRest = 23,
-    /// 24: list memory under 27 bytes an entry.
+    /// 24: list memory under 35 bytes an entry.
     List = 24,
 }
 

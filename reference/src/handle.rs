@@ -75,7 +75,10 @@ impl Rules {
             Task::Shared(cell) => &store.read(*cell).type_of(),
             _ => return None,
         };
-        let content = Value::of_leaves(of, &event.leaves, self.slip)?;
+        let mut content = Value::of_leaves(of, &event.leaves, self.slip)?;
+        if self.slip == Slip::LastLeafDropped {
+            content = content.without_last_leaf();
+        }
         match task {
             Task::Shared(cell) if self.slip != Slip::SharedBecomesFilled => store.write(*cell, content),
             _ => *task = Task::Filled(content),

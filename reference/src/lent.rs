@@ -4,11 +4,11 @@
 //! states that are no rests. Then words are changed, lengths are made wrong, and contents are drawn;
 //! in most inputs nothing or one thing, in some several, so that the order of the grounds shows.
 
-use crate::calls::{self, ENTRY, ROW};
-use crate::event::{Event, EVENT};
+use crate::calls::{self, ROW};
+use crate::event::{entry_bytes, with_four_leaves, Event, ENTRY, EVENT};
 use crate::flow::Flow;
 use crate::generate::{self, blanks, faults, layout, states, touches};
-use crate::limits::LEAVES;
+use crate::limits::{LEAVES, LEAVES_BEFORE};
 use crate::random::Random;
 use crate::rules::Rules;
 use crate::session::COUNT;
@@ -67,7 +67,7 @@ fn input(random: &mut Random) -> Lent {
         }
     }
     if broken[4] {
-        break_length(random, &mut lent.value, 1);
+        break_value(random, &mut lent.value);
     }
     if broken[5] {
         break_event(random, &mut lent.event);
@@ -87,11 +87,13 @@ fn faulty_text(random: &mut Random) -> Vec<u8> {
     input
 }
 
-/// A list memory for so many entries: exactly fitting, too short, or with bytes left.
+/// A list memory for so many entries: exactly fitting, too short, now and then as it fitted before CR 4, or with bytes
+/// left.
 fn list(random: &mut Random, rows: usize, entries: usize) -> Vec<u8> {
     let fitting = ENTRY * entries;
     let length = match random.below(20) {
-        0..=7 => fitting,
+        0..=6 => fitting,
+        7 => entry_bytes(LEAVES_BEFORE) * entries,
         8..=9 => fitting.saturating_sub(1),
         10 => random.below(fitting + 1),
         11 => 0,
@@ -151,6 +153,15 @@ fn break_length(random: &mut Random, words: &mut Vec<i32>, row: usize) {
         _ => random.below(2 * words.len() + 2),
     };
     words.resize_with(length, || random.word());
+}
+
+/// Another length, now and then that of before CR 4.
+fn break_value(random: &mut Random, value: &mut Vec<i32>) {
+    if random.chance(20) {
+        value.truncate(LEAVES_BEFORE);
+    } else {
+        break_length(random, value, 1);
+    }
 }
 
 fn break_text(random: &mut Random, text: &mut Vec<u8>) {
@@ -254,22 +265,26 @@ fn break_word(random: &mut Random, state: &mut [i32]) {
     let rows = 0..state.len() / STATE_ROW;
     let live: Vec<usize> = rows.filter(|row| state[row * STATE_ROW] != 0).collect();
     let row = random.pick(&live).copied().unwrap_or(0) * STATE_ROW;
-    let place = random.weighed(&[(5, 0), (3, 1), (4, 2), (2, 3), (1, 4), (1, 5), (1, 6), (1, 15)]);
+    let leaf = words::LEAF + random.below(LEAVES);
+    let ends = [words::LEAF, words::REST - 1, words::REST, STATE_ROW - 1];
+    let end = *random.pick(&ends).expect("four");
+    let place = random.weighed(&[(5, words::TAG), (3, words::SHAPE), (5, leaf), (5, end)]);
     let word = &mut state[row + place];
     *word = match random.below(4) {
         0 => word.wrapping_add(random.between(-1, 1)),
-        1 if place == 1 => *random.pick(&[1, 2, 3, 44, 60, 56]).expect("shapes"),
+        1 if place == words::SHAPE => *random.pick(&[1, 2, 3, 44, 60, 56]).expect("shapes"),
         1 | 2 => random.between(0, 4),
         _ => random.word(),
     };
 }
 
 fn break_event(random: &mut Random, event: &mut Vec<u8>) {
-    match random.below(5) {
+    match random.below(6) {
         0 => event.truncate(random.below(EVENT)),
         1 => event.extend_from_slice(b"\n"),
         2 => event.extend_from_within(..),
         3 => *event = (0..EVENT).map(|_| random.draw() as u8).collect(),
+        4 => *event = with_four_leaves(event),
         _ => {
             if let Some(at) = some_place(random, event.len()) {
                 event[at] = *random.pick(b" 01234-+\nx").expect("bytes");

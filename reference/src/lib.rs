@@ -1,14 +1,14 @@
 //! A second implementation of document 01, "Kiosk order flows: sheet, state and touches", and of
-//! its change requests CR 1, "A total nobody can type over", CR 2, "Blank where nothing is meant", and CR 3, "Sums
-//! beyond the range".
+//! its change requests CR 1, "A total nobody can type over", CR 2, "Blank where nothing is meant", CR 3, "Sums
+//! beyond the range", and CR 4, "Eight leaves on a proof order".
 //!
 //! Trees inside, words in lent memory. Loading ([`sheet`], [`limits`], [`tree`], [`typing`], put
 //! together in [`flow`]); the rules ([`evaluate`], [`observe`], [`stride`], [`handle`], [`inputs`]);
 //! start, look and handle on a flow ([`state`]); the program ([`session`]). The four calls on lent
 //! memory ([`calls`]) read and write states as words ([`words`]). The rest makes cases ([`generate`])
 //! and lent memory ([`lent`]) to compare engines on ([`compare`], [`engine`], [`program`] with the
-//! [`edges`], [`blank_edges`] and [`overflow_edges`]), tells what the cases cover ([`coverage`]) and names
-//! wrong variants ([`slips`]).
+//! [`edges`], [`blank_edges`], [`overflow_edges`] and [`leaf_edges`]), tells what the cases cover ([`coverage`])
+//! and names wrong variants ([`slips`]).
 #![forbid(unsafe_code)]
 
 pub mod binders;
@@ -27,6 +27,7 @@ pub mod grounds;
 pub mod handle;
 pub mod inputs;
 pub mod kinds;
+pub mod leaf_edges;
 pub mod lent;
 pub mod limits;
 pub mod observe;

@@ -5,8 +5,10 @@ use crate::kinds;
 use crate::sheet::Row;
 use crate::slips::Slip;
 
-/// Leaves of a type at most.
-pub const LEAVES: usize = 4;
+/// Leaves of a type at most (CR 4). Every width that follows from it is reckoned from it.
+pub const LEAVES: usize = 8;
+/// The same before CR 4: events, entries and values of that width are refused now.
+pub const LEAVES_BEFORE: usize = 4;
 /// Binders, and marks, that enclose a row at most.
 pub const ENCLOSING: usize = 16;
 
@@ -19,7 +21,11 @@ pub struct Enclosing {
 
 /// Ground 6. To be asked where grounds 1 to 5 do not hold.
 pub fn check(rows: &[Row], slip: Slip) -> Result<(), Ground> {
-    let most_leaves = LEAVES + usize::from(slip == Slip::TypeOfFive);
+    let most_leaves = match slip {
+        Slip::TypeOfNine => LEAVES + 1,
+        Slip::TypeOverFour => LEAVES_BEFORE,
+        _ => LEAVES,
+    };
     let most_binders = most(slip, Slip::Binders17, Slip::Binders15);
     let most_marks = most(slip, Slip::Marks17, Slip::Marks15);
     let asked = |at| slip != Slip::UnusedTypeIgnored || rows.iter().any(|row| row.named().any(|name| name == at));

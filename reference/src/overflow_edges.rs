@@ -4,6 +4,7 @@
 use crate::event;
 use crate::generate::counted;
 use crate::sheet::Row;
+use crate::value::padded;
 
 /// Rows being added: the type number, and a cell of numbers that starts with 7.
 #[derive(Clone, Debug)]
@@ -329,7 +330,7 @@ pub fn sheet(place: Place, task: &dyn Fn(&mut Rows) -> i32, beside: bool) -> Vec
 
 /// Every action at the empty path and behind a mark; the numbers that are sent are small.
 pub fn touches() -> Vec<Vec<u8>> {
-    let touch = |(path, action)| event::write(path, action, [i32::from(action == 1), 0, 0, 0]);
+    let touch = |(path, action)| event::write(path, action, padded(&[i32::from(action == 1)]));
     let paths = ["", "1", "2"];
     paths.into_iter().flat_map(|path| [(path, 2), (path, 3), (path, 4), (path, 1), (path, 2)]).map(touch).collect()
 }
@@ -369,6 +370,6 @@ fn waiting() -> Vec<u8> {
     let product = rows.add(24, 3, entered, factor);
     let (shown, empty) = (rows.add(49, product, 0, 0), rows.empty());
     rows.add(43, empty, shown, 0);
-    let entered = [46_341, -46_341, i32::MIN, 46_340].map(|number| event::write("", 1, [number, 0, 0, 0]));
+    let entered = [46_341, -46_341, i32::MIN, 46_340].map(|number| event::write("", 1, padded(&[number])));
     [counted(&rows.0), entered.concat()].concat()
 }

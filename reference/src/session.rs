@@ -1,18 +1,29 @@
 //! The program (01, "A session in full").
 
-use crate::event::{EVENT, LEAF};
+use crate::event::{event_bytes, EVENT, LEAF};
 use crate::field;
 use crate::flow::Flow;
 use crate::grounds::Ground;
-use crate::limits::LEAVES;
+use crate::limits::{LEAVES, LEAVES_BEFORE};
 use crate::rules::Rules;
 use crate::sheet::{LINE, LINES};
 use crate::slips::Slip;
 use crate::state::{Look, State};
 use std::io::{self, BufReader, Read, Write};
+use std::ops::Range;
 
 /// Bytes of the row count with its byte 10.
 pub const COUNT: usize = 5;
+
+/// Columns of the answer, the strides and the entry count, and of each flag.
+const NUMBER: usize = 4;
+const FLAG: usize = 2;
+/// The columns of the value's leaves in a head line begin here.
+pub const HEAD_LEAVES: usize = 2 * NUMBER + 2 * FLAG;
+/// The columns of its entry count.
+pub const HEAD_COUNT: Range<usize> = HEAD_LEAVES + LEAVES * LEAF..HEAD_LEAVES + LEAVES * LEAF + NUMBER;
+/// Bytes of a head line with its byte 10.
+pub const HEAD: usize = HEAD_COUNT.end + 1;
 
 /// Reads the row count, a sheet and events, and prints a screen after start and each event.
 pub fn run<R: Read>(input: R, mut output: impl Write, rules: Rules) -> io::Result<()> {
@@ -27,14 +38,15 @@ pub fn run<R: Read>(input: R, mut output: impl Write, rules: Rules) -> io::Resul
     };
     let (mut state, strides) = State::start(&flow);
     print(&mut output, Ok(strides), &state.look(), rules.slip)?;
-    let mut event = Vec::with_capacity(EVENT);
+    let length = if rules.slip == Slip::EventsOf67 { event_bytes(LEAVES_BEFORE) } else { EVENT };
+    let mut event = Vec::with_capacity(length);
     loop {
         if input.buffer().is_empty() {
             output.flush()?;
         }
-        // Events are cut every 67 bytes, with no looking for byte 10; a short last one answers 8.
-        read_up_to(&mut input, EVENT, &mut event)?;
-        if event.is_empty() || (event.len() < EVENT && rules.slip == Slip::ShortEventSkipped) {
+        // Events are cut every 115 bytes, with no looking for byte 10; a short last one answers 8.
+        read_up_to(&mut input, length, &mut event)?;
+        if event.is_empty() || (event.len() < length && rules.slip == Slip::ShortEventSkipped) {
             return output.flush();
         }
         let answer = state.handle(&event);
@@ -77,21 +89,22 @@ fn read_up_to(input: &mut impl Read, length: usize, bytes: &mut Vec<u8>) -> io::
     input.take(length as u64).read_to_end(bytes).map(|_| ())
 }
 
-/// Answer (4), strides (4), failing (2), value flag (2), leaves (4 of 12), entry count (4), byte
+/// Answer (4), strides (4), failing (2), value flag (2), leaves (8 of 12), entry count (4), byte
 /// 10, then the entries.
 fn print(output: &mut impl Write, answer: Result<usize, Ground>, look: &Look, slip: Slip) -> io::Result<()> {
     let (number, strides) = match answer {
         Ok(strides) => (0, strides as i32),
         Err(ground) => (ground.number(), 0),
     };
-    field::write(output, number, 4)?;
-    field::write(output, strides, 4)?;
-    field::write(output, look.failing.into(), 2)?;
-    field::write(output, look.value.is_some().into(), 2)?;
-    for leaf in look.value.as_ref().map_or([0; LEAVES], |value| value.leaves(slip)) {
+    field::write(output, number, NUMBER)?;
+    field::write(output, strides, NUMBER)?;
+    field::write(output, look.failing.into(), FLAG)?;
+    field::write(output, look.value.is_some().into(), FLAG)?;
+    let leaves = look.value.as_ref().map_or([0; LEAVES], |value| value.leaves(slip));
+    for &leaf in leaves.iter().take(if slip == Slip::HeadOf64 { LEAVES_BEFORE } else { LEAVES }) {
         field::write(output, leaf, LEAF)?;
     }
-    field::write(output, look.entries.len() as i32, 4)?;
+    field::write(output, look.entries.len() as i32, NUMBER)?;
     output.write_all(b"\n")?;
     look.entries.iter().try_for_each(|entry| entry.write(output, slip))
 }

@@ -49,9 +49,11 @@ slips! {
     NeverNamed: "a row may be named never",
     PlainLastNotNamed: "a plain 25 or 31 as the last row gets 5",
     TypingBeforeLimits: "ground 7 comes before ground 6",
-    TypeOfFive: "a type row may have 5 leaves",
+    TypeOfNine: "a type row may have 9 leaves",
+    TypeOverFour: "a type row over 4 leaves gets 6",
     UnusedTypeIgnored: "a type row that nothing names may have any leaves",
-    ExpressionOfFive: "an expression may have 5 leaves",
+    ExpressionOfNine: "an expression may have 9 leaves",
+    ExpressionOverFour: "an expression over 4 leaves gets 7",
     Binders17: "17 binders are read",
     Binders15: "16 binders get 6",
     BinderEnclosesA: "a binder encloses its A too",
@@ -76,6 +78,8 @@ slips! {
     BinderNextOut: "a binder reads the next one outward, where that is of its type",
     WritesFirstCell: "a write goes to the first cell of its type",
     LeavesSwapped: "the leaves of a pair are shown swapped",
+    LastLeafNotShown: "leaf 8 of the value is shown as 0",
+    BoundLeafDropped: "a binder's value has lost its leaf 8",
 
     // Value and failing
     EmptyHasZero: "an empty editor has the value 0",
@@ -133,6 +137,7 @@ slips! {
     BlankMeetsUnit: "a blank leaf is a unit",
     BlankLeafIsZero: "a blank leaf of an editor is 0",
     BlankUnusedLeafRefused: "a blank in an unused leaf of a value gets 9",
+    LastLeafDropped: "an editor takes leaf 8 and keeps 0",
 
     // The list
     ContinueShownUntried: "Continue is offered because a value stands, without trying the right side",
@@ -143,6 +148,8 @@ slips! {
     RightShownFirst: "Right is listed before Left",
     MarksExchangedInList: "marks are exchanged in the list",
     BlankWritten: "an unused leaf kind is written blank",
+    LastKindNotShown: "the kind of leaf 8 is shown as 0",
+    EntriesOf27: "an entry has four leaf kinds",
 
     // Events and the session
     EventByteTenUnread: "an event may end in any byte",
@@ -155,4 +162,8 @@ slips! {
     LeafAtContinueIsNine: "a leaf not 0 at Continue, Left or Right gets 9",
     UnfittingLeafIsEight: "a leaf that does not fit its editor gets 8",
     ShortEventSkipped: "a short last event is not answered",
+    EventsOf67: "events are cut every 67 bytes, and have four leaves",
+    EventOf67Read: "a last event of 67 bytes is read as one whose leaves 5 to 8 are 0",
+    LastLeafUnread: "leaf 8 of an event is not read, and is 0",
+    HeadOf64: "a head line has four leaves",
 }

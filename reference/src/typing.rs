@@ -1,7 +1,7 @@
 //! Typing (01, "The sheet"; the paper's rules T-). It is syntax-directed.
 
 use crate::binders::Binders;
-use crate::limits::LEAVES;
+use crate::limits::{LEAVES, LEAVES_BEFORE};
 use crate::operators::Operator;
 use crate::slips::Slip;
 use crate::syntax::{Code, Plain, Type};
@@ -81,7 +81,11 @@ impl Typing<'_> {
 
     /// The pair type, if it has no more leaves than a type may have.
     fn pair(&self, first: Type, second: Type) -> Option<Type> {
-        let most = LEAVES + usize::from(self.slip == Slip::ExpressionOfFive);
+        let most = match self.slip {
+            Slip::ExpressionOfNine => LEAVES + 1,
+            Slip::ExpressionOverFour => LEAVES_BEFORE,
+            _ => LEAVES,
+        };
         (first.leaves() + second.leaves() <= most).then(|| Type::pair(first, second))
     }
 }

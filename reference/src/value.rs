@@ -18,6 +18,13 @@ pub type Leaves = [i32; LEAVES];
 /// The leaves of an event, each a number or left blank (CR 2).
 pub type Given = [Option<i32>; LEAVES];
 
+/// Leaves of which the first are these, and the others 0.
+pub fn padded(first: &[i32]) -> Leaves {
+    let mut leaves = [0; LEAVES];
+    leaves[..first.len()].copy_from_slice(first);
+    leaves
+}
+
 impl Value {
     pub fn pair(first: Value, second: Value) -> Self {
         Value::Pair(Rc::new((first, second)))
@@ -61,7 +68,17 @@ impl Value {
     pub fn leaves(&self, slip: Slip) -> Leaves {
         let mut leaves = [0; LEAVES];
         self.write_leaves(&mut leaves.iter_mut(), slip);
+        if slip == Slip::LastLeafNotShown {
+            leaves[LEAVES - 1] = 0;
+        }
         leaves
+    }
+
+    /// The same value with 0 in leaf 8, where it has one: what a slip makes of it.
+    pub fn without_last_leaf(&self) -> Value {
+        let mut leaves = self.leaves(Slip::None);
+        leaves[LEAVES - 1] = 0;
+        Self::of_leaves(&self.type_of(), &leaves.map(Some), Slip::None).expect("0 fits every leaf")
     }
 
     fn write_leaves<'l>(&self, rest: &mut impl Iterator<Item = &'l mut i32>, slip: Slip) {

@@ -14,16 +14,16 @@ use crate::value::{Leaves, Value};
 /// Words a row of a state.
 pub const STATE_ROW: usize = 16;
 /// The places in a row: the tag, the shape of the value, its first leaf, what is always 0.
-const TAG: usize = 0;
-const SHAPE: usize = 1;
-const LEAF: usize = 2;
-const REST: usize = LEAF + LEAVES;
+pub const TAG: usize = 0;
+pub const SHAPE: usize = 1;
+pub const LEAF: usize = 2;
+pub const REST: usize = LEAF + LEAVES;
 
 /// The words of one row.
 type RowWords = [i32; STATE_ROW];
 
 /// The shape of a type as one number: its nodes in prefix order, a digit of base 4 each, the first
-/// the least.
+/// the least. A type of 8 leaves has 15 nodes, so a shape is below 2^30.
 pub fn shape(of: &Type) -> i32 {
     digits(of).0
 }

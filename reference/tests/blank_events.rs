@@ -4,7 +4,7 @@
 mod common;
 
 use common::*;
-use reference::blank_edges::{all_blank, each_set_blank};
+use reference::blank_edges::{all_blank, each_set_blank, each_width};
 use reference::event::{self, leaf_columns, Event, ACTION, EVENT, PATH};
 use reference::flow::Flow;
 use reference::generate::{self, touches};
@@ -12,6 +12,7 @@ use reference::limits::LEAVES;
 use reference::random::Random;
 use reference::rules::Rules;
 use reference::session;
+use reference::sheet::{self, Row};
 use reference::slips::Slip;
 use reference::state::State;
 use std::ops::Range;
@@ -41,9 +42,9 @@ fn the_session_of_01_with_blanks() {
         "   9  45           0                        \n",
         "  10  25           4           8           9\n",
         "  11  43           1          10            \n",
-        "                 1          12                                    \n",
-        "                 1           4                                    \n",
-        "                 2                                                \n",
+        "                 1          12                                                                                    \n",
+        "                 1           4                                                                                    \n",
+        "                 2                                                                                                \n",
     );
     assert!(input.as_bytes()[5..].starts_with(&all_blank(&printed().0)));
     let output = session::screens(input.as_bytes(), Rules::default());
@@ -68,9 +69,10 @@ fn events_as_they_are_read() {
 /// no leaf of the value is blank; the path may be.
 #[test]
 fn each_leaf_at_each_editor() {
-    let types = [[1, 0, 0, 0], [2, 0, 0, 0], [3, 0, 0, 0], [4, 0, 1, 0], [4, 3, 2, 0], [4, 0, 4, 0]];
-    for (of, own) in [1, 1, 1, 2, 3, 4].into_iter().enumerate() {
-        let sheet = sheet_of(&[&types[..], &[[41, of as i32, 0, 0]]].concat()).text();
+    let (types, fitting): (Vec<Row>, Vec<Vec<i32>>) = each_width().into_iter().unzip();
+    for (of, fitting) in fitting.iter().enumerate() {
+        let own = fitting.len();
+        let sheet = sheet::write(&[&types[..], &[Row::new(41, of as i32, 0, 0)]].concat());
         for event in each_set_blank(&event::write("", 1, [0; LEAVES])) {
             let is_blank = |leaf: usize| event[leaf_columns(leaf)].iter().all(|&byte| byte == b' ');
             let expected = if (0..own).any(is_blank) { 9 } else { 0 };
@@ -95,7 +97,7 @@ fn a_blank_is_no_unit() {
     let screens = screens(&sheet, &[with_blank(&zero, leaf_columns(0)), zero]);
     assert_eq!(screens.iter().map(|screen| screen.answer).collect::<Vec<_>>(), [0, 9, 0]);
     assert_eq!((screens[1].value, screens[2].value), (None, Some([0; LEAVES])));
-    assert!(screens.iter().all(|screen| screen.entries == ["0 1 1 0 0 0"]));
+    assert!(screens.iter().all(|screen| screen.entries == ["0 1 1 0 0 0 0 0 0 0"]));
 }
 
 /// Continue, Left and Right: a blank leaf is as 0, taken or not; a leaf not 0 beside it is 8.

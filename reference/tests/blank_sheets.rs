@@ -12,6 +12,7 @@ use reference::flow::Flow;
 use reference::generate::{self, blanks};
 use reference::grounds::Ground;
 use reference::kinds::{self, Operand};
+use reference::limits::LEAVES;
 use reference::random::Random;
 use reference::rules::Rules;
 use reference::session;
@@ -187,7 +188,7 @@ fn a_blank_among_other_grounds() {
 /// A blank row count is unreadable: 1, with lines behind it and without.
 #[test]
 fn a_blank_row_count_gets_1() {
-    let one = "   1   0 0 0           0           0           0           0   0\n";
+    let one = format!("   1   0 0 0{}   0\n", "           0".repeat(LEAVES));
     for lines in [&b""[..], &printed().text()] {
         let input = [b"    \n", lines].concat();
         assert_eq!(String::from_utf8_lossy(&session::screens(&input, Rules::default())), one);

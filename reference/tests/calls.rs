@@ -4,9 +4,10 @@
 mod common;
 
 use common::*;
-use reference::calls::{self, Looked, ENTRY, ROW};
-use reference::event::{self, EVENT};
+use reference::calls::{self, Looked, ROW};
+use reference::event::{self, ENTRY, EVENT, LEAF};
 use reference::generate::{self, states};
+use reference::limits::LEAVES;
 use reference::random::Random;
 use reference::rules::Rules;
 use reference::session;
@@ -48,15 +49,15 @@ fn handle(rows: &[i32], state: &[i32], event: &[u8]) -> (u32, u32, Vec<i32>) {
     (number, strides, after)
 }
 
-/// The screen of a state, as the session prints it. A list of 27 bytes a row is long enough.
+/// The screen of a state, as the session prints it. A list of 35 bytes a row is long enough.
 fn screen(rows: &[i32], state: &[i32], number: u32, strides: u32) -> Vec<u8> {
-    let (looked, value, list) = look(rows, state, &[9; 4], &vec![b'#'; rows.len() / ROW * ENTRY]);
+    let (looked, value, list) = look(rows, state, &[9; LEAVES], &vec![b'#'; rows.len() / ROW * ENTRY]);
     assert_eq!(looked.number, 0);
-    assert!(looked.valued || value == [0; 4]);
-    let [a, b, c, d] = value[..] else { panic!("4 words") };
+    assert!(looked.valued || value == [0; LEAVES]);
+    let leaves: String = value.iter().map(|leaf| format!("{leaf:>LEAF$}")).collect();
     let flags = format!("{:>2}{:>2}", u32::from(looked.fails), u32::from(looked.valued));
     let count = looked.bytes / ENTRY;
-    let mut screen = format!("{number:>4}{strides:>4}{flags}{a:>12}{b:>12}{c:>12}{d:>12}{count:>4}\n").into_bytes();
+    let mut screen = format!("{number:>4}{strides:>4}{flags}{leaves}{count:>4}\n").into_bytes();
     screen.extend_from_slice(&list[..looked.bytes]);
     screen
 }
@@ -65,8 +66,8 @@ fn screen(rows: &[i32], state: &[i32], number: u32, strides: u32) -> Vec<u8> {
 fn screens_by_calls(sheet: &[u8], events: &[u8]) -> Vec<u8> {
     let (number, rows) = load(sheet, &vec![-1; sheet.len() / LINE * ROW]);
     if number != 0 {
-        return format!("{number:>4}{:>4}{:>2}{:>2}{:>12}{:>12}{:>12}{:>12}{:>4}\n", 0, 0, 0, 0, 0, 0, 0, 0)
-            .into_bytes();
+        let leaves = format!("{:>LEAF$}", 0).repeat(LEAVES);
+        return format!("{number:>4}{:>4}{:>2}{:>2}{leaves}{:>4}\n", 0, 0, 0, 0).into_bytes();
     }
     let (number, strides, mut state) = start(&rows, &vec![-1; rows.len() / ROW * STATE_ROW]);
     assert_eq!(number, 0);
@@ -143,7 +144,8 @@ fn load_1_then_21_then_2_to_7() {
     unreadable[44] = b' ';
     let deep = {
         let mut sheet = numbers();
-        for at in 0..3 {
+        // Types that double up to 16 leaves.
+        for at in 0..=LEAVES.ilog2() as i32 {
             sheet.row(4, at, at, 0);
         }
         sheet.empty();
@@ -205,24 +207,24 @@ fn look_20_to_24() {
     let mut no_state = state.clone();
     no_state[79] = 1;
     let no_rest = unrested();
-    let entry = b"               0 1 3 0 0 0\n";
-    let (looked, value, list) = look(&rows, &state, &[7; 4], &[b'#'; 30]);
-    assert_eq!(looked, Looked { number: 0, valued: false, fails: false, bytes: 27 });
-    assert_eq!((&value[..], &list[..]), (&[0; 4][..], &[&entry[..], b"###"].concat()[..]));
-    assert_eq!(number(&rows, &state, 4, 27), 0);
-    assert_eq!((number(&rows, &state, 4, 26), number(&rows, &state, 4, 0)), (24, 24));
+    let entry = b"               0 1 3 0 0 0 0 0 0 0\n";
+    let (looked, value, list) = look(&rows, &state, &[7; LEAVES], &[b'#'; ENTRY + 3]);
+    assert_eq!(looked, Looked { number: 0, valued: false, fails: false, bytes: ENTRY });
+    assert_eq!((&value[..], &list[..]), (&[0; LEAVES][..], &[&entry[..], b"###"].concat()[..]));
+    assert_eq!(number(&rows, &state, LEAVES, ENTRY), 0);
+    assert_eq!((number(&rows, &state, LEAVES, ENTRY - 1), number(&rows, &state, LEAVES, 0)), (24, 24));
     // Each of 20 to 24 with those after it.
-    for list in [0, 26, 27, 100] {
-        assert_eq!(number(&rows, &no_rest, 4, list), 23);
-        assert_eq!(number(&rows, &no_state, 4, list), 22);
+    for list in [0, ENTRY - 1, ENTRY, 100] {
+        assert_eq!(number(&rows, &no_rest, LEAVES, list), 23);
+        assert_eq!(number(&rows, &no_state, LEAVES, list), 22);
         for words in [&state, &no_state, &no_rest] {
-            for value in [0, 3, 5] {
+            for value in [0, LEAVES - 1, LEAVES + 1] {
                 assert_eq!(number(&rows, words, value, list), 21);
             }
-            assert_eq!(number(&rows, &words[..79], 4, list), 21);
-            assert_eq!(number(&rows, &[&words[..], &[0]].concat(), 4, list), 21);
+            assert_eq!(number(&rows, &words[..79], LEAVES, list), 21);
+            assert_eq!(number(&rows, &[&words[..], &[0]].concat(), LEAVES, list), 21);
             for bad in bad_rows() {
-                for value in [3, 4] {
+                for value in [LEAVES - 1, LEAVES] {
                     assert_eq!(number(&bad, words, value, list), 20);
                     assert_eq!(number(&bad, &words[..79], value, list), 20);
                 }
@@ -236,7 +238,7 @@ fn look_20_to_24() {
 fn look_at_a_quiet_flow() {
     let quiet = |rows: [i32; 8]| {
         let (_, _, state) = start(&rows, &[7; 32]);
-        let (looked, value, _) = look(&rows, &state, &[7; 4], &[]);
+        let (looked, value, _) = look(&rows, &state, &[7; LEAVES], &[]);
         (looked, value[0])
     };
     let fail = Looked { number: 0, valued: false, fails: true, bytes: 0 };
@@ -289,12 +291,12 @@ fn ground_23_at_any_state() {
         let number = if changed { 23 } else { 0 };
         counts[usize::from(changed)] += 1;
         let list = vec![b'#'; rows.len() / ROW * ENTRY];
-        assert_eq!(look(&rows, &words::write(&flow, &state), &[7; 4], &list).0.number, number);
+        assert_eq!(look(&rows, &words::write(&flow, &state), &[7; LEAVES], &list).0.number, number);
         let rest = words::write(&flow, &after);
-        assert_eq!(look(&rows, &rest, &[7; 4], &list).0.number, 0);
+        assert_eq!(look(&rows, &rest, &[7; LEAVES], &list).0.number, 0);
         for entry in &after.look().entries {
             let path = String::from_utf8_lossy(&entry.path);
-            let event = event::write(&path, entry.action.number(), [0; 4]);
+            let event = event::write(&path, entry.action.number(), [0; LEAVES]);
             let (number, strides, moved) = handle(&rows, &rest, &event);
             assert_eq!(number, 0);
             let mut expected = after.clone();

@@ -44,7 +44,6 @@ fn cases_cover_the_document() {
     assert_eq!((coverage.binders.most(), coverage.marks.most()), (Some(16), Some(16)));
     at_least(&coverage.binders, (0..=6).chain([16]), 50, "binders");
     at_least(&coverage.marks, (0..=4).chain([16]), 40, "marks");
-    at_least(&coverage.leaves, 1..=4, 150, "leaves");
     at_least(&coverage.events, [0, 8, 9], 1500, "events answered");
     at_least(&coverage.actions, 1..=4, 400, "actions accepted");
     at_least(&coverage.paths, 0..=16, 3, "path length accepted");
@@ -68,6 +67,12 @@ fn cases_cover_the_document() {
     let over_5_in_100 = COUNT as usize / 20 + 1;
     at_least(&coverage.overflows, [AT_START, RIGHT_SIDE, 48], over_5_in_100, "sheets that leave the range in");
     at_least(&coverage.overflows, 43..=44, 75, "sheets that leave the range in");
+    // CR 4: each number of leaves comes up in over 100 sheets: of the own type, of an editor, of a value shown.
+    for (tally, of) in [(&coverage.leaves, "own"), (&coverage.editors, "editor"), (&coverage.shown, "value shown")] {
+        at_least(tally, 1..=LEAVES, 101, &format!("sheets by leaves, {of}"));
+        assert_eq!((tally.least(), tally.most()), (Some(1), Some(LEAVES)));
+    }
+    at_least(&coverage.given, 1..=LEAVES, 250, "values accepted by leaves");
 }
 
 #[test]

@@ -24,7 +24,7 @@ fn p5_choice_of_two_filled_is_the_left_alone() {
     let (one, two) = (sheet.filled(1), sheet.filled(2));
     sheet.row(47, one, two, 0);
     let screen = last_screen(&sheet, &[]);
-    assert_eq!((screen.leaf(), screen.entries), (Some(1), vec!["0 1 3 0 0 0".to_string()]));
+    assert_eq!((screen.leaf(), screen.entries), (Some(1), vec!["0 1 3 0 0 0 0 0 0 0".to_string()]));
 }
 
 #[test]
@@ -33,7 +33,7 @@ fn p6_choice_of_empty_and_filled_is_the_right_alone() {
     let (empty, two) = (sheet.empty(), sheet.filled(2));
     sheet.row(47, empty, two, 0);
     let screen = last_screen(&sheet, &[]);
-    assert_eq!((screen.leaf(), screen.entries), (Some(2), vec!["0 1 3 0 0 0".to_string()]));
+    assert_eq!((screen.leaf(), screen.entries), (Some(2), vec!["0 1 3 0 0 0 0 0 0 0".to_string()]));
 }
 
 #[test]
@@ -50,7 +50,7 @@ fn p8_pick_of_filled_and_fail_offers_left_only() {
     let mut sheet = numbers();
     let (filled, fail) = (sheet.filled(1), sheet.fail());
     sheet.row(48, filled, fail, 0);
-    assert_eq!(last_screen(&sheet, &[]).entries, ["0 3 0 0 0 0"]);
+    assert_eq!(last_screen(&sheet, &[]).entries, ["0 3 0 0 0 0 0 0 0 0"]);
 }
 
 #[test]
@@ -58,7 +58,7 @@ fn p9_continue_to_fail_is_not_offered() {
     let mut sheet = numbers();
     let (filled, fail) = (sheet.filled(1), sheet.fail());
     sheet.row(44, filled, fail, 0);
-    assert_eq!(last_screen(&sheet, &[]).entries, ["0 1 3 0 0 0"]);
+    assert_eq!(last_screen(&sheet, &[]).entries, ["0 1 3 0 0 0 0 0 0 0"]);
 }
 
 #[test]
@@ -86,7 +86,7 @@ fn p11_strides_to_rest() {
     let writer = sheet.row(43, filled, writing, 0);
     sheet.row(46, waiting, writer, 0);
     let screen = last_screen(&sheet, &[]);
-    assert_eq!((screen.value, screen.strides), (Some([1, 0, 0, 0]), 3));
+    assert_eq!((screen.value, screen.strides), (Some(padded(&[1])), 3));
 }
 
 /// CR 3: "P12 becomes a filled editor of that sum, which fails".
@@ -191,7 +191,10 @@ fn edge_a_field_of_2147483648_gets_2() {
 
 #[test]
 fn edge_empty_text_gets_1() {
-    let one = "   1   0 0 0           0           0           0           0   0\n";
+    let one = concat!(
+        "   1   0 0 0           0           0           0           0",
+        "           0           0           0           0   0\n"
+    );
     assert_eq!(session::screens(b"", Rules::default()), one.as_bytes());
     assert_eq!(session::screens(b"   0\n", Rules::default()), one.as_bytes());
     assert_eq!(Flow::load(b"", Rules::default()).unwrap_err().number(), 1);
@@ -212,7 +215,7 @@ fn row_counts_that_get_1() {
     }
 }
 
-/// Bytes after the counted lines are events, cut every 67 bytes; a short last one answers 8.
+/// Bytes after the counted lines are events, cut every 115 bytes; a short last one answers 8.
 #[test]
 fn events_are_cut_by_length() {
     let sheet = long(3).text();

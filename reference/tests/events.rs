@@ -1,10 +1,11 @@
 //! Grounds 8 and 9: events that cannot be read, and events that nothing takes. Blanks are in
-//! `blanks.rs`.
+//! `blank_events.rs`.
 
 mod common;
 
 use common::*;
-use reference::event;
+use reference::event::{self, EVENT};
+use reference::limits::LEAVES;
 
 /// Events on an empty editor of a number: 8 by their form, 9 where no rule derives a step.
 #[test]
@@ -17,7 +18,7 @@ fn grounds_8_and_9() {
         assert_eq!(answer(value(path, 5)), 8, "{path:?}");
     }
     for action in [-1, 0, 5, 9] {
-        assert_eq!(answer(event::write("", action, [0; 4])), 8);
+        assert_eq!(answer(event::write("", action, [0; LEAVES])), 8);
     }
     for (at, byte) in [
         (15, b'\t'),
@@ -25,8 +26,8 @@ fn grounds_8_and_9() {
         (16, b'+'),
         (17, b' '),
         (29, b'x'),
-        (66, b' '),
-        (66, b'\r'),
+        (EVENT - 1, b' '),
+        (EVENT - 1, b'\r'),
         (28, b'0'),
         (28, b'+'),
         (28, b'5'),
@@ -37,8 +38,8 @@ fn grounds_8_and_9() {
         assert_eq!(answer(event), if readable { 0 } else { 8 }, "byte {byte} at {at}");
     }
     for action in 2..=4 {
-        for leaf in 0..4 {
-            let mut leaves = [0; 4];
+        for leaf in 0..LEAVES {
+            let mut leaves = [0; LEAVES];
             assert_eq!(answer(event::write("", action, leaves)), 9);
             leaves[leaf] = 1;
             assert_eq!(answer(event::write("", action, leaves)), 8);
@@ -47,21 +48,21 @@ fn grounds_8_and_9() {
     // 9: a path that leads nowhere, an unused leaf not 0.
     assert_eq!(answer(value("1", 5)), 9);
     assert_eq!(answer(value("1212121212121212", 5)), 9);
-    assert_eq!(answer(event::write("", 1, [5, 0, 0, 1])), 9);
+    assert_eq!(answer(event::write("", 1, padded(&[5, 0, 0, 1]))), 9);
     // Both: 8 wins.
     let mut both = go_on("21");
-    both[66] = b' ';
+    both[EVENT - 1] = b' ';
     assert_eq!(answer(both), 8);
-    assert_eq!(answer(event::write("2", 2, [0, 0, 0, 1])), 8);
-    assert_eq!(answer(value("2", 5)[..66].to_vec()), 8);
+    assert_eq!(answer(event::write("2", 2, padded(&[0, 0, 0, 1]))), 8);
+    assert_eq!(answer(value("2", 5)[..EVENT - 1].to_vec()), 8);
 }
 
 /// Truths and units in events: 9, not 8.
 #[test]
 fn ground_9_leaves_that_do_not_fit() {
     let sheet = sheet_of(&[[1, 0, 0, 0], [2, 0, 0, 0], [3, 0, 0, 0], [4, 1, 2, 0], [4, 0, 3, 0], [41, 4, 0, 0]]);
-    let answer = |leaves| last_screen(&sheet, &[event::write("", 1, leaves)]).answer;
-    assert_eq!(last_screen(&sheet, &[]).entries, ["0 1 1 2 3 0"]);
+    let answer = |leaves: [i32; 4]| last_screen(&sheet, &[event::write("", 1, padded(&leaves))]).answer;
+    assert_eq!(last_screen(&sheet, &[]).entries, ["0 1 1 2 3 0 0 0 0 0"]);
     assert_eq!(answer([0, 1, -7, 0]), 0);
     assert_eq!(answer([0, 0, i32::MIN, 0]), 0);
     assert_eq!(answer([1, 0, 0, 0]), 9);

@@ -6,27 +6,28 @@ mod common;
 use common::loads;
 use reference::sheet::{self, Row};
 
-/// A sheet of `lines` lines, 10 of them at least, with these faults, which do not touch each
+/// A sheet of `lines` lines, 11 of them at least, with these faults, which do not touch each
 /// other's rows. `late` puts faults 2 and 3 below all others.
 fn text_with(faults: &[i32], late: bool, lines: usize) -> Vec<u8> {
     let has = |fault| faults.contains(&fault);
-    let base = lines as i32 - 10;
-    let mut rows = vec![Row::new(3, 0, 0, 0); lines - 10];
+    let base = lines as i32 - 11;
+    let mut rows = vec![Row::new(3, 0, 0, 0); lines - 11];
     rows.extend([
         Row::new(3, 0, 0, 0),
         Row::new(2, 0, 0, 0),
         Row::new(4, base, base, 0),
         Row::new(4, base + 2, base + 2, 0),
-        // 6: a type of 5 leaves, which nothing names.
-        Row::new(4, base + if has(6) { 3 } else { 0 }, base, 0),
+        Row::new(4, base + 3, base + 3, 0),
+        // 6: a type of 9 leaves, which nothing names.
+        Row::new(4, base + if has(6) { 4 } else { 0 }, base, 0),
         // 4: a cell of pairs.
         Row::new(10, base + if has(4) { 2 } else { 0 }, 0, 0),
         // 7: a binder that is not there.
         Row::new(if has(7) { 23 } else { 22 }, 5, 0, 0),
-        Row::new(40, base + 6, 0, 0),
+        Row::new(40, base + 7, 0, 0),
         Row::new(45, base, 0, 0),
         // 5: one row named twice, the other never.
-        Row::new(48, base + 7, base + if has(5) { 7 } else { 8 }, 0),
+        Row::new(48, base + 8, base + if has(5) { 8 } else { 9 }, 0),
     ]);
     let place = if late { lines - 1 } else { 0 };
     if has(3) {
@@ -46,7 +47,7 @@ fn text_with(faults: &[i32], late: bool, lines: usize) -> Vec<u8> {
 /// Each fault alone gives its ground, so of each two together both hold.
 #[test]
 fn each_ground_and_each_pair_of_1_to_7() {
-    for lines in [10, 256] {
+    for lines in [11, 256] {
         assert_eq!(loads(&text_with(&[], false, lines)), 0);
         for lower in 1..=7 {
             for late in [false, true] {

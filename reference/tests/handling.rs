@@ -30,8 +30,16 @@ fn editors_take_values() {
     let values: Vec<_> = screens.iter().map(|screen| screen.value).collect();
     assert_eq!(answers(&screens), [0; 6]);
     assert_eq!(values[..2], [None, None]);
-    assert_eq!(values[2..], [Some([4, 5, 3, 3]), Some([4, 6, 3, 3]), Some([4, 6, 7, 7]), Some([4, 6, 8, 8])]);
-    let shown = ["11 1 3 0 0 0", "12 1 3 0 0 0", "21 1 3 0 0 0", "22 1 3 0 0 0"];
+    assert_eq!(
+        values[2..],
+        [
+            Some(padded(&[4, 5, 3, 3])),
+            Some(padded(&[4, 6, 3, 3])),
+            Some(padded(&[4, 6, 7, 7])),
+            Some(padded(&[4, 6, 8, 8]))
+        ]
+    );
+    let shown = ["11 1 3 0 0 0 0 0 0 0", "12 1 3 0 0 0 0 0 0 0", "21 1 3 0 0 0 0 0 0 0", "22 1 3 0 0 0 0 0 0 0"];
     assert_eq!(screens[0].entries, shown);
 }
 
@@ -47,10 +55,10 @@ fn steps_pass_events_to_their_left() {
     sheet.row(44, inner, right, 0);
     let screens = screens(&sheet, &[value("", 1), go_on("")]);
     assert_eq!(answers(&screens), [0; 3]);
-    assert_eq!(screens[0].entries, ["0 1 3 0 0 0"]);
+    assert_eq!(screens[0].entries, ["0 1 3 0 0 0 0 0 0 0"]);
     assert_eq!(
         (screens[1].strides, &screens[1].entries[..]),
-        (2, &["0 1 3 0 0 0".to_string(), "0 2 0 0 0 0".to_string()][..])
+        (2, &["0 1 3 0 0 0 0 0 0 0".to_string(), "0 2 0 0 0 0 0 0 0 0".to_string()][..])
     );
     assert_eq!(screens[2].leaf(), Some(5));
 }
@@ -66,7 +74,7 @@ fn continue_is_passed_by_a_44() {
     sheet.row(44, inner, three, 0);
     let screens = screens(&sheet, &[go_on(""), go_on(""), go_on("")]);
     assert_eq!(answers(&screens), [0, 0, 0, 9]);
-    assert_eq!(screens[0].entries, ["0 1 3 0 0 0", "0 2 0 0 0 0"]);
+    assert_eq!(screens[0].entries, ["0 1 3 0 0 0 0 0 0 0", "0 2 0 0 0 0 0 0 0 0"]);
     assert_eq!(screens[2].leaf(), Some(3));
 }
 
@@ -119,12 +127,12 @@ fn picking_normalises_and_keeps_the_store() {
     let shared = sheet.row(42, CELL, 0, 0);
     sheet.row(46, pick, shared, 0);
     let start = last_screen(&sheet, &[]);
-    assert_eq!(start.entries, ["1 3 0 0 0 0", "1 4 0 0 0 0", "2 1 3 0 0 0"]);
+    assert_eq!(start.entries, ["1 3 0 0 0 0 0 0 0 0", "1 4 0 0 0 0 0 0 0 0", "2 1 3 0 0 0 0 0 0 0"]);
     assert_eq!((start.value, start.strides), (None, 1));
     for (event, number) in [(left("1"), 5), (right("1"), 6)] {
         let screen = last_screen(&sheet, &[event]);
-        assert_eq!((screen.answer, screen.strides, screen.value), (0, 1, Some([number, number, 0, 0])));
-        assert_eq!(screen.entries, ["1 1 3 0 0 0", "2 1 3 0 0 0"]);
+        assert_eq!((screen.answer, screen.strides, screen.value), (0, 1, Some(padded(&[number, number]))));
+        assert_eq!(screen.entries, ["1 1 3 0 0 0 0 0 0 0", "2 1 3 0 0 0 0 0 0 0"]);
     }
 }
 
@@ -136,7 +144,7 @@ fn picking_a_failing_branch_gets_9() {
     sheet.row(48, fail, filled, 0);
     let screens = screens(&sheet, &[left(""), go_on(""), value("", 1), right(""), right("")]);
     assert_eq!(answers(&screens), [0, 9, 9, 9, 0, 9]);
-    assert_eq!(screens[0].entries, ["0 4 0 0 0 0"]);
+    assert_eq!(screens[0].entries, ["0 4 0 0 0 0 0 0 0 0"]);
     assert_eq!(screens[4].leaf(), Some(2));
 }
 
@@ -148,15 +156,15 @@ fn marks_lead_into_both_and_choices() {
     let choice = sheet.row(47, one, two, 0);
     sheet.row(46, choice, three, 0);
     let entries = last_screen(&sheet, &[]).entries;
-    assert_eq!(entries, ["11 1 3 0 0 0", "12 1 3 0 0 0", "2 1 3 0 0 0"]);
+    assert_eq!(entries, ["11 1 3 0 0 0 0 0 0 0", "12 1 3 0 0 0 0 0 0 0", "2 1 3 0 0 0 0 0 0 0"]);
     let refused = [value("", 1), value("1", 1), value("21", 1), value("111", 1), go_on("2"), left("11")];
     let screens_refused = screens(&sheet, &refused);
     assert!(screens_refused[1..].iter().all(|screen| screen.answer == 9 && screen.entries == entries));
     // A chosen 47 has no mark of its own.
     let chosen = screens(&sheet, &[value("12", 7), value("12", 8), value("1", 9), value("2", 3)]);
     assert_eq!(answers(&chosen), [0, 0, 9, 0, 0]);
-    assert_eq!(chosen[1].entries, ["1 1 3 0 0 0", "2 1 3 0 0 0"]);
-    assert_eq!((chosen[1].strides, chosen[4].value), (2, Some([9, 3, 0, 0])));
+    assert_eq!(chosen[1].entries, ["1 1 3 0 0 0 0 0 0 0", "2 1 3 0 0 0 0 0 0 0"]);
+    assert_eq!((chosen[1].strides, chosen[4].value), (2, Some(padded(&[9, 3]))));
 }
 
 /// An event that is handled may let a waiting part go on elsewhere.
@@ -173,7 +181,7 @@ fn a_touch_frees_a_waiting_step() {
     assert_eq!(answers(&screens), [0; 5]);
     let strides: Vec<i32> = screens.iter().map(|screen| screen.strides).collect();
     assert_eq!(strides, [1, 1, 1, 2, 1]);
-    assert_eq!(screens[4].value, Some([21, 2, 0, 0]));
+    assert_eq!(screens[4].value, Some(padded(&[21, 2])));
 }
 
 /// A refused event leaves the screen of the unchanged state, with strides 0.

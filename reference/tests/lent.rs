@@ -4,13 +4,14 @@
 use reference::calls::{self, Looked};
 use reference::coverage::Tally;
 use reference::engine::{Answers, Engine, Reference};
-use reference::event::{leaf_columns, Event, EVENT, LEAF};
+use reference::event::{leaf_columns, Event, ENTRY, EVENT, LEAF};
 use reference::flow::Flow;
 use reference::generate::{self, states};
 use reference::lent::{self, Lent};
 use reference::limits::LEAVES;
 use reference::random::Random;
 use reference::rules::{Asking, Rules};
+use reference::sheet::LINES;
 use reference::slips::Slip;
 use reference::state::{LastRow, State};
 use reference::task::Store;
@@ -121,7 +122,7 @@ fn misread(fault: Fault, rows: &[i32], state: &[i32]) -> Vec<i32> {
     let mut state = state.to_vec();
     for row in state.chunks_exact_mut(STATE_ROW) {
         match fault {
-            WordsAfterLeavesUnread => row[6..].fill(0),
+            WordsAfterLeavesUnread => row[words::REST..].fill(0),
             RowsWithoutTagUnread if row[0] == 0 => row.fill(0),
             _ => {}
         }
@@ -244,10 +245,10 @@ impl Engine for Fault {
         match self {
             MemoryBeforeRows if wrong_length(rows, state) => return refused(21),
             ValueMemoryAfterState if looked.number == 21 && !wrong_length(rows, state) => {
-                let after = calls::look(rows, state, &mut [0; 4], &mut [0; 27 * 256]).number;
+                let after = calls::look(rows, state, &mut [0; LEAVES], &mut [0; ENTRY * LINES]).number;
                 return refused(if after == 0 { 21 } else { after });
             }
-            ListBeforeRest if looked.number == 23 && room < 27 * entries(rows, state) => return refused(24),
+            ListBeforeRest if looked.number == 23 && room < ENTRY * entries(rows, state) => return refused(24),
             ValueKeptWithoutValue if !refuse && !looked.valued => value.copy_from_slice(&value_before),
             ValueClearedOnRefusal if refuse => value.fill(0),
             FlagsExchanged => (looked.valued, looked.fails) = (looked.fails, looked.valued),

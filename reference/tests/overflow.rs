@@ -5,11 +5,13 @@ mod common;
 
 use common::*;
 use reference::calls::{self, Looked, ROW};
+use reference::event::{ENTRY, EVENT};
 use reference::flow::Flow;
+use reference::limits::LEAVES;
 use reference::overflow_edges::{self, Form, Place, Rows, BEYOND, IDLE, PLACES, PLAINS, TASKS};
 use reference::rules::Rules;
 use reference::state::{LastRow, State};
-use reference::value::Value;
+use reference::value::{Leaves, Value};
 use reference::words::STATE_ROW;
 
 /// The place of this name.
@@ -53,7 +55,7 @@ fn refused(screen: &Screen) -> Screen {
 }
 
 /// Beside the cell: its editor, and the Continue that is lit while it holds 7.
-const CELL_IS_7: [&str; 2] = ["2 1 3 0 0 0", "2 2 0 0 0 0"];
+const CELL_IS_7: [&str; 2] = ["2 1 3 0 0 0 0 0 0 0", "2 2 0 0 0 0 0 0 0 0"];
 
 fn beside(own: &[&'static str]) -> Vec<&'static str> {
     [own, &CELL_IS_7].concat()
@@ -134,10 +136,10 @@ fn at_start() {
 fn right_side_of_43() {
     each_beyond(|number, forms, told| {
         let screens = screens_of(place("43"), number, forms, false, &[go_on("")]);
-        assert_eq!(screens[0], shown(false, &["0 1 3 0 0 0"]), "{told}");
+        assert_eq!(screens[0], shown(false, &["0 1 3 0 0 0 0 0 0 0"]), "{told}");
         assert_eq!(screens[1], refused(&screens[0]), "{told}");
         let screens = screens_of(place("43"), number, forms, true, &[value("1", 2), go_on("1")]);
-        let waits = shown(false, &beside(&["1 1 3 0 0 0"]));
+        let waits = shown(false, &beside(&["1 1 3 0 0 0 0 0 0 0"]));
         assert_eq!(screens, [waits.clone(), waits.clone(), refused(&waits)], "{told}");
     });
 }
@@ -147,7 +149,7 @@ fn right_side_of_43() {
 fn right_side_of_44() {
     each_beyond(|number, forms, told| {
         let screens = screens_of(place("44"), number, forms, true, &[go_on("1"), value("1", 2), go_on("1")]);
-        let dark = shown(false, &beside(&["1 1 3 0 0 0"]));
+        let dark = shown(false, &beside(&["1 1 3 0 0 0 0 0 0 0"]));
         assert_eq!(screens, [dark.clone(), refused(&dark), dark.clone(), refused(&dark)], "{told}");
     });
 }
@@ -156,15 +158,16 @@ fn right_side_of_44() {
 #[test]
 fn branches() {
     each_beyond(|number, forms, told| {
-        for (name, lit, dark, other) in
-            [("Left", "1 4 0 0 0 0", left("1"), right("1")), ("Right", "1 3 0 0 0 0", right("1"), left("1"))]
-        {
+        for (name, lit, dark, other) in [
+            ("Left", "1 4 0 0 0 0 0 0 0 0", left("1"), right("1")),
+            ("Right", "1 3 0 0 0 0 0 0 0 0", right("1"), left("1")),
+        ] {
             let screens = screens_of(place(name), number, forms, true, &[dark, other]);
             let one = shown(false, &beside(&[lit]));
             assert_eq!(screens[..2], [one.clone(), refused(&one)], "{told}");
             // The other is taken, and the cell beside still holds 7.
             assert_eq!((screens[2].answer, screens[2].value), (0, None), "{told}");
-            assert_eq!(screens[2].entries, beside(&["1 1 3 0 0 0"]), "{told}");
+            assert_eq!(screens[2].entries, beside(&["1 1 3 0 0 0 0 0 0 0"]), "{told}");
         }
         let screens = screens_of(place("Left and Right"), number, forms, false, &[left(""), right("")]);
         let fails = shown(true, &[]);
@@ -182,20 +185,20 @@ fn places_in_each_other() {
         // The step waits in the branch, which does not fail for it.
         for name in ["43 in a branch", "44 in a branch"] {
             let screens = screens_of(place(name), number, forms, true, &[right("1"), left("1"), go_on("1")]);
-            let lit = shown(false, &beside(&["1 3 0 0 0 0"]));
-            let waits = shown(false, &beside(&["1 1 3 0 0 0"]));
+            let lit = shown(false, &beside(&["1 3 0 0 0 0 0 0 0 0"]));
+            let waits = shown(false, &beside(&["1 1 3 0 0 0 0 0 0 0"]));
             assert_eq!(screens, [lit.clone(), refused(&lit), waits.clone(), refused(&waits)], "{told}");
         }
         // The inner choice fails, so its branch does.
         let screens = screens_of(place("a branch in a branch"), number, forms, true, &[left("1")]);
-        let other = shown(false, &beside(&["1 4 0 0 0 0"]));
+        let other = shown(false, &beside(&["1 4 0 0 0 0 0 0 0 0"]));
         assert_eq!(screens, [other.clone(), refused(&other)], "{told}");
         // The choice fails, so the step to it waits.
         let screens = screens_of(place("a branch in 43"), number, forms, true, &[]);
-        assert_eq!(screens, [shown(false, &beside(&["1 1 3 0 0 0"]))], "{told}");
+        assert_eq!(screens, [shown(false, &beside(&["1 1 3 0 0 0 0 0 0 0"]))], "{told}");
         // The outer step is taken, and the inner one waits.
         let screens = screens_of(place("43 in 43"), number, forms, true, &[]);
-        assert_eq!(screens, [Screen { strides: 2, ..shown(false, &beside(&["1 1 3 0 0 0"])) }], "{told}");
+        assert_eq!(screens, [Screen { strides: 2, ..shown(false, &beside(&["1 1 3 0 0 0 0 0 0 0"])) }], "{told}");
     });
 }
 
@@ -209,8 +212,8 @@ fn what_is_not_evaluated() {
             assert!(!at("start").failing, "{told}");
             // A taken 43, and a branch that is lit.
             assert!(at("43").strides >= 2, "{told}");
-            assert_eq!(at("44").entries, ["0 1 3 0 0 0", "0 2 0 0 0 0"], "{told}");
-            assert_eq!(at("Left and Right").entries, ["0 3 0 0 0 0", "0 4 0 0 0 0"], "{told}");
+            assert_eq!(at("44").entries, ["0 1 3 0 0 0 0 0 0 0", "0 2 0 0 0 0 0 0 0 0"], "{told}");
+            assert_eq!(at("Left and Right").entries, ["0 3 0 0 0 0 0 0 0 0", "0 4 0 0 0 0 0 0 0 0"], "{told}");
         }
     }
 }
@@ -225,7 +228,7 @@ fn a_step_goes_on_once_a_smaller_number_is_entered() {
     let filled = sheet.row(40, product, 0, 0);
     sheet.row(43, empty, filled, 0);
     let screens = screens(&sheet, &[value("", 46_341), value("", -46_341), value("", 46_340), value("", 46_341)]);
-    let waits = shown(false, &["0 1 3 0 0 0"]);
+    let waits = shown(false, &["0 1 3 0 0 0 0 0 0 0"]);
     assert_eq!(screens[..3], [waits.clone(), waits.clone(), waits.clone()]);
     assert_eq!((screens[3].answer, screens[3].strides, screens[3].leaf()), (0, 2, Some(2_147_441_940)));
     // The product stands in an editor now, which takes any number.
@@ -302,8 +305,8 @@ fn failed_start() -> (Vec<i32>, Vec<i32>) {
     (rows, state)
 }
 
-fn look(rows: &[i32], state: &[i32], list: usize) -> (Looked, [i32; 4]) {
-    let mut value = [9; 4];
+fn look(rows: &[i32], state: &[i32], list: usize) -> (Looked, Leaves) {
+    let mut value = [9; LEAVES];
     (calls::look(rows, state, &mut value, &mut vec![b'#'; list]), value)
 }
 
@@ -323,14 +326,14 @@ fn a_failed_start_by_the_calls() {
     expected[STATE_ROW..STATE_ROW + 3].copy_from_slice(&[1, 3, 7]);
     expected[7 * STATE_ROW] = 4;
     assert_eq!(state, expected);
-    for list in [0, 26, 27, 500] {
+    for list in [0, ENTRY - 1, ENTRY, 500] {
         let failed = Looked { number: 0, valued: false, fails: true, bytes: 0 };
-        assert_eq!(look(&rows, &state, list), (failed, [0; 4]));
+        assert_eq!(look(&rows, &state, list), (failed, [0; LEAVES]));
     }
     for event in overflow_edges::touches() {
         assert_eq!(handle(&rows, &state, &event), (9, 0));
     }
-    for event in [&b""[..], &value("", 1)[1..], &value("3", 1), &[b' '; 67]] {
+    for event in [&b""[..], &value("", 1)[1..], &value("3", 1), &[b' '; EVENT]] {
         assert_eq!(handle(&rows, &state, event), (8, 0));
     }
 }
@@ -423,13 +426,13 @@ fn other_states_of_a_flow_whose_start_fails() {
     task[5 * STATE_ROW..5 * STATE_ROW + 3].copy_from_slice(&[1, 3, 12]);
     task[6 * STATE_ROW] = 1;
     task[7 * STATE_ROW] = 1;
-    let both = Looked { number: 0, valued: true, fails: false, bytes: 54 };
-    assert_eq!(look(&rows, &task, 54), (both, [12, -5, 0, 0]));
-    assert_eq!(look(&rows, &task, 53).0.number, 24);
+    let both = Looked { number: 0, valued: true, fails: false, bytes: 2 * ENTRY };
+    assert_eq!(look(&rows, &task, 2 * ENTRY), (both, padded(&[12, -5])));
+    assert_eq!(look(&rows, &task, 2 * ENTRY - 1).0.number, 24);
     assert_eq!(handle(&rows, &task, &value("1", i32::MAX)), (0, 1));
     // Both at once are none.
     task[7 * STATE_ROW] = 4;
-    assert_eq!(look(&rows, &task, 54).0.number, 22);
+    assert_eq!(look(&rows, &task, 2 * ENTRY).0.number, 22);
 }
 
 /// The same with a task that is no rest: 43 over the sum, with the sum's editor filled.
@@ -445,5 +448,5 @@ fn a_state_of_such_a_flow_that_is_no_rest() {
     state.fill(0);
     state[3 * STATE_ROW..3 * STATE_ROW + 3].copy_from_slice(&[1, 3, 12]);
     state[6 * STATE_ROW] = 1;
-    assert_eq!(look(&rows, &state, 27).0.number, 23);
+    assert_eq!(look(&rows, &state, ENTRY).0.number, 23);
 }

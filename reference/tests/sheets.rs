@@ -22,7 +22,7 @@ fn ground_2_fields() {
     {
         assert_eq!(loads(&line("40", a)), 2, "{a:?}");
     }
-    // Of kinds, ground 2 asks where a blank may stand alone (`blanks.rs`); readable numbers out of
+    // Of kinds, ground 2 asks where a blank may stand alone (`blank_sheets.rs`); readable numbers out of
     // place are 3 and 4.
     assert_eq!(loads(&line("x", "0")), 2);
     assert_eq!(loads(&line("-1", "0")), 3);
@@ -147,16 +147,16 @@ fn ground_5_naming() {
     // A plain 25 or 31 as the last row passes 5 and gets 7, unless 6 comes first.
     assert_eq!(rows(&[[21, 1, 0, 0], [20, 0, 0, 0], [20, 0, 0, 0], [25, 0, 1, 2]]), 7);
     assert_eq!(rows(&[[20, 0, 0, 0], [20, 0, 0, 0], [31, 0, 1, 0]]), 7);
-    let five = [[3, 0, 0, 0], [4, 0, 0, 0], [4, 1, 1, 0], [4, 2, 0, 0]];
-    assert_eq!(rows(&[&five[..], &[[20, 0, 0, 0], [20, 0, 0, 0], [31, 4, 5, 0]]].concat()), 6);
+    let nine = [[3, 0, 0, 0], [4, 0, 0, 0], [4, 1, 1, 0], [4, 2, 2, 0], [4, 3, 0, 0]];
+    assert_eq!(rows(&[&nine[..], &[[20, 0, 0, 0], [20, 0, 0, 0], [31, 5, 6, 0]]].concat()), 6);
 }
 
 #[test]
 fn ground_6_leaves() {
-    let four = [[3, 0, 0, 0], [4, 0, 0, 0], [4, 1, 1, 0]];
-    assert_eq!(rows(&[&four[..], &[[41, 2, 0, 0]]].concat()), 0);
-    assert_eq!(rows(&[&four[..], &[[4, 2, 0, 0], [41, 2, 0, 0]]].concat()), 6);
-    assert_eq!(rows(&[&four[..], &[[4, 2, 0, 0], [41, 3, 0, 0]]].concat()), 6);
+    let eight = [[3, 0, 0, 0], [4, 0, 0, 0], [4, 1, 1, 0], [4, 2, 2, 0]];
+    assert_eq!(rows(&[&eight[..], &[[41, 3, 0, 0]]].concat()), 0);
+    assert_eq!(rows(&[&eight[..], &[[4, 3, 0, 0], [41, 3, 0, 0]]].concat()), 6);
+    assert_eq!(rows(&[&eight[..], &[[4, 3, 0, 0], [41, 4, 0, 0]]].concat()), 6);
     // Doubling with each row, far past any count.
     let mut doubling = vec![[3, 0, 0, 0]];
     doubling.extend((0..250).map(|at| [4, at, at, 0]));
@@ -225,10 +225,10 @@ fn ground_7_typing() {
     assert_eq!(answer(&[[41, 0, 0, 0], [23, -1, 0, 0], [40, 6, 0, 0], [43, 5, 7, 0]]), 7);
     // The A of a binder does not have it.
     assert_eq!(answer(&[[23, 0, 0, 0], [40, 5, 0, 0], [41, 0, 0, 0], [43, 6, 7, 0]]), 7);
-    // Five leaves.
-    let pairs = [[4, 0, 0, 0], [4, 5, 5, 0]];
-    assert_eq!(answer(&[&pairs[..], &[[41, 5, 0, 0], [41, 5, 0, 0], [46, 7, 8, 0]]].concat()), 0);
-    assert_eq!(answer(&[&pairs[..], &[[41, 6, 0, 0], [41, 0, 0, 0], [46, 7, 8, 0]]].concat()), 7);
+    // Eight leaves, and nine.
+    let pairs = [[4, 0, 0, 0], [4, 5, 5, 0], [4, 6, 6, 0]];
+    assert_eq!(answer(&[&pairs[..], &[[41, 6, 0, 0], [41, 6, 0, 0], [46, 8, 9, 0]]].concat()), 0);
+    assert_eq!(answer(&[&pairs[..], &[[41, 7, 0, 0], [41, 0, 0, 0], [46, 8, 9, 0]]].concat()), 7);
 }
 
 /// Types are equal when their shapes are, whatever their rows.

@@ -36,7 +36,7 @@ fn operators_evaluate_left_to_right_and_both_sides() {
         let both = sheet.row(24, operator, left, right);
         let filled = sheet.row(40, both, 0, 0);
         beside_cell(&mut sheet, filled);
-        assert_eq!(last_screen(&sheet, &[]).value, Some([expected[0], expected[1], 0, 0]));
+        assert_eq!(last_screen(&sheet, &[]).value, Some(padded(&expected)));
     }
 }
 
@@ -77,10 +77,10 @@ fn pairs_and_their_parts() {
     let swapped = sheet.row(26, second, second_of_first, 0);
     let filled = sheet.row(40, swapped, 0, 0);
     sheet.row(43, empty, filled, 0);
-    let screens = screens(&sheet, &[reference::event::write("", 1, [1, 2, 3, 4])]);
-    assert_eq!(screens[0].entries, ["0 1 3 3 3 3"]);
-    assert_eq!(screens[1].value, Some([3, 4, 2, 0]));
-    assert_eq!(screens[1].entries, ["0 1 3 3 3 0"]);
+    let screens = screens(&sheet, &[reference::event::write("", 1, padded(&[1, 2, 3, 4]))]);
+    assert_eq!(screens[0].entries, ["0 1 3 3 3 3 0 0 0 0"]);
+    assert_eq!(screens[1].value, Some(padded(&[3, 4, 2])));
+    assert_eq!(screens[1].entries, ["0 1 3 3 3 0 0 0 0 0"]);
 }
 
 /// Only the side of a condition that holds is evaluated; a binding's value stands in its B.
@@ -98,7 +98,7 @@ fn conditions_and_bindings() {
     let three = sheet.row(31, six, inner, 0);
     let filled = sheet.row(40, three, 0, 0);
     beside_cell(&mut sheet, filled);
-    assert_eq!(last_screen(&sheet, &[]).value, Some([3, 0, 0, 0]));
+    assert_eq!(last_screen(&sheet, &[]).value, Some(padded(&[3])));
 }
 
 /// S-ThenStay, S-ThenFail, S-ThenCont.
@@ -167,7 +167,7 @@ fn right_side_is_asked_in_its_own_store() {
     });
     sheet.row(43, filled, picked, 0);
     let screen = last_screen(&sheet, &[]);
-    assert_eq!((screen.strides, screen.entries), (2, vec!["0 3 0 0 0 0".to_string()]));
+    assert_eq!((screen.strides, screen.entries), (2, vec!["0 3 0 0 0 0 0 0 0 0".to_string()]));
 }
 
 /// Slip: one stride in place of striding to rest. The left waits for a cell that the right sets.
@@ -188,13 +188,13 @@ fn parts_race_for_a_cell() {
     let (left, right) = (part(&mut crossed, 2, 3), part(&mut crossed, 1, 2));
     crossed.row(46, left, right, 0);
     let screen = last_screen(&crossed, &[]);
-    assert_eq!((screen.strides, screen.value), (3, Some([3, 2, 0, 0])));
+    assert_eq!((screen.strides, screen.value), (3, Some(padded(&[3, 2]))));
     // Left waits for 1 and right for 2: the right strides from the left's store, in one stride.
     let mut threaded = with_cell(1);
     let (left, right) = (part(&mut threaded, 1, 2), part(&mut threaded, 2, 3));
     threaded.row(46, left, right, 0);
     let screen = last_screen(&threaded, &[]);
-    assert_eq!((screen.strides, screen.value), (2, Some([2, 3, 0, 0])));
+    assert_eq!((screen.strides, screen.value), (2, Some(padded(&[2, 3]))));
 }
 
 /// 44 strides A, keeps its store, and is not taken by itself.
@@ -224,14 +224,14 @@ fn right_of_a_choice_is_not_strided_where_the_left_has_a_value() {
     let (left, right) = (sheet.filled(1), writer(&mut sheet, 9));
     let choice = sheet.row(47, left, right, 0);
     beside_cell(&mut sheet, choice);
-    assert_eq!(last_screen(&sheet, &[]).value, Some([1, 0, 0, 0]));
+    assert_eq!(last_screen(&sheet, &[]).value, Some(padded(&[1])));
     // S-OrLeft with a left that moves first.
     let mut sheet = with_cell(0);
     let (left, right) = (writer(&mut sheet, 8), writer(&mut sheet, 9));
     let choice = sheet.row(47, left, right, 0);
     beside_cell(&mut sheet, choice);
     let screen = last_screen(&sheet, &[]);
-    assert_eq!((screen.value, screen.strides), (Some([8, 8, 0, 0]), 2));
+    assert_eq!((screen.value, screen.strides), (Some(padded(&[8, 8])), 2));
     // S-OrRight: the left's store is kept.
     let mut sheet = with_cell(0);
     let filled = sheet.filled(1);
@@ -239,7 +239,7 @@ fn right_of_a_choice_is_not_strided_where_the_left_has_a_value() {
     let (left, right) = (sheet.row(43, filled, moved, 0), sheet.filled(2));
     let choice = sheet.row(47, left, right, 0);
     beside_cell(&mut sheet, choice);
-    assert_eq!(last_screen(&sheet, &[]).value, Some([2, 4, 0, 0]));
+    assert_eq!(last_screen(&sheet, &[]).value, Some(padded(&[2, 4])));
 }
 
 /// S-OrNone: both parts stay, with their marks.
@@ -248,7 +248,7 @@ fn choice_without_a_value_stays() {
     let mut sheet = numbers();
     let (left, right) = (sheet.empty(), sheet.empty());
     sheet.row(47, left, right, 0);
-    assert_eq!(last_screen(&sheet, &[]).entries, ["1 1 3 0 0 0", "2 1 3 0 0 0"]);
+    assert_eq!(last_screen(&sheet, &[]).entries, ["1 1 3 0 0 0 0 0 0 0", "2 1 3 0 0 0 0 0 0 0"]);
 }
 
 #[test]
@@ -301,5 +301,5 @@ fn branches_are_normalised_from_the_present_store() {
     });
     let right = within.fail();
     within.row(48, left, right, 0);
-    assert_eq!(last_screen(&within, &[]).entries, ["0 3 0 0 0 0"]);
+    assert_eq!(last_screen(&within, &[]).entries, ["0 3 0 0 0 0 0 0 0 0"]);
 }

@@ -61,9 +61,9 @@ fn of_a_pair() {
     let (number, truth) = (sheet.row(22, -7, 0, 0), sheet.row(21, 1, 0, 0));
     let pair = sheet.row(26, number, truth, 0);
     sheet.row(49, pair, 0, 0);
-    let screens = screens(&sheet, &[event::write("", 1, [-7, 1, 0, 0])]);
+    let screens = screens(&sheet, &[event::write("", 1, padded(&[-7, 1]))]);
     assert_eq!(answers(&screens), [0, 9]);
-    assert!(screens.iter().all(|screen| screen.value == Some([-7, 1, 0, 0]) && screen.entries.is_empty()));
+    assert!(screens.iter().all(|screen| screen.value == Some(padded(&[-7, 1])) && screen.entries.is_empty()));
 }
 
 /// Ground 3: B or C not 0. Ground 4: A no plain row.
@@ -96,7 +96,7 @@ fn internal_step() {
     let right = sheet.row(40, with, 0, 0);
     sheet.row(43, shown, right, 0);
     let screen = last_screen(&sheet, &[]);
-    assert_eq!((screen.strides, seen(&screen)), (2, (false, Some(4), vec!["0 1 3 0 0 0"])));
+    assert_eq!((screen.strides, seen(&screen)), (2, (false, Some(4), vec!["0 1 3 0 0 0 0 0 0 0"])));
     let mut waiting = numbers();
     let (shown, fail) = (waiting.shown(4), waiting.fail());
     waiting.row(43, shown, fail, 0);
@@ -113,7 +113,7 @@ fn external_step() {
     let screens = screens(&sheet, &[value("", 1), go_on(""), go_on("")]);
     assert_eq!(answers(&screens), [0, 9, 0, 9]);
     for before in &screens[..2] {
-        assert_eq!(seen(before), (false, None, vec!["0 2 0 0 0 0"]));
+        assert_eq!(seen(before), (false, None, vec!["0 2 0 0 0 0 0 0 0 0"]));
     }
     for after in &screens[2..] {
         assert_eq!(seen(after), (false, Some(4), vec![]));
@@ -150,8 +150,8 @@ fn beside_an_editor() {
     sheet.row(46, shown, filled, 0);
     let screens = screens(&sheet, &[value("1", 7), value("2", 8)]);
     assert_eq!(answers(&screens), [0, 9, 0]);
-    assert!(screens.iter().all(|screen| screen.entries == ["2 1 3 0 0 0"]));
-    assert_eq!(screens[2].value, Some([5, 8, 0, 0]));
+    assert!(screens.iter().all(|screen| screen.entries == ["2 1 3 0 0 0 0 0 0 0"]));
+    assert_eq!(screens[2].value, Some(padded(&[5, 8])));
 }
 
 /// A 47 picks a shown value, on either side of an empty editor.
@@ -186,7 +186,7 @@ fn external_choice() {
     sheet.row(48, shown, fail, 0);
     let screens = screens(&sheet, &[right(""), left(""), left(""), value("", 1)]);
     assert_eq!(answers(&screens), [0, 9, 0, 9, 9]);
-    assert_eq!(seen(&screens[1]), (false, None, vec!["0 3 0 0 0 0"]));
+    assert_eq!(seen(&screens[1]), (false, None, vec!["0 3 0 0 0 0 0 0 0 0"]));
     assert_eq!(seen(&screens[4]), (false, Some(3), vec![]));
 }
 
@@ -199,7 +199,7 @@ fn external_choice_of_a_quiet_branch() {
     sheet.row(48, other, step, 0);
     let screens = screens(&sheet, &[left(""), right(""), go_on("")]);
     assert_eq!(answers(&screens), [0, 9, 0, 9]);
-    assert_eq!(seen(&screens[0]), (false, None, vec!["0 4 0 0 0 0"]));
+    assert_eq!(seen(&screens[0]), (false, None, vec!["0 4 0 0 0 0 0 0 0 0"]));
     assert_eq!(seen(&screens[2]), (false, None, vec![]));
 }
 
@@ -223,7 +223,7 @@ fn does_not_follow_its_cell() {
     let shared = sheet.row(42, CELL, 0, 0);
     sheet.row(46, shown, shared, 0);
     let screens = screens(&sheet, &[value("2", 9)]);
-    assert_eq!((screens[0].value, screens[1].value), (Some([2, 2, 0, 0]), Some([2, 9, 0, 0])));
+    assert_eq!((screens[0].value, screens[1].value), (Some(padded(&[2, 2])), Some(padded(&[2, 9]))));
     // Evaluated after the write in front of it, by the rule of evaluation.
     let mut after = with_cell(2);
     after.writing(CELL, 9, |sheet| shown_of(sheet, 29, CELL));
@@ -241,5 +241,5 @@ fn writes_where_it_is_evaluated() {
     let shared = sheet.row(42, CELL, 0, 0);
     sheet.row(46, both, shared, 0);
     let screens = screens(&sheet, &[value("2", 8)]);
-    assert_eq!((screens[0].value, screens[1].value), (Some([0, 7, 7, 0]), Some([0, 7, 8, 0])));
+    assert_eq!((screens[0].value, screens[1].value), (Some(padded(&[0, 7, 7])), Some(padded(&[0, 7, 8]))));
 }

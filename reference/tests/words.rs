@@ -14,13 +14,14 @@ use reference::session;
 use reference::sheet::Row;
 use reference::state::State;
 use reference::syntax::Type;
+use reference::value::Leaves;
 use reference::words::{self, STATE_ROW};
 
 const SEED: u64 = 1;
 const LAYOUT: &str = include_str!("../../docs/STATE.md");
 
 /// A live row: its number, tag, shape and leaves.
-type Live = (usize, i32, i32, [i32; 4]);
+type Live = (usize, i32, i32, Leaves);
 
 /// A line of the table, a flow, events, and the rows that are live after start and these events.
 struct Line {
@@ -36,12 +37,12 @@ fn line(table: &'static str, rows: &[[i32; 4]], events: &[Vec<u8>], live: &[Live
 
 /// A live row that holds a number.
 fn number(at: usize, tag: i32, leaf: i32) -> Live {
-    (at, tag, 3, [leaf, 0, 0, 0])
+    (at, tag, 3, padded(&[leaf]))
 }
 
 /// A live row that holds a tag alone.
 fn bare(at: usize, tag: i32) -> Live {
-    (at, tag, 0, [0; 4])
+    (at, tag, 0, padded(&[]))
 }
 
 const NUMBER: [i32; 4] = [3, 0, 0, 0];
@@ -61,10 +62,10 @@ fn lines() -> Vec<Line> {
     let decided = "| 25 | a side and its task | 2, 3 | | B, C |";
     // P12's sum, beside a cell.
     let beyond = [NUMBER, [10, 0, 6, 0], [22, i32::MAX, 0, 0], [22, 1, 0, 0], [24, 1, 2, 3], [40, 4, 0, 0]];
-    let in_cells = [number(2, 1, -7), (3, 1, 2, [1, 0, 0, 0]), bare(4, 1)];
+    let in_cells = [number(2, 1, -7), (3, 1, 2, padded(&[1])), bare(4, 1)];
     vec![
         line("| 10 | cell | 1 | its content | |", &cells, &[], &in_cells),
-        line("| 40 | filled | 1 | its content | |", &pair(40), &[], &[(3, 1, 60, [5, -6, 0, 0])]),
+        line("| 40 | filled | 1 | its content | |", &pair(40), &[], &[(3, 1, 60, padded(&[5, -6]))]),
         line("| 41 | empty | 1 | | |", &[NUMBER, EMPTY], &[], &[bare(1, 1)]),
         line("| 41 | with a content | 2 | its content | |", &[NUMBER, EMPTY], &[value("", 6)], &[number(1, 2, 6)]),
         line("| 42 | shared | 1 | | |", &[NUMBER, [10, 0, 4, 0], [42, 1, 0, 0]], &[], &[number(1, 1, 4), bare(2, 1)]),
@@ -80,14 +81,14 @@ fn lines() -> Vec<Line> {
         line("| 48 | unpicked | 1 | | |", &two(48), &[], &[bare(3, 1)]),
         line(picked, &two(48), &[left("")], &[bare(1, 1), bare(3, 2)]),
         line(picked, &two(48), &[right("")], &[bare(2, 1), bare(3, 3)]),
-        line("| 49 | shown | 1 | its content | |", &pair(49), &[], &[(3, 1, 60, [5, -6, 0, 0])]),
+        line("| 49 | shown | 1 | its content | |", &pair(49), &[], &[(3, 1, 60, padded(&[5, -6]))]),
         line(decided, &either(1), &[], &[bare(2, 1), bare(4, 2)]),
         line(decided, &either(0), &[], &[bare(3, 1), bare(4, 3)]),
         line(
             "| 31 | a value and a task of B | 2 | that value | B |",
             &[[21, 1, 0, 0], [23, 0, 0, 0], [40, 1, 0, 0], [31, 0, 2, 0]],
             &[],
-            &[(2, 1, 2, [1, 0, 0, 0]), (3, 2, 2, [1, 0, 0, 0])],
+            &[(2, 1, 2, padded(&[1])), (3, 2, 2, padded(&[1]))],
         ),
         line("| last row | failed as a whole | 4 | | |", &beyond, &[], &[number(1, 1, 6), bare(5, 4)]),
     ]
@@ -100,11 +101,12 @@ fn flow(rows: &[[i32; 4]]) -> Flow {
 
 /// The words of these live rows, every other word 0.
 fn words_of(rows: usize, live: &[Live]) -> Vec<i32> {
-    let mut words = vec![0; 16 * rows];
+    let mut words = vec![0; STATE_ROW * rows];
     for &(at, tag, shape, leaves) in live {
-        words[16 * at] = tag;
-        words[16 * at + 1] = shape;
-        words[16 * at + 2..16 * at + 6].copy_from_slice(&leaves);
+        let row = &mut words[STATE_ROW * at..][..STATE_ROW];
+        row[words::TAG] = tag;
+        row[words::SHAPE] = shape;
+        row[words::LEAF..words::REST].copy_from_slice(&leaves);
     }
     words
 }
@@ -145,6 +147,9 @@ fn shapes() {
     assert_eq!(words::shape(&pair(pair(Type::Unit, Type::Truth), Type::Number)), 16 * (1 + 4 * (2 + 4 * 3)));
     let four = pair(pair(Type::Number, Type::Number), pair(Type::Number, Type::Number));
     assert_eq!(words::shape(&four), 4 * (60 + 64 * 60));
+    // Eight leaves have 15 digits.
+    let eight = words::shape(&pair(four.clone(), four));
+    assert_eq!((eight, eight / 4_i32.pow(14)), (4 * (15_600 + 4_i32.pow(7) * 15_600), 3));
 }
 
 /// Leaves of a deeper pair stand in order, a unit as 0.
@@ -153,12 +158,14 @@ fn leaves_of_a_pair() {
     let rows = [[1, 0, 0, 0], [2, 0, 0, 0], NUMBER, [4, 1, 2, 0], [4, 0, 3, 0], [41, 4, 0, 0]];
     let flow = flow(&rows);
     let (mut state, _) = State::start(&flow);
-    state.handle(&event::write("", 1, [0, 1, -7, 0])).expect("taken");
-    let words = words_of(6, &[(5, 2, 900, [0, 1, -7, 0])]);
+    state.handle(&event::write("", 1, padded(&[0, 1, -7]))).expect("taken");
+    let words = words_of(6, &[(5, 2, 900, padded(&[0, 1, -7]))]);
     assert_eq!(words::write(&flow, &state), words);
-    for (place, word) in [(2, 1), (3, 2), (3, -1), (5, 1), (6, 1), (15, 1), (1, 3), (1, 60), (0, 1), (0, 3), (0, 0)] {
+    let places =
+        [(2, 1), (3, 2), (3, -1), (5, 1), (6, 1), (9, 1), (10, 1), (15, 1), (1, 3), (1, 60), (0, 1), (0, 3), (0, 0)];
+    for (place, word) in places {
         let mut changed = words.clone();
-        changed[80 + place] = word;
+        changed[5 * STATE_ROW + place] = word;
         assert_eq!(words::read(&flow, &changed), None, "{word} at {place}");
     }
 }

@@ -1,9 +1,12 @@
--- CR 4's cases as one computed check from the sheet's text and the events' bytes to the bytes printed: types of 8 and of 7 leaves. Rests on
--- Sessions, and on the definitions whose figures CR 4 gives.
+-- CR 4's cases as one computed check from the sheet's text and the events' bytes to the bytes printed: types of 8 and of 7 leaves; the
+-- figures that CR 4 gives; and the words of a state of four leaves. Rests on Sessions.
 use mathlib.Core.Path.{_≡_, refl}
 use mathlib.Core.Bool.{true}
-use mathlib.Core.List.{List, [], _∷_}
+use mathlib.Core.List.{List, [], _∷_, _++_}
+use Prim.Native.Nat.{_*_}
 use Prim.Native.String.{String}
+use lib.IntN.{pos}
+use lib.ListN.{replicate}
 use Rattle.tophat.specs.Syntax.{maxLeaves}
 use Rattle.shape.specs.Digits.{maxDigits}
 use Rattle.formats.specs.Touches.{eventBytes, entryBytes}
@@ -11,7 +14,7 @@ use Rattle.formats.specs.Heads.{headBytes}
 use Rattle.state.specs.Layout.{stateWords}
 use Rattle.state.specs.Holds.{valueLength}
 use Rattle.screens.specs.Screens.{screenBytes}
-use Rattle.screens.proofs.Sessions.{agree}
+use Rattle.screens.proofs.Sessions.{started, agree}
 
 -- ---- the figures
 
@@ -110,6 +113,25 @@ order-screens =
     "               0 2 0 0 0 0 0 0 0 0" ∷
     "   0   1 0 1          90           0           0           0           0           0           0           0   0" ∷
     []
+
+-- ---- a value of four leaves, and the words of its state, which are those that it had before CR 4: in the last row tag 1, the shape of
+-- ((number, truth), (unit, number)) and the leaves
+
+abbrev four-sheet : List String
+four-sheet =
+    "   0  22          11                        " ∷
+    "   1  21           1                        " ∷
+    "   2  20                                    " ∷
+    "   3  22          14                        " ∷
+    "   4  26           0           1            " ∷
+    "   5  26           2           3            " ∷
+    "   6  26           4           5            " ∷
+    "   7  40           6                        " ∷
+    []
+
+four-words : started four-sheet ≡ replicate (7 * stateWords) (pos 0) ++ pos 1 ∷ pos 13488 ∷ pos 11 ∷ pos 1 ∷ pos 0 ∷ pos 14 ∷ replicate 10 (pos 0)
+unfolding started
+four-words = refl
 
 all-agree : agree (
     (eight-sheet, eight-touches, eight-screens) ∷

@@ -1,7 +1,7 @@
 -- The words of a state of narrow types (CR 4: "State memory keeps 16 words a row"): where what a flow holds has at most k leaves, each row is 0
 -- behind its tag, a shape and k leaves. So a flow whose types have at most four leaves has the states that it had when a type had no
 -- more, and one that was kept then is read now. Rests on Typed.
-use mathlib.Core.Path.{_≡_, refl, sym, ap, _∙_}
+use mathlib.Core.Path.{_≡_, refl, ap, _∙_}
 use mathlib.Core.Bool.{Bool, true, false, cond}
 use mathlib.Core.List.{List, [], _∷_}
 use Prim.Native.Nat.{ℕ, zero, suc, _+_, _*_, _-_, _≤_, _<_}
@@ -52,76 +52,76 @@ module _ (b : ℕ) where
 
 -- ---- a task and cells whose values have at most k leaves
 
-abbrev Few : ℕ → Val → Type 0
-Few k v = leaves (typeOf v) ≤ k
+abbrev AtMost : ℕ → Val → Type 0
+AtMost k v = leaves (typeOf v) ≤ k
 
 module _ (k : ℕ) (most : k ≤ maxLeaves) where
-  -- a tag, a shape, and k leaves
-  abbrev Clean : List ℕ → Type 0
-  Clean ws = ZeroFrom (2 + k) ws
+  -- each row is 0 behind a tag, a shape and k leaves
+  abbrev ZeroBehind : List ℕ → Type 0
+  ZeroBehind ws = ZeroFrom (2 + k) ws
 
-  leaf-zero : (v : Val) → Few k v → (q : ℕ) → 2 + k ≤ q → (x : ℕ) → getD (x ∷ valueWords v) q 0 ≡ 0
+  leaf-zero : (v : Val) → AtMost k v → (q : ℕ) → 2 + k ≤ q → (x : ℕ) → getD (x ∷ valueWords v) q 0 ≡ 0
   unfolding valueWords
   leaf-zero v l zero h x = absurd (omega arith)
   leaf-zero v l (suc zero) h x = absurd (omega arith)
   leaf-zero v l (suc (suc q)) h x = leaf-at v q ∙ ap (ofZ w32) (List·getD-eq-default (leavesOf v) (pos 0) (let e = leaves-length v in omega arith))
 
-  tag-clean : {ws : List ℕ} (i x : ℕ) → Clean ws → Clean (tagged ws i x)
-  tag-clean i x g = zero-put (2 + k) (x ∷ []) i 0 (omega arith) (λ q h. none q (omega arith)) g
+  tag-behind : {ws : List ℕ} (i x : ℕ) → ZeroBehind ws → ZeroBehind (tagged ws i x)
+  tag-behind i x g = zero-put (2 + k) (x ∷ []) i 0 (omega arith) (λ q h. none q (omega arith)) g
     where
       none : (q : ℕ) → 2 + k ≤ q → getD (x ∷ []) q 0 ≡ 0
       none zero h = absurd (omega arith)
       none (suc q) h = refl
 
-  value-clean : {ws : List ℕ} (i x : ℕ) (v : Val) → Few k v → Clean ws → Clean (valued ws i x v)
-  value-clean i x v l g = zero-put (2 + k) (x ∷ valueWords v) i 0 (let s = short v (omega arith) in omega arith) (λ q h. leaf-zero v l q (omega arith) x) g
+  value-behind : {ws : List ℕ} (i x : ℕ) (v : Val) → AtMost k v → ZeroBehind ws → ZeroBehind (valued ws i x v)
+  value-behind i x v l g = zero-put (2 + k) (x ∷ valueWords v) i 0 (let s = short v (omega arith) in omega arith) (λ q h. leaf-zero v l q (omega arith) x) g
 
   module _ (rs : List ℕ) where
-    task-clean : (i : ℕ) (c : Code) (t : TaskOf c) {ws : List ℕ} → Each (Few k) c t → Clean ws → Clean (writeTask rs i c t ws)
+    task-behind : (i : ℕ) (c : Code) (t : TaskOf c) {ws : List ℕ} → Each (AtMost k) c t → ZeroBehind ws → ZeroBehind (writeTask rs i c t ws)
     unfolding writeTask
-    task-clean i (edit e) (filled v) f g = value-clean i own v f g
-    task-clean i (enter τ) blank f g = tag-clean i own g
-    task-clean i (enter τ) (entered v) f g = value-clean i one v f g
-    task-clean i (update n) t f g = tag-clean i own g
-    task-clean i (then a b) (before t) f g = task-clean (opA rs i) a t f (tag-clean i own g)
-    task-clean i (then a b) (after v u) f g = task-clean (opB rs i) b u (f .1) (value-clean i one v (f .0) g)
-    task-clean i (next a b) (before t) f g = task-clean (opA rs i) a t f (tag-clean i own g)
-    task-clean i (next a b) (after v u) f g = task-clean (opB rs i) b u (f .1) (value-clean i one v (f .0) g)
-    task-clean i (fail τ) t f g = tag-clean i own g
-    task-clean i (and a b) (both t u) f g = task-clean (opB rs i) b u (f .1) (task-clean (opA rs i) a t (f .0) (tag-clean i own g))
-    task-clean i (or a b) (either t u) f g = task-clean (opB rs i) b u (f .1) (task-clean (opA rs i) a t (f .0) (tag-clean i own g))
-    task-clean i (or a b) (orLeft t) f g = task-clean (opA rs i) a t f (tag-clean i one g)
-    task-clean i (or a b) (orRight u) f g = task-clean (opB rs i) b u f (tag-clean i other g)
-    task-clean i (xor a b) unpicked f g = tag-clean i own g
-    task-clean i (xor a b) (pickedLeft t) f g = task-clean (opA rs i) a t f (tag-clean i one g)
-    task-clean i (xor a b) (pickedRight u) f g = task-clean (opB rs i) b u f (tag-clean i other g)
-    task-clean i (view e) (filled v) f g = value-clean i own v f g
-    task-clean i (if e a b) (ifTrue t) f g = task-clean (opB rs i) a t f (tag-clean i one g)
-    task-clean i (if e a b) (ifFalse u) f g = task-clean (opC rs i) b u f (tag-clean i other g)
-    task-clean i (let' e b) (bound v u) f g = task-clean (opB rs i) b u (f .1) (value-clean i one v (f .0) g)
+    task-behind i (edit e) (filled v) f g = value-behind i own v f g
+    task-behind i (enter τ) blank f g = tag-behind i own g
+    task-behind i (enter τ) (entered v) f g = value-behind i one v f g
+    task-behind i (update n) t f g = tag-behind i own g
+    task-behind i (then a b) (before t) f g = task-behind (opA rs i) a t f (tag-behind i own g)
+    task-behind i (then a b) (after v u) f g = task-behind (opB rs i) b u (f .1) (value-behind i one v (f .0) g)
+    task-behind i (next a b) (before t) f g = task-behind (opA rs i) a t f (tag-behind i own g)
+    task-behind i (next a b) (after v u) f g = task-behind (opB rs i) b u (f .1) (value-behind i one v (f .0) g)
+    task-behind i (fail τ) t f g = tag-behind i own g
+    task-behind i (and a b) (both t u) f g = task-behind (opB rs i) b u (f .1) (task-behind (opA rs i) a t (f .0) (tag-behind i own g))
+    task-behind i (or a b) (either t u) f g = task-behind (opB rs i) b u (f .1) (task-behind (opA rs i) a t (f .0) (tag-behind i own g))
+    task-behind i (or a b) (orLeft t) f g = task-behind (opA rs i) a t f (tag-behind i one g)
+    task-behind i (or a b) (orRight u) f g = task-behind (opB rs i) b u f (tag-behind i other g)
+    task-behind i (xor a b) unpicked f g = tag-behind i own g
+    task-behind i (xor a b) (pickedLeft t) f g = task-behind (opA rs i) a t f (tag-behind i one g)
+    task-behind i (xor a b) (pickedRight u) f g = task-behind (opB rs i) b u f (tag-behind i other g)
+    task-behind i (view e) (filled v) f g = value-behind i own v f g
+    task-behind i (if e a b) (ifTrue t) f g = task-behind (opB rs i) a t f (tag-behind i one g)
+    task-behind i (if e a b) (ifFalse u) f g = task-behind (opC rs i) b u f (tag-behind i other g)
+    task-behind i (let' e b) (bound v u) f g = task-behind (opB rs i) b u (f .1) (value-behind i one v (f .0) g)
 
-    cell-clean : (b : Bool) (i : ℕ) (v : Val) {ws : List ℕ} → Few k v → Clean ws → Clean (cond b (valued ws i own v) ws)
-    cell-clean true i v l g = value-clean i own v l g
-    cell-clean false i v l g = g
+    cell-behind : (b : Bool) (i : ℕ) (v : Val) {ws : List ℕ} → AtMost k v → ZeroBehind ws → ZeroBehind (cond b (valued ws i own v) ws)
+    cell-behind true i v l g = value-behind i own v l g
+    cell-behind false i v l g = g
 
-    cells-clean : (n : ℕ) (s : Store) {ws : List ℕ} → ((j : ℕ) → Few k (getD s j vunit)) → Clean ws → Clean (writeCells rs n s ws)
+    cells-behind : (n : ℕ) (s : Store) {ws : List ℕ} → ((j : ℕ) → AtMost k (getD s j vunit)) → ZeroBehind ws → ZeroBehind (writeCells rs n s ws)
     unfolding writeCells
-    cells-clean zero s f g = g
-    cells-clean (suc n) s f g = cell-clean (isKind rs n cellK) n (getD s n vunit) (f n) (cells-clean n s f g)
+    cells-behind zero s f g = g
+    cells-behind (suc n) s f g = cell-behind (isKind rs n cellK) n (getD s n vunit) (f n) (cells-behind n s f g)
 
     -- ---- a state of a flow of narrow types
 
     module _ (some : 1 ≤ k) {Σ : List Ty} (cells : NarrowCells k Σ) (n : ℕ) {s : Store} (h : ValueTypes s Σ) where
-      first-clean : Clean (writeCells rs n s (zeroWords (n * stateWords)))
-      first-clean = cells-clean n s (store-narrow (Few k) (λ v l. l) some h cells) (record { words = λ i m p q. padding [] (n * stateWords) (place i m) })
+      first-behind : ZeroBehind (writeCells rs n s (zeroWords (n * stateWords)))
+      first-behind = cells-behind n s (store-narrow (AtMost k) (λ v l. l) some h cells) (record { words = λ i m p q. padding [] (n * stateWords) (place i m) })
 
-      pub narrow-words : {c : Code} {t : TaskOf c} {τ : Ty} → Narrow k Σ [] c → TaskType Σ [] c t τ → Clean (encode rs n c t s)
+      pub narrow-words : {c : Code} {t : TaskOf c} {τ : Ty} → Narrow k Σ [] c → TaskType Σ [] c t τ → ZeroBehind (encode rs n c t s)
       unfolding encode
-      narrow-words {c} {t} d e = task-clean (n - 1) c t (each-narrow (Few k) (λ v l. l) d e) first-clean
+      narrow-words {c} {t} d e = task-behind (n - 1) c t (each-narrow (AtMost k) (λ v l. l) d e) first-behind
 
-      pub narrow-words-failed : Clean (encodeFailed rs n s)
+      pub narrow-words-failed : ZeroBehind (encodeFailed rs n s)
       unfolding encodeFailed
-      narrow-words-failed = tag-clean (n - 1) whole first-clean
+      narrow-words-failed = tag-behind (n - 1) whole first-behind
 
 -- ---- CR 4: types of at most four leaves
 

@@ -1,7 +1,7 @@
 -- The values that a typed task and a typed store have: where the types of a code have at most k leaves, so have they. All types have at most
 -- `maxLeaves`, so every value fits its row. Rests on Writes and the calculus' typing.
-use mathlib.Core.List.{List, [], _∷_}
 use mathlib.Core.Path.{_≡_, refl, sym, _∙_, subst}
+use mathlib.Core.List.{List, _∷_}
 use Prim.Native.Nat.{ℕ, zero, suc, _≤_}
 use native.Mathlib.Omega.{arith}
 use lib.ListN.{getD}

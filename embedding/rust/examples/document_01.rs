@@ -1,7 +1,7 @@
 //! The session of document 01: a number is asked for until it is at most 9, and is then multiplied by 30. Prints a screen
 //! after start and after each event, as 01 prints them.
 
-use nannyjiffy::{Flow, Ground, Rest};
+use nannyjiffy::{Flow, Ground, Rest, MAX_LEAVES};
 use std::io::{self, Write};
 
 /// Row number, kind, A, B, C.
@@ -19,19 +19,17 @@ const SHEET: &[u8] = b"   0   3           0           0           0
   11  43           1          10           0
 ";
 
-/// Path, action, four leaves: value 12, value 4, Continue.
-const EVENTS: [&[u8]; 3] = [
-    b"               0 1          12           0           0           0\n",
-    b"               0 1           4           0           0           0\n",
-    b"               0 2           0           0           0           0\n",
-];
+/// Path, action, the first leaf: value 12, value 4, Continue. The leaves after it are not used, and are 0.
+const EVENTS: [&str; 3] =
+    ["               0 1          12", "               0 1           4", "               0 2           0"];
 
 fn main() -> io::Result<()> {
     let flow = Flow::load(SHEET).map_err(io::Error::other)?;
     let mut rest = Rest::start(&flow);
     print(Ok(()), &rest)?;
     for event in EVENTS {
-        let answer = rest.handle(event);
+        let unused = "           0".repeat(MAX_LEAVES - 1);
+        let answer = rest.handle(format!("{event}{unused}\n").as_bytes());
         print(answer, &rest)?;
     }
     Ok(())
@@ -41,9 +39,9 @@ fn print(answer: Result<(), Ground>, rest: &Rest) -> io::Result<()> {
     let screen = rest.look();
     let number = answer.map_or_else(Ground::number, |()| 0);
     let [fails, valued] = [screen.failing, screen.value.is_some()].map(u32::from);
-    let [a, b, c, d] = screen.value.unwrap_or_default();
+    let leaves = screen.value.unwrap_or_default().map(|leaf| format!("{leaf:12}")).concat();
     let mut out = io::stdout().lock();
     write!(out, "{number:4}{:4}{fails:2}{valued:2}", rest.strides())?;
-    writeln!(out, "{a:12}{b:12}{c:12}{d:12}{:4}", screen.count())?;
+    writeln!(out, "{leaves}{:4}", screen.count())?;
     out.write_all(screen.entries())
 }

@@ -7,7 +7,7 @@ mod deep;
 #[path = "../tests/common/touched.rs"]
 mod touched;
 
-use nannyjiffy::calls;
+use nannyjiffy::{calls, list_bytes, MAX_ROWS, VALUE_WORDS};
 use reference::calls as second;
 use std::env;
 use std::hint::black_box;
@@ -43,7 +43,7 @@ fn main() {
         ["levels", count] => vec![touched::of_levels(count.parse().expect("a number"))],
         _ => panic!("rows SIZE or levels COUNT"),
     };
-    let (mut value, mut list) = ([0; 4], [0; 27 * 256]);
+    let (mut value, mut list) = ([0; VALUE_WORDS], [0; list_bytes(MAX_ROWS)]);
     for Touch { rows, state, event } in &touches {
         _ = black_box(calls::start(rows, &mut state.clone()));
         _ = black_box(calls::look(rows, state, &mut value, &mut list));

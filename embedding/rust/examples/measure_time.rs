@@ -6,7 +6,7 @@ mod deep;
 #[path = "../tests/common/touched.rs"]
 mod touched;
 
-use nannyjiffy::calls;
+use nannyjiffy::{calls, list_bytes, MAX_ROWS, VALUE_WORDS};
 use reference::calls as second;
 use std::hint::black_box;
 use std::time::Instant;
@@ -33,7 +33,7 @@ fn least(touches: &[Touch], mut one: impl FnMut(&Touch), mut other: impl FnMut(&
 
 /// Start, look and handle by the archive, and by the second implementation. Each takes a copy of the state.
 fn times(touches: &[Touch]) -> [[f64; 2]; 3] {
-    let (mut value, mut list) = ([0; 4], [0; 27 * 256]);
+    let (mut value, mut list) = ([0; VALUE_WORDS], [0; list_bytes(MAX_ROWS)]);
     let (mut value_2, mut list_2) = (value, list);
     let start = least(
         touches,

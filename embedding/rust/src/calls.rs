@@ -13,7 +13,7 @@ pub struct Looked<'l> {
     /// Whether the flow fails. Then it has no entries; one without entries, a quiet one, need not fail. A flow whose
     /// start left the range fails as a whole: it has no value, and every event that can be read is refused with ground 9.
     pub failing: bool,
-    /// The part of the list memory that holds entries, 27 bytes each.
+    /// The part of the list memory that holds entries, 35 bytes each.
     pub entries: &'l [u8],
 }
 
@@ -33,7 +33,7 @@ pub fn start(rows: &[i32], state: &mut [i32]) -> Result<u32, Ground> {
     answer(number).map(|()| strides)
 }
 
-/// Shows a rest: its value in `value`, of 4 words, and its entries in the front of `list`. A quiet flow needs no list
+/// Shows a rest: its value in `value`, of 8 words, and its entries in the front of `list`. A quiet flow needs no list
 /// memory. Grounds 20 to 24.
 pub fn look<'l>(rows: &[i32], state: &[i32], value: &mut [i32], list: &'l mut [u8]) -> Result<Looked<'l>, Ground> {
     let (mut valued, mut fails, mut bytes) = (0, 0, 0);

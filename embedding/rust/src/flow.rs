@@ -76,7 +76,7 @@ impl<'f> Rest<'f> {
     }
 }
 
-/// What a rest shows, in 7 KiB.
+/// What a rest shows, in 9 KiB.
 #[derive(Clone, Debug)]
 pub struct Screen {
     /// The leaves of its value, unused ones 0, if it has one.
@@ -93,7 +93,7 @@ impl Screen {
         self.bytes / ENTRY_BYTES
     }
 
-    /// The entries, 27 bytes each: path, action, leaf kinds, byte 10.
+    /// The entries, 35 bytes each: path, action, leaf kinds, byte 10.
     pub fn entries(&self) -> &[u8] {
         &self.list[..self.bytes]
     }

@@ -33,7 +33,7 @@ const GROUNDS: [(Ground, &str); 14] = [
     (Ground::NotListed, "a kind, operator, truth or unused operand not as listed"),
     (Ground::Sort, "an operand not a lower row, or not of the sort asked"),
     (Ground::Naming, "the naming rule broken, or a last row that is no task by its kind"),
-    (Ground::Limit, "a type row over 4 leaves, or over 16 binders or marks"),
+    (Ground::Limit, "a type row over 8 leaves, or over 16 binders or marks"),
     (Ground::Typing, "no typing for the last row as a task"),
     (Ground::Event, "event length, byte 10, field, path digit or action bad, or a leaf not 0 at actions 2 to 4"),
     (Ground::Handling, "no handling rule derives a step"),
@@ -41,7 +41,7 @@ const GROUNDS: [(Ground, &str); 14] = [
     (Ground::Memory, "rows memory at load, state or value memory not of its exact length"),
     (Ground::NoState, "not the writing of a state"),
     (Ground::NoRest, "normalising would change the state"),
-    (Ground::List, "list memory under 27 bytes an entry"),
+    (Ground::List, "list memory under 35 bytes an entry"),
 ];
 
 impl Ground {

@@ -5,17 +5,18 @@
 //! (`crates/flow_c`); that the declarations here fit them is tested (`tests/`).
 //!
 //! ```
-//! use nannyjiffy::{Flow, Ground, Rest};
+//! use nannyjiffy::{Flow, Ground, Rest, MAX_LEAVES};
 //!
 //! // An empty editor for a number.
 //! let sheet = b"   0   3           0           0           0\n   1  41           0           0           0\n";
 //! let flow = Flow::load(sheet)?;
 //! let mut rest = Rest::start(&flow);
-//! assert_eq!(rest.look().entries(), b"               0 1 3 0 0 0\n");
+//! assert_eq!(rest.look().entries(), b"               0 1 3 0 0 0 0 0 0 0\n");
 //!
-//! // The number 12 at the empty path.
-//! rest.handle(b"               0 1          12           0           0           0\n")?;
-//! assert_eq!(rest.look().value, Some([12, 0, 0, 0]));
+//! // The number 12 at the empty path; the leaves after it are not used.
+//! let unused = "           0".repeat(MAX_LEAVES - 1);
+//! rest.handle(format!("               0 1          12{unused}\n").as_bytes())?;
+//! assert_eq!(rest.look().value, Some([12, 0, 0, 0, 0, 0, 0, 0]));
 //! # Ok::<(), Ground>(())
 //! ```
 #![no_std]
@@ -32,16 +33,18 @@ pub use ground::Ground;
 pub const MAX_ROWS: usize = 256;
 /// Bytes of a sheet's line.
 pub const LINE_BYTES: usize = 45;
-/// Bytes of an event.
-pub const EVENT_BYTES: usize = 67;
-/// Bytes of a list entry.
-pub const ENTRY_BYTES: usize = 27;
+/// Leaves of a type, at most.
+pub const MAX_LEAVES: usize = 8;
+/// Bytes of an event, 115: path, action, leaves of 12 columns, byte 10.
+pub const EVENT_BYTES: usize = 16 + 2 + 12 * MAX_LEAVES + 1;
+/// Bytes of a list entry, 35: path, action, leaf kinds of 2 columns, byte 10.
+pub const ENTRY_BYTES: usize = 16 + 2 + 2 * MAX_LEAVES + 1;
 /// Words of rows memory for each row: kind, A, B, C.
 pub const ROW_WORDS: usize = 4;
 /// Words of a state for each row.
 pub const STATE_WORDS: usize = 16;
 /// Words of a value.
-pub const VALUE_WORDS: usize = 4;
+pub const VALUE_WORDS: usize = MAX_LEAVES;
 
 /// Stack that suffices for each call on every sheet that was measured, the deepest of 256 rows among them. A thread that Rust
 /// starts has less, unless it is told otherwise; too little ends the program, at the stack's guard page.

@@ -5,15 +5,31 @@ use std::collections::BTreeMap;
 
 const HEADER: &str = include_str!("../../../include/nannyjiffy.h");
 
-/// The constants of the header that are numbers, without their prefix.
+const PREFIX: &str = "NANNYJIFFY_";
+
+/// The constants of the header that are numbers, or formulas of numbers and of constants above, without their prefix.
 fn constants() -> BTreeMap<&'static str, usize> {
-    let named = |line: &'static str| {
-        let line = line.trim_start().trim_start_matches("#define ").strip_prefix("NANNYJIFFY_")?;
-        let (name, rest) = line.split_once(' ')?;
-        let number = rest.trim_start_matches("= ").split([' ', ',']).next()?;
-        Some((name, number.parse().ok()?))
+    let mut constants = BTreeMap::new();
+    for line in HEADER.lines() {
+        let line = line.trim_start().trim_start_matches("#define ");
+        let named = line.strip_prefix(PREFIX).and_then(|line| line.split_once(' '));
+        if let Some((name, number)) = named.and_then(|(name, rest)| Some((name, reckoned(rest, &constants)?))) {
+            constants.insert(name, number);
+        }
+    }
+    constants
+}
+
+/// A sum of products, in parentheses or not, in front of a comma or a comment.
+fn reckoned(text: &str, above: &BTreeMap<&str, usize>) -> Option<usize> {
+    let text = text.trim_start_matches("= ").split([',', '/']).next()?.trim();
+    let text = text.strip_prefix('(').and_then(|text| text.strip_suffix(')')).unwrap_or(text);
+    let factor = |factor: &str| match factor.strip_prefix(PREFIX) {
+        Some(name) => above.get(name).copied(),
+        None => factor.parse().ok(),
     };
-    HEADER.lines().filter_map(named).collect()
+    let product = |product: &str| product.split(" * ").map(factor).product::<Option<usize>>();
+    text.split(" + ").map(product).sum()
 }
 
 #[test]
@@ -22,6 +38,7 @@ fn sizes_are_the_same() {
     let sizes = [
         ("MAX_ROWS", MAX_ROWS),
         ("LINE_BYTES", LINE_BYTES),
+        ("MAX_LEAVES", MAX_LEAVES),
         ("EVENT_BYTES", EVENT_BYTES),
         ("ENTRY_BYTES", ENTRY_BYTES),
         ("ROW_WORDS", ROW_WORDS),
@@ -32,6 +49,9 @@ fn sizes_are_the_same() {
     for (name, size) in sizes {
         assert_eq!(constants.get(name), Some(&size), "{name}");
     }
+    // The figures that the formulas come to.
+    assert_eq!((MAX_LEAVES, EVENT_BYTES, ENTRY_BYTES, VALUE_WORDS, STATE_WORDS), (8, 115, 35, 8, 16));
+    assert_eq!(list_bytes(MAX_ROWS), 8960);
 }
 
 #[test]

@@ -6,6 +6,7 @@
 mod common;
 
 use common::{Archive, Calls};
+use nannyjiffy::{ENTRY_BYTES, EVENT_BYTES, LINE_BYTES, ROW_WORDS, STATE_WORDS, VALUE_WORDS};
 use reference::coverage::Tally;
 use reference::engine::{Answers, Reference};
 use reference::lent::{self, Lent};
@@ -96,8 +97,10 @@ fn any_memory_is_answered() {
         let random = &mut Random::of_case(SEED, at as u64);
         let percent = [30, 60, 100][at % 3];
         let Lent { text, room, rows, state, value, list, event } = &mut lent;
-        let (texts, all_words) =
-            ([(text, 45), (list, 27), (event, 67)], [(room, 4), (rows, 4), (state, 16), (value, 4)]);
+        let (texts, all_words) = (
+            [(text, LINE_BYTES), (list, ENTRY_BYTES), (event, EVENT_BYTES)],
+            [(room, ROW_WORDS), (rows, ROW_WORDS), (state, STATE_WORDS), (value, VALUE_WORDS)],
+        );
         for ((memory, unit), [none, most]) in texts.into_iter().zip(&mut lengths[..3]) {
             if random.chance(percent) {
                 *memory = bytes(random, unit);

@@ -3,8 +3,10 @@
 #[path = "common/screens.rs"]
 mod screens;
 
-use nannyjiffy::{Flow, Ground, Rest, EVENT_BYTES};
-use reference::compare;
+use nannyjiffy::{Flow, Ground, Rest, EVENT_BYTES, MAX_LEAVES, VALUE_WORDS};
+use reference::event::with_four_leaves;
+use reference::rules::Rules;
+use reference::{compare, leaf_edges, session};
 use screens::screens;
 
 const SEED: u64 = 2;
@@ -49,12 +51,20 @@ fn blanks() {
     let missing = [number, &editor.replacen("41           0", "41            ", 1)].concat();
     assert_eq!(Flow::load(missing.as_bytes()).map(drop), Err(Ground::Unreadable));
     let mut rest = Rest::start(&flow);
-    let event = |action: &str, leaf: &str| format!("{:16}{action:>2}{leaf:>12}{:36}\n", "", "");
+    let unused = " ".repeat(12 * (MAX_LEAVES - 1));
+    let event = |action: &str, leaf: &str| format!("{:16}{action:>2}{leaf:>12}{unused}\n", "");
     assert_eq!(rest.handle(event("", "12").as_bytes()), Err(Ground::Event));
     assert_eq!(rest.handle(event("1", "").as_bytes()), Err(Ground::Handling));
     assert_eq!(rest.look().value, None);
     assert_eq!(rest.handle(event("1", "12").as_bytes()), Ok(()));
-    assert_eq!(rest.look().value, Some([12, 0, 0, 0]));
+    assert_eq!(rest.look().value, first_leaf(12));
+}
+
+/// A value whose first leaf is this one, and whose others are 0.
+fn first_leaf(leaf: i32) -> Option<[i32; VALUE_WORDS]> {
+    let mut value = [0; VALUE_WORDS];
+    value[0] = leaf;
+    Some(value)
 }
 
 /// The flow of these rows: kind, A, B, C.
@@ -65,7 +75,7 @@ fn flow_of(rows: &[[i32; 4]]) -> Flow {
 
 /// An event at the empty path.
 fn event(action: u32, leaf: i32) -> Vec<u8> {
-    format!("{:16}{action:2}{leaf:12}{:12}{:12}{:12}\n", 0, 0, 0, 0).into_bytes()
+    format!("{:16}{action:2}{leaf:12}{}\n", 0, format!("{:12}", 0).repeat(MAX_LEAVES - 1)).into_bytes()
 }
 
 /// A start whose sum leaves the range is accepted, and the flow fails as a whole and stays so (CR 3).
@@ -97,7 +107,28 @@ fn a_right_side_beyond_the_range() {
     assert_eq!((rest.look().count(), rest.handle(&event(2, 0))), (1, Err(Ground::Handling)));
     assert_eq!(rest.handle(&event(1, -(1 << 30))), Ok(()));
     assert_eq!((rest.look().count(), rest.handle(&event(2, 0))), (2, Ok(())));
-    assert_eq!(rest.look().value, Some([i32::MIN, 0, 0, 0]));
+    assert_eq!(rest.look().value, first_leaf(i32::MIN));
+}
+
+/// Types of eight leaves, of nine, values taken apart and bound, and events of four leaves (CR 4).
+#[test]
+fn eight_leaves() {
+    let mut sessions = 0;
+    for (name, input) in leaf_edges::inputs() {
+        let printed = screens(&input).expect("a row count that is met");
+        assert!(printed == session::screens(&input, Rules::default()), "{name}");
+        sessions += 1;
+    }
+    assert!(sessions > 150, "{sessions}");
+    let flow = flow_of(&[[3, 0, 0, 0], [4, 0, 0, 0], [4, 1, 1, 0], [4, 2, 2, 0], [41, 3, 0, 0]]);
+    let mut rest = Rest::start(&flow);
+    let leaves = [1, -2, 3, -4, 5, -6, 7, i32::MIN];
+    let given = reference::event::write("", 1, leaves);
+    assert_eq!(rest.handle(&with_four_leaves(&given)), Err(Ground::Event));
+    assert_eq!((rest.handle(&given), rest.look().value), (Ok(()), Some(leaves)));
+    assert_eq!(rest.look().entries(), b"               0 1 3 3 3 3 3 3 3 3\n");
+    let row = &rest.state()[rest.state().len() - 16..];
+    assert_eq!((row[0], &row[2..10], &row[10..]), (2, &leaves[..], &[0; 6][..]));
 }
 
 #[test]

@@ -50,23 +50,24 @@ impl<'r> Draft<'r> {
 
     /// A whole flow, free or in one of the shapes.
     pub fn flow(mut self) -> Drafted {
-        let of = self.some_type(self.limits.leaves);
+        let of = self.even_type();
         let code = match self.random.below(100) {
-            0..=26 => {
+            0..=9 => {
                 let fuel = self.fuel();
                 self.task(&of, fuel)
             }
-            27..=33 => {
+            10..=16 => {
                 let fuel = self.fuel();
                 self.at_the_end(&of, fuel)
             }
-            34..=44 => self.trying(),
-            45..=55 => self.racing(),
-            56..=62 => self.deep_binders(&of),
-            63..=69 => self.deep_marks(&of),
-            70..=73 => self.deep_picks(&of),
-            74..=78 => self.deep_left(&of),
-            _ => self.ordered(),
+            17..=27 => self.trying(),
+            28..=36 => self.racing(),
+            37..=41 => self.deep_binders(&of),
+            42..=46 => self.deep_marks(&of),
+            47..=50 => self.deep_picks(&of),
+            51..=56 => self.deep_left(&of),
+            57..=68 => self.ordered(),
+            _ => self.wide(),
         };
         let code = if self.random.chance(5) { self.behind_an_end(code) } else { code };
         self.drafted(code)
@@ -109,11 +110,33 @@ impl<'r> Draft<'r> {
         }
     }
 
-    /// A type of at most `leaves` leaves.
-    pub fn some_type(&mut self, leaves: usize) -> Type {
-        if leaves > 1 && self.random.chance(30) {
+    /// A type of at most `most` leaves, more often of one.
+    pub fn some_type(&mut self, most: usize) -> Type {
+        let leaves = if self.random.chance(30) { 1 } else { 1 + self.random.below(most) };
+        self.type_of(leaves)
+    }
+
+    /// A type of one leaf up to as many as go, each number alike.
+    fn even_type(&mut self) -> Type {
+        let leaves = 1 + self.random.below(self.limits.leaves);
+        self.type_of(leaves)
+    }
+
+    /// The same, half of the time the larger of two: types of few leaves come up as parts of others, too.
+    pub fn wide_type(&mut self) -> Type {
+        let (one, other) = (self.even_type(), self.even_type());
+        if other.leaves() > one.leaves() && self.random.chance(50) {
+            other
+        } else {
+            one
+        }
+    }
+
+    /// A type of so many leaves.
+    fn type_of(&mut self, leaves: usize) -> Type {
+        if leaves > 1 {
             let first = 1 + self.random.below(leaves - 1);
-            return Type::pair(self.some_type(first), self.some_type(leaves - first));
+            return Type::pair(self.type_of(first), self.type_of(leaves - first));
         }
         match self.random.below(10) {
             0 => Type::Unit,

@@ -9,7 +9,7 @@ impl Draft<'_> {
     pub fn ordered(&mut self) -> Code {
         let cell = self.number_cell();
         let of = &self.some_type(self.limits.leaves - 1);
-        let task = match self.random.below(16) {
+        let task = match self.random.below(20) {
             0..=1 => {
                 let among = if self.random.chance(50) { &Operator::ALL[6..] } else { &Operator::ALL[..] };
                 let operator = *self.random.pick(among).expect("operators");

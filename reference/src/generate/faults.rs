@@ -4,6 +4,7 @@ use super::draft::{Draft, Limits};
 use super::touches::{put, NO_FIELDS};
 use super::{accepted, blanks, counted, layout, with_count};
 use crate::kinds::{self, Operand};
+use crate::limits::LEAVES;
 use crate::random::Random;
 use crate::session::COUNT;
 use crate::sheet::{Row, COLUMNS, LINE, LINES};
@@ -79,14 +80,8 @@ fn break_rows(random: &mut Random, rows: &mut Vec<Row>) {
         }
         8 => rows.truncate(rows.len().max(2) - 1),
         9 => {
-            // A type of 5 leaves or more, which nothing names.
-            let types = [
-                Row::new(3, 0, 0, 0),
-                Row::new(4, 0, 0, 0),
-                Row::new(4, 1, 1, 0),
-                Row::new(4, 2, random.between(0, 2), 0),
-            ];
-            rows.iter_mut().for_each(|row| layout::raise(row, 4));
+            let types = too_wide(random);
+            rows.iter_mut().for_each(|row| layout::raise(row, types.len() as i32));
             rows.splice(0..0, types);
         }
         10 => break_binder(random, rows),
@@ -94,6 +89,15 @@ fn break_rows(random: &mut Random, rows: &mut Vec<Row>) {
         _ => rows[at].kind = random.between(20, 49),
     }
     rows.truncate(LINES + 1);
+}
+
+/// Types that double up to as many leaves as a type may have, and one of more, which nothing names.
+fn too_wide(random: &mut Random) -> Vec<Row> {
+    let doubled = LEAVES.ilog2() as i32;
+    let mut types = vec![Row::new(3, 0, 0, 0)];
+    types.extend((0..doubled).map(|at| Row::new(4, at, at, 0)));
+    types.push(Row::new(4, doubled, random.between(0, doubled), 0));
+    types
 }
 
 /// Puts a number into an unused operand, if the row has one.

@@ -2,7 +2,7 @@
 //!
 //! [`draft`] makes well-typed flows out of [`plain`] expressions and [`tasks`], some of them in
 //! the [`shapes`] and with the [`effects`] that slips hide in, some with numbers at the [`ends`] of the
-//! range; [`layout`] writes them as rows; [`faults`] breaks sheets near each ground; [`touches`] makes
+//! range, some over [`wide`] values; [`layout`] writes them as rows; [`faults`] breaks sheets near each ground; [`touches`] makes
 //! events, most of them from the list shown; [`blanks`] leaves fields of both blank. [`states`] makes
 //! states of a flow that no session need reach.
 
@@ -17,6 +17,7 @@ pub mod shapes;
 pub mod states;
 pub mod tasks;
 pub mod touches;
+pub mod wide;
 
 use crate::event::{Action, Entry};
 use crate::flow::Flow;
@@ -85,8 +86,7 @@ fn events(random: &mut Random, flow: &Flow) -> Vec<u8> {
         events.extend(event);
     }
     if random.chance(10) {
-        let event = touches::event(random, &state.look().entries);
-        events.extend_from_slice(&event[..1 + random.below(event.len() - 1)]);
+        events.extend(touches::short(random, &state.look().entries));
     }
     events
 }

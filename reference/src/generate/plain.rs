@@ -128,7 +128,7 @@ impl Draft<'_> {
     fn operator(&mut self, of: &Type) -> (Operator, Type) {
         let (among, operands) = match of {
             Type::Number => (&Operator::ALL[..3], Type::Number),
-            _ if self.random.chance(50) => (&Operator::ALL[3..6], Type::Number),
+            _ if self.random.chance(30) => (&Operator::ALL[3..6], Type::Number),
             _ => (&Operator::ALL[6..], Type::Truth),
         };
         (*self.random.pick(among).expect("operators"), operands)

@@ -8,7 +8,7 @@ impl Draft<'_> {
     /// Parts that race for a cell: they wait for a content and write another.
     pub fn racing(&mut self) -> Code {
         let cell = self.number_cell();
-        let parts = 2 + self.random.below(self.limits.leaves.min(4) - 1);
+        let parts = 2 + self.random.below(self.limits.leaves - 1);
         self.racers(cell, parts)
     }
 

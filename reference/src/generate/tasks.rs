@@ -31,7 +31,7 @@ impl Draft<'_> {
             (when(binds, 6), Form::Step(Going::ByItself)),
             (when(binds, 5), Form::Step(Going::AtContinue)),
             (when(small, 1), Form::Fail),
-            (when(marks && matches!(of, Type::Pair(_)), 14), Form::Both),
+            (when(marks && matches!(of, Type::Pair(_)), 10), Form::Both),
             (when(marks, 3), Form::Choice),
             (3, Form::Pick),
             (2, Form::Condition),

@@ -1,10 +1,10 @@
 //! Events: most from the list shown, some near it, some that cannot be read.
 
 use super::blanks;
-use crate::event::{self, Action, Entry, EVENT, PATH};
+use crate::event::{self, leaf_columns, with_four_leaves, Action, Entry, ACTION, EVENT, PATH};
 use crate::limits::LEAVES;
 use crate::random::Random;
-use crate::value::Leaves;
+use crate::value::{padded, Leaves};
 
 /// Texts that are no field.
 pub const NO_FIELDS: [&str; 13] =
@@ -15,6 +15,15 @@ pub fn event(random: &mut Random, entries: &[Entry]) -> Vec<u8> {
     let (mut event, kinds) = filled(random, entries);
     blanks::event(random, kinds, &mut event);
     event
+}
+
+/// An event that is too short: cut anywhere, or one of four leaves, as events were before CR 4.
+pub fn short(random: &mut Random, entries: &[Entry]) -> Vec<u8> {
+    let event = event(random, entries);
+    match random.chance(25) {
+        true => with_four_leaves(&event),
+        false => event[..1 + random.below(EVENT - 1)].to_vec(),
+    }
 }
 
 /// An event without blanks, or with one that is meant; and the leaf kinds that it was made for.
@@ -97,7 +106,7 @@ fn stray(random: &mut Random) -> Vec<u8> {
     let length = random.below(longest + 1);
     let path: String = (0..length).map(|_| if random.chance(50) { '1' } else { '2' }).collect();
     let leaf = if random.chance(20) { random.word() } else { 0 };
-    event::write(&path, random.between(0, 5), [leaf, 0, 0, 0])
+    event::write(&path, random.between(0, 5), padded(&[leaf]))
 }
 
 /// An event with something in it that cannot be read, or mostly so.
@@ -111,12 +120,13 @@ fn unreadable(random: &mut Random, mut event: Vec<u8>) -> Vec<u8> {
         }
         2 => put(&mut event[..PATH], random.pick(&paths).expect("paths")),
         3 => {
-            let from = PATH + 2 + 12 * random.below(LEAVES);
-            put(&mut event[from..from + 12], random.pick(&NO_FIELDS).expect("fields"));
+            let columns = leaf_columns(random.below(LEAVES));
+            put(&mut event[columns], random.pick(&NO_FIELDS).expect("fields"));
         }
-        _ => {
-            put(&mut event[PATH..PATH + 2], random.pick(&["", "0", "5", "-1", "01", "+1", "1 ", "x"]).expect("actions"))
-        }
+        _ => put(
+            &mut event[PATH..PATH + ACTION],
+            random.pick(&["", "0", "5", "-1", "01", "+1", "1 ", "x"]).expect("actions"),
+        ),
     }
     event
 }

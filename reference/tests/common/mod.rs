@@ -1,11 +1,15 @@
 //! Sheets, touches and screens for the tests.
 #![allow(dead_code)]
 
-use reference::event;
+use reference::event::{self, ENTRY, LEAF};
 use reference::flow::Flow;
+use reference::limits::LEAVES;
 use reference::rules::Rules;
-use reference::session;
+use reference::session::{self, HEAD, HEAD_COUNT, HEAD_LEAVES};
 use reference::sheet::{self, Row};
+pub use reference::value::padded;
+use reference::value::Leaves;
+use std::array;
 
 /// The operands that each kind uses, as places: A 1, B 2, C 3.
 pub const USED: [(i32, &[usize]); 27] = [
@@ -128,16 +132,17 @@ pub fn printed() -> Sheet {
     ])
 }
 
-/// The screens printed in 01, after start and its three events.
+/// The screens printed in 01, after start and its three events, in the columns of CR 4: each number stands where it
+/// stood, with four leaves and four leaf kinds more.
 pub const PRINTED: &str = concat!(
-    "   0   1 0 0           0           0           0           0   1\n",
-    "               0 1 3 0 0 0\n",
-    "   0   1 0 0           0           0           0           0   1\n",
-    "               0 1 3 0 0 0\n",
-    "   0   2 0 1         120           0           0           0   1\n",
-    "               0 1 3 0 0 0\n",
-    "   9   0 0 1         120           0           0           0   1\n",
-    "               0 1 3 0 0 0\n",
+    "   0   1 0 0           0           0           0           0           0           0           0           0   1\n",
+    "               0 1 3 0 0 0 0 0 0 0\n",
+    "   0   1 0 0           0           0           0           0           0           0           0           0   1\n",
+    "               0 1 3 0 0 0 0 0 0 0\n",
+    "   0   2 0 1         120           0           0           0           0           0           0           0   1\n",
+    "               0 1 3 0 0 0 0 0 0 0\n",
+    "   9   0 0 1         120           0           0           0           0           0           0           0   1\n",
+    "               0 1 3 0 0 0 0 0 0 0\n",
 );
 
 /// What load answers.
@@ -146,19 +151,19 @@ pub fn loads(text: &[u8]) -> i32 {
 }
 
 pub fn value(path: &str, number: i32) -> Vec<u8> {
-    event::write(path, 1, [number, 0, 0, 0])
+    event::write(path, 1, padded(&[number]))
 }
 
 pub fn go_on(path: &str) -> Vec<u8> {
-    event::write(path, 2, [0; 4])
+    event::write(path, 2, [0; LEAVES])
 }
 
 pub fn left(path: &str) -> Vec<u8> {
-    event::write(path, 3, [0; 4])
+    event::write(path, 3, [0; LEAVES])
 }
 
 pub fn right(path: &str) -> Vec<u8> {
-    event::write(path, 4, [0; 4])
+    event::write(path, 4, [0; LEAVES])
 }
 
 /// A session's input.
@@ -176,7 +181,7 @@ pub struct Screen {
     pub answer: i32,
     pub strides: i32,
     pub failing: bool,
-    pub value: Option<[i32; 4]>,
+    pub value: Option<Leaves>,
     /// Path, action and leaf kinds, one space between.
     pub entries: Vec<String>,
 }
@@ -208,12 +213,12 @@ pub fn read_screens(output: &[u8]) -> Vec<Screen> {
     let mut lines = text.lines();
     let mut screens = Vec::new();
     while let Some(head) = lines.next() {
-        assert_eq!(head.len(), 64);
+        assert_eq!(head.len(), HEAD - 1);
         let number = |from: usize, to: usize| head[from..to].trim().parse::<i32>().expect("a number");
-        let leaves = [number(12, 24), number(24, 36), number(36, 48), number(48, 60)];
-        let entries = lines.by_ref().take(number(60, 64) as usize).map(words).collect();
+        let leaves = array::from_fn(|leaf| number(HEAD_LEAVES + LEAF * leaf, HEAD_LEAVES + LEAF * (leaf + 1)));
+        let entries = lines.by_ref().take(number(HEAD_COUNT.start, HEAD_COUNT.end) as usize).map(words).collect();
         let value = (number(10, 12) == 1).then_some(leaves);
-        assert!(value.is_some() || leaves == [0; 4]);
+        assert!(value.is_some() || leaves == [0; LEAVES]);
         screens.push(Screen {
             answer: number(0, 4),
             strides: number(4, 8),
@@ -226,6 +231,6 @@ pub fn read_screens(output: &[u8]) -> Vec<Screen> {
 }
 
 fn words(entry: &str) -> String {
-    assert_eq!(entry.len(), 26);
+    assert_eq!(entry.len(), ENTRY - 1);
     entry.split_whitespace().collect::<Vec<_>>().join(" ")
 }

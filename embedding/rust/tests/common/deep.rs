@@ -1,7 +1,7 @@
 //! Sheets on which the calls nest deepest: each 48, and each right side that a 43 tries, is settled on a copy of the state.
 #![allow(dead_code)] // Each user takes some of it.
 
-use nannyjiffy::MAX_ROWS;
+use nannyjiffy::{MAX_LEAVES, MAX_ROWS};
 use reference::sheet::Row;
 
 /// A number's type and an empty editor.
@@ -63,5 +63,5 @@ pub fn deepest() -> [(&'static str, Vec<Row>, u32); 4] {
 
 /// An event at the empty path, with leaves 0.
 pub fn event(action: u32) -> Vec<u8> {
-    format!("{:16}{action:2}{:12}{:12}{:12}{:12}\n", 0, 0, 0, 0, 0).into_bytes()
+    format!("{:16}{action:2}{}\n", 0, format!("{:12}", 0).repeat(MAX_LEAVES)).into_bytes()
 }

@@ -29,9 +29,9 @@ pub fn screens(input: &[u8]) -> Option<Vec<u8>> {
 fn print(out: &mut String, number: u32, rest: Option<&Rest>) {
     let (strides, screen) = (rest.map_or(0, Rest::strides), rest.map(Rest::look));
     let [fails, valued] = screen.as_ref().map_or([false; 2], |s| [s.failing, s.value.is_some()]).map(u32::from);
-    let [a, b, c, d] = screen.as_ref().and_then(|s| s.value).unwrap_or_default();
+    let leaves = screen.as_ref().and_then(|s| s.value).unwrap_or_default().map(|leaf| format!("{leaf:12}")).concat();
     let entries = screen.as_ref().map_or(&b""[..], |s| s.entries());
     let count = screen.as_ref().map_or(0, |s| s.count());
-    writeln!(out, "{number:4}{strides:4}{fails:2}{valued:2}{a:12}{b:12}{c:12}{d:12}{count:4}").expect("memory");
+    writeln!(out, "{number:4}{strides:4}{fails:2}{valued:2}{leaves}{count:4}").expect("memory");
     out.push_str(std::str::from_utf8(entries).expect("digits and spaces"));
 }
