@@ -6,7 +6,6 @@ mod common;
 use common::*;
 use reference::blank_edges::{self, all_blank, blanked, EVERY_KIND};
 use reference::calls::{self, ROW};
-use reference::edges;
 use reference::field::{self, Field};
 use reference::flow::Flow;
 use reference::generate::{self, blanks};
@@ -199,12 +198,7 @@ fn a_blank_row_count_gets_1() {
 #[test]
 fn edges_with_blanks() {
     let inputs = blank_edges::inputs();
-    let mut names: Vec<&String> = inputs.iter().map(|(name, _)| name).collect();
-    names.sort();
-    names.dedup();
-    assert_eq!(names.len(), inputs.len());
-    let all = edges::inputs();
-    assert!(inputs.iter().all(|input| all.contains(input)));
+    assert_among_edges(&inputs);
     // Where each is taken, every set of blank leaves is.
     for (name, input) in inputs.iter().filter(|(name, _)| name.starts_with("blank leaves taken")) {
         let screens = read_screens(&session::screens(input, Rules::default()));

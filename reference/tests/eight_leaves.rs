@@ -4,7 +4,6 @@
 mod common;
 
 use common::*;
-use reference::edges;
 use reference::event::{self, event_bytes, leaf_columns, with_four_leaves, ENTRY, EVENT};
 use reference::leaf_edges::{self, fitting, mixed, Nesting, Rows, NESTINGS};
 use reference::limits::{ENCLOSING, LEAVES, LEAVES_BEFORE};
@@ -190,12 +189,7 @@ fn lengths_of_events() {
 #[test]
 fn edges_of_leaves() {
     let inputs = leaf_edges::inputs();
-    let mut names: Vec<&String> = inputs.iter().map(|(name, _)| name).collect();
-    names.sort();
-    names.dedup();
-    assert_eq!(names.len(), inputs.len());
-    let all = edges::inputs();
-    assert!(inputs.iter().all(|input| all.contains(input)));
+    assert_among_edges(&inputs);
     let about_leaves = [
         Slip::TypeOfNine,
         Slip::TypeOverFour,

@@ -6,7 +6,7 @@ use mathlib.Core.List.{List, [], _∷_, map}
 use Prim.Native.Nat.{ℕ}
 use lib.IntN.{ℤ, pos}
 use Rattle.decimal.specs.Path.{Mark, first, second, Path}
-use Rattle.tophat.specs.Syntax.{Ty, Exp, enumber, Code, fail, TaskOf, failed, Val, vnumber, Store}
+use Rattle.tophat.specs.Syntax.{Ty, unit, truth, number, pair, Exp, enumber, Code, fail, TaskOf, failed, Val, vnumber, Store}
 use Rattle.tophat.specs.Typing.{typeOf}
 use Rattle.tophat.specs.Leaves.{leavesOf, padded, leafNumber, Given}
 use Rattle.tophat.specs.Normalising.{value}
@@ -119,3 +119,17 @@ editor p = editorOf 3 p
 
 abbrev pub buttonLine : ℕ → Line
 buttonLine n = line [] n (padded 0 [])
+
+-- a type of 8 leaves (CR 4), the entry of its editor at a path, and leaves given to it: its first unit and the last leaf, and others that fit
+abbrev pub eight : Ty
+eight = let four = pair (pair (pair number truth) unit) number in pair four four
+
+abbrev pub eightLine : List ℕ → Line
+eightLine p = line p 1 (3 ∷ 2 ∷ 1 ∷ 3 ∷ 3 ∷ 2 ∷ 1 ∷ 3 ∷ [])
+
+abbrev pub givingEight : ℕ → Given → Action
+givingEight u l = give (some (pos 11) ∷ some (pos 1) ∷ some (pos u) ∷ some (pos 14) ∷ some (pos 15) ∷ some (pos 0) ∷ some (pos 0) ∷ l ∷ [])
+
+-- as many leaves as a screen has, without a value
+abbrev pub noLeaves : List ℤ
+noLeaves = pos 0 ∷ pos 0 ∷ pos 0 ∷ pos 0 ∷ pos 0 ∷ pos 0 ∷ pos 0 ∷ pos 0 ∷ []

@@ -4,15 +4,14 @@ use mathlib.Core.Path.{_≡_, refl}
 use mathlib.Core.Bool.{Bool, true, false}
 use mathlib.Core.Option.{none, some, bind}
 use mathlib.Core.List.{List, [], _∷_, map}
-use Prim.Native.Nat.{ℕ}
 use lib.IntN.{ℤ, pos, negsuc}
 use native.Mathlib.Decide.{decLe}
 use Rattle.word.specs.Word.{isWord}
 use Rattle.decimal.specs.Path.{first, second}
-use Rattle.tophat.specs.Syntax.{leaves, moves, Ty, unit, truth, number, pair, Op, sum, difference, product, lessEqual, equal, enumber, ebinder, eop, eassign}
+use Rattle.tophat.specs.Syntax.{leaves, moves, unit, truth, number, pair, Op, sum, difference, product, lessEqual, equal, enumber, ebinder, eop, eassign}
 use Rattle.tophat.specs.Syntax.{edit, enter, update, then, next, fail, and, or, xor, view, if, let', vnumber}
 use Rattle.tophat.specs.Typing.{typeOf}
-use Rattle.tophat.specs.Leaves.{leavesOf, padded, Given, leafKinds, valueOf, meetsLeaf, meets, numberGiven, given}
+use Rattle.tophat.specs.Leaves.{leavesOf, padded, leafKinds, valueOf, meetsLeaf, meets, numberGiven, given}
 use Rattle.tophat.specs.Normalising.{value, pairOf}
 use Rattle.tophat.specs.Handling.{continue, left, right, give, press}
 use Rattle.tophat.specs.Showing.{marked, offers, buttonIf}
@@ -21,8 +20,8 @@ use Rattle.tophat.proofs.ComputeEvaluation.{eval, branch, isTrue, apply
 use Rattle.tophat.proofs.ComputeNormalising.{failing, normalise, settle, strides, unlessStill, goOn, goOnWith, chooseRight, chooseLeft}
 use Rattle.tophat.proofs.ComputeHandling.{handle, mapTask, thenSome, atEditor, atMark, atSides, atContinue, unlessFailing}
 use Rattle.tophat.proofs.ComputeEntries.{entries, continueIf}
-use Rattle.tophat.proofs.CaseScreens.{Line, line, screen, digit, lineOf, flag, valueFlag, valueLeaves, screenOf, Case, expected, taken, screens, failedWhole, computed}
-use Rattle.tophat.proofs.CaseScreens.{num, cell, single, giving1, givingBlank, value1, editorOf, editor, buttonLine}
+use Rattle.tophat.proofs.CaseScreens.{screen, digit, lineOf, flag, valueFlag, valueLeaves, screenOf, Case, expected, taken, screens, failedWhole, computed}
+use Rattle.tophat.proofs.CaseScreens.{num, cell, single, giving1, givingBlank, value1, editorOf, editor, buttonLine, eight, eightLine, givingEight, noLeaves}
 
 -- P1 to P4: 01's session: started, value 12, value 4, Continue
 abbrev pub p1-p4 : Case
@@ -277,26 +276,14 @@ over-xor = record {
 }
 
 -- CR 4: an editor of 8 leaves of all kinds. A unit that is not 0 is refused, and so is leaf 8 left blank; all 8 are taken, and shown
-abbrev eight : Ty
-eight = let four = pair (pair (pair number truth) unit) number in pair four four
-
-abbrev eightLine : List ℕ → Line
-eightLine p = line p 1 (3 ∷ 2 ∷ 1 ∷ 3 ∷ 3 ∷ 2 ∷ 1 ∷ 3 ∷ [])
-
-abbrev noLeaves : List ℤ
-noLeaves = pos 0 ∷ pos 0 ∷ pos 0 ∷ pos 0 ∷ pos 0 ∷ pos 0 ∷ pos 0 ∷ pos 0 ∷ []
-
-abbrev eightLeaves : ℕ → List Given → List Given
-eightLeaves u ls = some (pos 11) ∷ some (pos 1) ∷ some (pos u) ∷ some (pos 14) ∷ some (pos 15) ∷ some (pos 0) ∷ some (pos 0) ∷ ls
-
 abbrev pub wide : Case
 wide = record {
   flow = enter eight;
   cells = [];
   events =
-      ([], give (eightLeaves 5 (some (negsuc 17) ∷ [])))
-      ∷ ([], give (eightLeaves 0 (none ∷ [])))
-      ∷ ([], give (eightLeaves 0 (some (negsuc 17) ∷ [])))
+      ([], givingEight 5 (some (negsuc 17)))
+      ∷ ([], givingEight 0 none)
+      ∷ ([], givingEight 0 (some (negsuc 17)))
       ∷ [];
   type = some eight;
   shown =

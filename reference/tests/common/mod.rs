@@ -1,6 +1,7 @@
 //! Sheets, touches and screens for the tests.
 #![allow(dead_code)]
 
+use reference::edges;
 use reference::event::{self, ENTRY, LEAF};
 use reference::flow::Flow;
 use reference::limits::LEAVES;
@@ -10,6 +11,7 @@ use reference::sheet::{self, Row};
 pub use reference::value::padded;
 use reference::value::Leaves;
 use std::array;
+use std::collections::BTreeSet;
 
 /// The operands that each kind uses, as places: A 1, B 2, C 3.
 pub const USED: [(i32, &[usize]); 27] = [
@@ -173,6 +175,14 @@ pub fn input(sheet: &[u8], events: &[Vec<u8>]) -> Vec<u8> {
     input.extend_from_slice(sheet);
     input.extend(events.iter().flatten());
     input
+}
+
+/// These edges are told apart by their names, and are among those that programs are compared on.
+pub fn assert_among_edges(inputs: &[(String, Vec<u8>)]) {
+    let names: BTreeSet<&String> = inputs.iter().map(|(name, _)| name).collect();
+    assert_eq!(names.len(), inputs.len());
+    let all = edges::inputs();
+    assert!(inputs.iter().all(|input| all.contains(input)));
 }
 
 /// A screen, read back from what the session printed.
