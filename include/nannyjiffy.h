@@ -11,7 +11,7 @@
  * The caller owes what a pointer in C owes: it is not NULL (also where its count is 0), is aligned for its type, has as many
  * words or bytes as the count says, and the memories that one call writes overlap with no other memory lent to that call.
  *
- * Stack. The deeper a sheet nests, the more a call takes: 45 KB and up, at most NANNYJIFFY_STACK_BYTES on every sheet that was
+ * Stack. The deeper a sheet nests, the more a call takes: 48 KB and up, at most NANNYJIFFY_STACK_BYTES on every sheet that was
  * measured, the deepest of 256 rows among them (docs/PERFORMANCE.md). Too little ends the program, at the stack's guard page.
  */
 #ifndef NANNYJIFFY_H
