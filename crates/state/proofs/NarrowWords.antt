@@ -1,6 +1,6 @@
 -- The words of a state of narrow types (CR 4: "State memory keeps 16 words a row"): where what a flow holds has at most k leaves, each row is 0
--- behind its tag, a shape and k leaves. So a flow whose types have at most four leaves has the states that it had when a type had no
--- more, and one that was kept then is read now. Rests on Typed.
+-- behind its tag, a shape and k leaves. What stands before is written as it was, so a flow whose types have at most four leaves has the
+-- states that it had when a type had no more, and one that was kept then is read now. Rests on Typed.
 use mathlib.Core.Path.{_≡_, refl, ap, _∙_}
 use mathlib.Core.Bool.{Bool, true, false, cond}
 use mathlib.Core.List.{List, [], _∷_}

@@ -40,7 +40,7 @@ abbrev pub NarrowCells : ℕ → List Ty → Type 0
 NarrowCells k Σ = (j : ℕ) (τ : Ty) → At Σ j τ → leaves τ ≤ k
 
 -- a typed code has types of at most maxLeaves
-pub all-narrow : {Σ Γ : List Ty} {c : Code} {τ : Ty} → CodeType Σ Γ c τ → AllSmall Σ → AllSmall Γ → Narrow maxLeaves Σ Γ c
+all-narrow : {Σ Γ : List Ty} {c : Code} {τ : Ty} → CodeType Σ Γ c τ → AllSmall Σ → AllSmall Γ → Narrow maxLeaves Σ Γ c
 all-narrow (t-edit d) g h = n-edit d (type-leaves d g h)
 all-narrow (t-enter l) g h = n-enter l
 all-narrow (t-update d) g h = n-update

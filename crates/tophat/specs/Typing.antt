@@ -26,7 +26,7 @@ pub data OpType : Op → Ty → Ty → Type 0 where
   o-and : OpType andOp truth truth
   o-or : OpType orOp truth truth
 
--- plain expressions. 01: "an expression whose type passes" CR 4's "8 leaves has no type"
+-- plain expressions. 01, with CR 4's 8 in place of 4: an expression whose type passes 8 leaves has no type
 pub data HasType (Σ : List Ty) : List Ty → Exp → Ty → Type 0 where
   t-unit : {Γ : List Ty} → HasType Σ Γ eunit unit
   t-truth : {Γ : List Ty} {b : Bool} → HasType Σ Γ (etruth b) truth
