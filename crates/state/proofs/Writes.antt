@@ -149,7 +149,7 @@ module _ (rs : List ℕ) (n i : ℕ) (l : i < n) (xs : List ℕ) (h : length xs 
           long = q .long ∙ long₁;
         }
 
-    two : (t : TaskOf a) (u : TaskOf b) → Writes rs n (word rs i k) a t → Writes rs n (word rs i m) b u
+    pub two : (t : TaskOf a) (u : TaskOf b) → Writes rs n (word rs i k) a t → Writes rs n (word rs i m) b u
         → let ws₂ = writeTask rs (word rs i k) a t first in let ws₃ = writeTask rs (word rs i m) b u ws₂ in
         Wrote (Row ws₃ i xs × Holds rs ws₃ (word rs i k) a t × Holds rs ws₃ (word rs i m) b u) FootF ws ws₃
     two t u wa wb =

@@ -28,3 +28,12 @@ pub mod HandlingSound
 pub mod Blanks
 pub mod EntriesAgree
 pub mod EveryRun
+-- flows drawn another way (CR 5), and cells at other places
+pub mod StrideMaps
+pub mod Mirroring
+pub mod Regrouping
+pub mod RegroupingTouches
+pub mod Renaming
+pub mod RenamingSteps
+pub mod RenamingTouches
+pub mod RenamingTyped

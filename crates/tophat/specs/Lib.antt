@@ -8,3 +8,5 @@ pub mod Handling
 pub mod Showing
 pub mod Residual
 pub mod Runs
+pub mod Redrawn
+pub mod Renamed

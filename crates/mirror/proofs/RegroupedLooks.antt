@@ -1,0 +1,140 @@
+-- Looks at three choices grouped one way and the other, in two states that go together, with any value memory and any list memory: equal
+-- numbers, flags and values, and a list whose entries are those of the one with their paths moved, in the same order. Rests on
+-- RegroupedStates and on call_definitions' Opening and Grounds.
+use mathlib.Core.Path.{_≡_, refl, sym, ap, subst}
+use mathlib.Core.Bool.{Bool, true, false, cond}
+use mathlib.Core.Option.{Option}
+use mathlib.Core.List.{List, [], _++_}
+use Prim.Native.Nat.{ℕ, _*_}
+use native.Mathlib.Omega.{arith}
+use lib.Dec.{leb, eqb}
+use lib.IntN.{ℤ}
+use lib.ListN.{length, drop, length-map}
+use Rattle.decimal.specs.Path.{Path}
+use Rattle.tophat.specs.Syntax.{maxLeaves, Ty, Code, Val}
+use Rattle.tophat.specs.Normalising.{value}
+use Rattle.tophat.specs.Showing.{Entry}
+use Rattle.tophat.specs.Redrawn.{moved}
+use Rattle.tophat.proofs.ComputeNormalising.{failing}
+use Rattle.tophat.proofs.ComputeEntries.{entries}
+use Rattle.tophat.specs.Typing.{small-nil}
+use Rattle.formats.specs.Touches.{entryBytes}
+use Rattle.formats.specs.Lists.{listText, Fits, fit-none}
+use Rattle.formats.proofs.EntriesFit.{entries-fit}
+use Rattle.rows.proofs.Basics.{no}
+use Rattle.rows.proofs.CellsAt.{cells-small}
+use Rattle.rows.specs.GroundNumbers.{wrongMemory, listTooShort}
+use Rattle.call_definitions.specs.Memory.{LookAnswer, lookRefusal, flag, valueMemory, hasOne}
+use Rattle.call_definitions.specs.States.{FlowState, valueIn}
+use Rattle.call_definitions.specs.Answers.{AcceptedFlow, IsRest}
+use Rattle.call_definitions.specs.Calls.{refusedBy, restOf, opened, lookIn, lookCall}
+use Rattle.call_definitions.proofs.Opening.{opens, state-typed, state-marks}
+use Rattle.call_definitions.proofs.Grounds.{opened-misfit}
+use Rattle.mirror.specs.Regrouped.{Regroups, Corresponds, tasks, failures, Stand, LooksRegrouped}
+use Rattle.mirror.proofs.RegroupedStates.{value-same, failing-same, entries-moved}
+
+-- ---- one flow: a rest is opened where the value memory fits
+
+opened-rest : {rows ws : List ℤ} {c : Code} {Σ : List Ty} {τ : Ty} → AcceptedFlow rows c Σ τ → (r : IsRest rows ws c Σ τ)
+    → (b : Bool) → opened rows ws b ≡ cond b (restOf (r .state)) (refusedBy wrongMemory)
+opened-rest a r true = opens a (r .writes) (r .still)
+opened-rest {rows} {ws} a r false = opened-misfit rows ws false (a .loads) (λ m f. no f)
+
+-- its entries can be written
+shown-fit : {rows ws : List ℤ} {c : Code} {Σ : List Ty} {τ : Ty} (a : AcceptedFlow rows c Σ τ) (r : IsRest rows ws c Σ τ)
+    → Fits 0 (entries (r .state .code) [] (r .state .store) (r .state .task))
+shown-fit a r = let (k, h) = state-typed a (r .writes) in entries-fit (cells-small (a .flow .cells)) h 0 [] k small-nil (omega arith) (state-marks a (r .writes))
+
+-- ---- both
+
+module _ {rows rows₁ : List ℤ} (g : Regroups rows rows₁) where
+  -- what look asks of a state
+  record SeenAlike (f : Path → Path) (y y₁ : FlowState) : Type 0 where
+    shown : entries (y₁ .code) [] (y₁ .store) (y₁ .task) ≡ moved f (entries (y .code) [] (y .store) (y .task))
+    fails : failing (y₁ .code) [] (y₁ .store) (y₁ .task) ≡ failing (y .code) [] (y .store) (y .task)
+    value : valueIn y₁ ≡ valueIn y
+
+  seen-alike : {y y₁ : FlowState} {f : Path → Path} → Corresponds g y y₁ f → SeenAlike f y y₁
+  unfolding entries failing value
+  seen-alike (tasks {t} k) = record { shown = entries-moved g k t; fails = failing-same g k t; value = value-same g k t }
+  seen-alike failures = record { shown = refl; fails = refl; value = refl }
+
+  module _ (f : Path → Path) (values : List ℤ) (list : List ℕ) where
+    -- what a look answers where the list memory has room, and where it has not
+    abbrev seen : Bool → List Entry → Bool → Option Val → LookAnswer
+    seen room es x v = cond room (record {
+      number = 0;
+      hasValue = hasOne v;
+      fails = flag x;
+      value = valueMemory v;
+      part = listText es;
+      list = listText es ++ drop (length (listText es)) list;
+    }) (lookRefusal listTooShort values list)
+
+    abbrev roomFor : List Entry → Bool
+    roomFor es = leb (length es * entryBytes) (length list)
+
+    both-refused : (n : ℕ) → (n ≡ 0 → ⊥) → LooksRegrouped f list (lookRefusal n values list) (lookRefusal n values list)
+    both-refused n h = record {
+      number = refl;
+      hasValue = refl;
+      fails = refl;
+      value = refl;
+      refused = λ k. refl;
+      entries = [];
+      fits = fit-none;
+      fits-regrouped = fit-none;
+      part = λ e. absurd (h e);
+      part-regrouped = λ e. absurd (h e);
+      list-regrouped = λ e. absurd (h e);
+    }
+
+    by-room : (room : Bool) (es : List Entry) (x : Bool) (v : Option Val) → Fits 0 es → Fits 0 (moved f es)
+        → LooksRegrouped f list (seen room es x v) (seen room (moved f es) x v)
+    by-room true es x v p q = record {
+      number = refl;
+      hasValue = refl;
+      fails = refl;
+      value = refl;
+      refused = λ k. absurd (k refl);
+      entries = es;
+      fits = p;
+      fits-regrouped = q;
+      part = λ e. refl;
+      part-regrouped = λ e. refl;
+      list-regrouped = λ e. refl;
+    }
+    by-room false es x v p q = both-refused listTooShort (λ e. omega (arith, e))
+
+    -- as many entries need as much room
+    by-entries : (es : List Entry) (x : Bool) (v : Option Val) → Fits 0 es → Fits 0 (moved f es)
+        → LooksRegrouped f list (seen (roomFor es) es x v) (seen (roomFor (moved f es)) (moved f es) x v)
+    by-entries es x v p q = subst
+        (λ n. LooksRegrouped f list (seen (roomFor es) es x v) (seen (leb (n * entryBytes) (length list)) (moved f es) x v))
+        (sym (length-map es (λ e. (f (e .0), e .1)))) (by-room (roomFor es) es x v p q)
+
+    by-seen : (y y₁ : FlowState) → SeenAlike f y y₁ → Fits 0 (entries (y .code) [] (y .store) (y .task)) → Fits 0 (entries (y₁ .code) [] (y₁ .store) (y₁ .task))
+        → LooksRegrouped f list (lookIn values list (restOf y)) (lookIn values list (restOf y₁))
+    unfolding lookIn
+    by-seen y y₁ k p q =
+        let es = entries (y .code) [] (y .store) (y .task) in
+        let x = failing (y .code) [] (y .store) (y .task) in
+        let e : lookIn values list (restOf y₁) ≡ seen (roomFor (moved f es)) (moved f es) x (valueIn y) =
+        (λ j. seen (roomFor (k .shown j)) (k .shown j) (k .fails j) (k .value j)) in
+        subst (LooksRegrouped f list (lookIn values list (restOf y))) (sym e) (by-entries es x (valueIn y) p (subst (Fits 0) (k .shown) q))
+
+  module _ {ws ws₁ : List ℤ} (z : Stand g ws ws₁) (values : List ℤ) (list : List ℕ) where
+    by-fit : (b : Bool) → LooksRegrouped (z .path) list (lookIn values list (cond b (restOf (z .rest .state)) (refusedBy wrongMemory)))
+        (lookIn values list (cond b (restOf (z .rest₁ .state)) (refusedBy wrongMemory)))
+    unfolding lookIn
+    by-fit true = by-seen (z .path) values list (z .rest .state) (z .rest₁ .state) (seen-alike (z .alike)) (shown-fit (g .flow) (z .rest)) (shown-fit (g .flow₁) (z .rest₁))
+    by-fit false = both-refused (z .path) values list wrongMemory (λ e. omega (arith, e))
+
+    pub looks-together : LooksRegrouped (z .path) list (lookCall rows ws values list) (lookCall rows₁ ws₁ values list)
+    unfolding lookCall
+    looks-together =
+        let b = eqb (length values) maxLeaves in
+        subst (λ x. LooksRegrouped (z .path) list x (lookCall rows₁ ws₁ values list))
+        (sym (ap (lookIn values list) (opened-rest (g .flow) (z .rest) b)))
+        (subst (LooksRegrouped (z .path) list (lookIn values list (cond b (restOf (z .rest .state)) (refusedBy wrongMemory))))
+        (sym (ap (lookIn values list) (opened-rest (g .flow₁) (z .rest₁) b))) (by-fit b))
