@@ -1,6 +1,6 @@
 //! A second implementation of document 01, "Kiosk order flows: sheet, state and touches", and of
 //! its change requests CR 1, "A total nobody can type over", CR 2, "Blank where nothing is meant", CR 3, "Sums
-//! beyond the range", and CR 4, "Eight leaves on a proof order".
+//! beyond the range", CR 4, "Eight leaves on a proof order", and CR 5, "Mirrored screens".
 //!
 //! Trees inside, words in lent memory. Loading ([`sheet`], [`limits`], [`tree`], [`typing`], put
 //! together in [`flow`]); the rules ([`evaluate`], [`observe`], [`stride`], [`handle`], [`inputs`]);
@@ -8,13 +8,15 @@
 //! memory ([`calls`]) read and write states as words ([`words`]). The rest makes cases ([`generate`])
 //! and lent memory ([`lent`]) to compare engines on ([`compare`], [`engine`], [`program`] with the
 //! [`edges`], [`blank_edges`], [`overflow_edges`] and [`leaf_edges`]), tells what the cases cover ([`coverage`])
-//! and names wrong variants ([`slips`]).
+//! and names wrong variants ([`slips`]). CR 5 changes no rule: [`counterparts`] is what it says of bytes, [`pairs`] are
+//! sessions that correspond by it, and [`pair_report`] runs a program on them.
 #![forbid(unsafe_code)]
 
 pub mod binders;
 pub mod blank_edges;
 pub mod calls;
 pub mod compare;
+pub mod counterparts;
 pub mod coverage;
 pub mod edges;
 pub mod engine;
@@ -33,6 +35,8 @@ pub mod limits;
 pub mod observe;
 pub mod operators;
 pub mod overflow_edges;
+pub mod pair_report;
+pub mod pairs;
 pub mod program;
 pub mod random;
 pub mod rules;

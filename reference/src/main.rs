@@ -5,6 +5,7 @@ use reference::compare;
 use reference::coverage::Coverage;
 use reference::edges;
 use reference::generate;
+use reference::pair_report;
 use reference::program::Report;
 use reference::rules::Rules;
 use reference::session;
@@ -21,6 +22,9 @@ const USAGE: &str = "usage:
   reference replay               framed inputs on standard input, the screens of each and a line ---- on standard output
   reference compare PROGRAM SEED COUNT
                                  runs PROGRAM on the edges and on the cases, and compares its screens with these
+  reference mirror PROGRAM SEED COUNT
+                                 runs PROGRAM on COUNT mirrored and COUNT regrouped pairs of sessions (CR 5) and on as many
+                                 of each control, and compares its screens with these, and those of a pair with each other
   reference coverage SEED COUNT  what the cases cover
   reference slips SEED COUNT     how many cases catch each slip, and the first that does";
 
@@ -46,6 +50,7 @@ fn run(words: &[&str]) -> io::Result<()> {
             output.flush()
         }
         ["compare", program, seed, count] => compare_program(Path::new(program), number(seed)?, number(count)?),
+        ["mirror", program, seed, count] => compare_pairs(Path::new(program), number(seed)?, number(count)?),
         ["replay"] => replay(&mut io::stdin().lock(), &mut output),
         ["coverage", seed, count] => {
             write!(output, "{}", Coverage::of(generate::cases(number(seed)?, number(count)?)))?;
@@ -90,6 +95,17 @@ fn compare_program(program: &Path, seed: u64, count: u64) -> io::Result<()> {
         Ok(())
     } else {
         Err(io::Error::other("screens differ"))
+    }
+}
+
+/// Runs the program on pairs of sessions that correspond, and on the controls, which must not.
+fn compare_pairs(program: &Path, seed: u64, count: u64) -> io::Result<()> {
+    let report = pair_report::Report::of(program, seed, count)?;
+    print!("{report}");
+    if report.failures.is_empty() {
+        Ok(())
+    } else {
+        Err(io::Error::other("pairs of sessions do not correspond, or tell nothing"))
     }
 }
 

@@ -48,8 +48,14 @@ impl<'r> Draft<'r> {
         Draft { random, limits, cells, scope: Vec::new(), marks: 0 }
     }
 
-    /// A whole flow, free or in one of the shapes.
+    /// A whole flow.
     pub fn flow(mut self) -> Drafted {
+        let code = self.whole();
+        self.drafted(code)
+    }
+
+    /// The task of a whole flow, free or in one of the shapes.
+    pub fn whole(&mut self) -> Code {
         let of = self.even_type();
         let code = match self.random.below(100) {
             0..=9 => {
@@ -69,8 +75,11 @@ impl<'r> Draft<'r> {
             57..=68 => self.ordered(),
             _ => self.wide(),
         };
-        let code = if self.random.chance(5) { self.behind_an_end(code) } else { code };
-        self.drafted(code)
+        if self.random.chance(5) {
+            self.behind_an_end(code)
+        } else {
+            code
+        }
     }
 
     /// A flow past one of the limits that this draft goes past, or near it.
@@ -96,7 +105,8 @@ impl<'r> Draft<'r> {
         self.drafted(code)
     }
 
-    fn drafted(self, code: Code) -> Drafted {
+    /// The flow of this task.
+    pub fn drafted(self, code: Code) -> Drafted {
         Drafted { cells: self.cells, code }
     }
 
@@ -117,7 +127,7 @@ impl<'r> Draft<'r> {
     }
 
     /// A type of one leaf up to as many as go, each number alike.
-    fn even_type(&mut self) -> Type {
+    pub fn even_type(&mut self) -> Type {
         let leaves = 1 + self.random.below(self.limits.leaves);
         self.type_of(leaves)
     }

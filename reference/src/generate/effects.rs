@@ -86,13 +86,13 @@ impl Draft<'_> {
     }
 
     /// The cell's editor with a Continue that is offered for some contents only.
-    fn gauge(&mut self, cell: Cell) -> Code {
+    pub fn gauge(&mut self, cell: Cell) -> Code {
         let right = self.under(Type::Number, |draft| draft.asked(cell, &Type::Number));
         Code::Step(Going::AtContinue, Box::new(Code::Shared(cell)), Box::new(right))
     }
 
     /// A plain expression that writes the cell and then gives a value, often what it wrote.
-    fn effect(&mut self, cell: Cell, of: &Type) -> Plain {
+    pub fn effect(&mut self, cell: Cell, of: &Type) -> Plain {
         let before = Plain::Read(cell);
         let content = if self.random.chance(50) {
             Plain::Operation(Operator::Sum, Box::new(before), Box::new(Plain::Number(1)))
@@ -104,7 +104,7 @@ impl Draft<'_> {
     }
 
     /// An editor where the cell has some content, else fail.
-    fn asked(&mut self, cell: Cell, of: &Type) -> Code {
+    pub fn asked(&mut self, cell: Cell, of: &Type) -> Code {
         let task = self.editor(of);
         let content = Plain::Number(self.random.between(0, 2));
         let guard = Plain::Operation(Operator::Equal, Box::new(Plain::Read(cell)), Box::new(content));

@@ -4,8 +4,10 @@
 //! the [`shapes`] and with the [`effects`] that slips hide in, some with numbers at the [`ends`] of the
 //! range, some over [`wide`] values; [`layout`] writes them as rows; [`faults`] breaks sheets near each ground; [`touches`] makes
 //! events, most of them from the list shown; [`blanks`] leaves fields of both blank. [`states`] makes
-//! states of a flow that no session need reach.
+//! states of a flow that no session need reach. [`arrangements`] makes two sheets of one flow (CR 5), with what
+//! [`rewrite`] makes of its trees.
 
+pub mod arrangements;
 pub mod blanks;
 pub mod draft;
 pub mod effects;
@@ -13,6 +15,7 @@ pub mod ends;
 pub mod faults;
 pub mod layout;
 pub mod plain;
+pub mod rewrite;
 pub mod shapes;
 pub mod states;
 pub mod tasks;

@@ -25,7 +25,7 @@ impl Draft<'_> {
     }
 
     /// A part of a race, of type number.
-    fn racer(&mut self, cell: Cell) -> Code {
+    pub fn racer(&mut self, cell: Cell) -> Code {
         match self.random.below(10) {
             0..=3 => self.watcher(cell),
             4..=6 => self.writer(cell),

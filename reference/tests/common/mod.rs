@@ -1,6 +1,8 @@
 //! Sheets, touches and screens for the tests.
 #![allow(dead_code)]
 
+pub mod pairs;
+
 use reference::edges;
 use reference::event::{self, ENTRY, LEAF};
 use reference::flow::Flow;
