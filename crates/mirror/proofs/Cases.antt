@@ -33,7 +33,7 @@ use Rattle.sheet.proofs.AcceptedRows.{of-passed}
 use Rattle.call_definitions.specs.Answers.{Loads, AcceptedFlow}
 use Rattle.call_definitions.proofs.Flows.{accepts-loads, loads-found}
 use Rattle.mirror.specs.Mirrored.{exchange, mirrored, mirroredDigit, mirroredFirst, mirroredEvent}
-use Rattle.mirror.specs.Regrouped.{Set, Regroups, Regrouped}
+use Rattle.mirror.specs.Regrouped.{Flagged, Regroups, Regrouped}
 use Rattle.mirror.proofs.Regroup.{regroup}
 
 -- rows of numbers below 100
@@ -148,10 +148,10 @@ module _ (rows : List ℤ) (w : AllWords rows) (h : length rows ≡ 40) (z : gro
 abbrev shared : ℕ → Bool
 shared k = eqb k 1
 
-one-cell : Apart (λ k. 3) (Set shared)
+one-cell : Apart (λ k. 3) (Flagged shared)
 one-cell j k p q e = eqb-true j 1 p ∙ sym (eqb-true k 1 q)
 
-cell-agrees : Agrees (λ k. 3) (Set shared) (cellsAt 1) (cellsAt 3)
+cell-agrees : Agrees (λ k. 3) (Flagged shared) (cellsAt 1) (cellsAt 3)
 cell-agrees = record {
   content = λ k p. rw (eqb-true k 1 p) refl;
   inside = λ k p. rw (eqb-true k 1 p) (lit< tt);

@@ -16,6 +16,7 @@ pub mod Mirror
 -- three choices regrouped
 pub mod RegroupedStates
 pub mod RegroupedStarts
+pub mod RegroupedRests
 pub mod RegroupedTouches
 pub mod RegroupedLooks
 pub mod Counterparts

@@ -9,22 +9,24 @@
 --
 -- - both last rows have one type;
 -- - start answers 0 on both, in all memories of the right size, with equal strides, and leaves states that go together;
+-- - every rest of either sheet, whether start and touches reach it or not, goes together with a rest of the other;
 -- - look, lent the same value memory and list memory, whatever they are, gives equal numbers, flags and values; where it answers 0, the
 --   list is the one's with the paths of its entries moved, in the same order; where it refuses, both answers are one;
 -- - where a touch goes: while no choice is made, marks 1 1, 1 2 and 2 against 1, 2 1 and 2 2; then the same. Touches that go together
 --   get equal numbers and strides, the refused among them, and leave states that go together;
--- - each event of either sheet has such a counterpart, or gets 9, as one does whose path in the other sheet has more marks than an event
---   can say; so every touch that the one takes, the other takes too;
+-- - each event of either sheet has such a counterpart, or its path in the other sheet would have more marks than an event can say, and then
+--   it gets 9; so every touch that the one takes, the other takes too;
 -- - so lists of calls that go together leave states that go together, of which all this holds again.
 --
 -- The calls are those of call_definitions' specs/Calls, which the code's contracts (crate flow) are equations with. Rests on
--- RegroupedStarts, RegroupedLooks, RegroupedTouches and Counterparts.
+-- RegroupedStarts, RegroupedRests, RegroupedLooks, RegroupedTouches and Counterparts.
 use mathlib.Core.List.{List}
 use lib.IntN.{ℤ}
 use Rattle.call_definitions.specs.Touches.{Call, after, run}
 use Rattle.mirror.specs.Regrouped.{Regroups, Stand, Together, no-more, both-look, both-handle, Regrouped}
 use Rattle.mirror.proofs.RegroupedStates.{types-same}
 use Rattle.mirror.proofs.RegroupedStarts.{starts-together}
+use Rattle.mirror.proofs.RegroupedRests.{rests-there, rests-back}
 use Rattle.mirror.proofs.RegroupedLooks.{looks-together}
 use Rattle.mirror.proofs.RegroupedTouches.{touches-together}
 use Rattle.mirror.proofs.Counterparts.{there-together, back-together}
@@ -42,6 +44,8 @@ module _ {rows rows₁ : List ℤ} (g : Regroups rows rows₁) where
   regroup = record {
     types = types-same g;
     starts = starts-together g;
+    rests = rests-there g;
+    rests-back = rests-back g;
     looks = looks-together g;
     touches = touches-together g;
     there = there-together g;

@@ -35,7 +35,7 @@ module _ {rows : List ℤ} {c : Code} {Σ : List Ty} {τ : Ty} (a : AcceptedFlow
 -- ---- both
 
 module _ {rows rows₁ : List ℤ} (g : Regroups rows rows₁) where
-  failed-stand : overflowsTask (codeOne g) [] (g .flow .first) ≡ true → overflowsTask (codeThere g) [] (g .flow₁ .first) ≡ true
+  pub failed-stand : overflowsTask (codeOne g) [] (g .flow .first) ≡ true → overflowsTask (codeThere g) [] (g .flow₁ .first) ≡ true
       → Stand g (failedOf rows (g .flow .first)) (failedOf rows₁ (g .flow₁ .first))
   failed-stand o o₁ = record {
     rest = record {

@@ -7,15 +7,16 @@ use mathlib.Core.Option.{Option, none, some}
 use mathlib.Core.List.{List, []}
 use Prim.Native.Nat.{ℕ, _<_}
 use lib.IntN.{ℤ}
+use lib.ListN.{length, getD}
 use Rattle.decimal.specs.Path.{Path}
-use Rattle.tophat.specs.Syntax.{Code, TaskOf, Store}
-use Rattle.tophat.specs.Typing.{typeOf, ValueTypes}
+use Rattle.tophat.specs.Syntax.{unit, Code, TaskOf, Store}
+use Rattle.tophat.specs.Typing.{CodeType, typeOf}
 use Rattle.tophat.specs.Normalising.{value}
 use Rattle.tophat.specs.Handling.{Action}
 use Rattle.tophat.specs.Redrawn.{turned, pathIn, moved}
 use Rattle.tophat.specs.Renamed.{renamed, renamedTask, CellsIn, Agrees, SameTypes}
 use Rattle.tophat.proofs.ComputeEvaluation.{overflowsTask}
-use Rattle.tophat.proofs.ComputeNormalising.{failing, normalise, settle}
+use Rattle.tophat.proofs.ComputeNormalising.{failing, stride, normalise, settle}
 use Rattle.tophat.proofs.ComputeHandling.{mapTask, handle}
 use Rattle.tophat.proofs.ComputeEntries.{entries}
 use Rattle.tophat.proofs.Leaves.{type-of}
@@ -23,10 +24,10 @@ use Rattle.tophat.proofs.TypingAgrees.{one-task-type}
 use Rattle.tophat.proofs.NormalisingSound.{GoodNormal}
 use Rattle.tophat.proofs.Bound.{normal-rest}
 use Rattle.tophat.proofs.StrideMaps.{onTask}
-use Rattle.tophat.proofs.Regrouping.{value-turned, failing-turned, overflows-turned, normalise-turned, settle-turned, code-turned}
+use Rattle.tophat.proofs.Regrouping.{value-turned, failing-turned, overflows-turned, stride-turned, normalise-turned, settle-turned, code-turned}
 use Rattle.tophat.proofs.RegroupingTouches.{handle-turned, entries-turned}
 use Rattle.tophat.proofs.Renaming.{LikeWith, overflows-task-like}
-use Rattle.tophat.proofs.RenamingSteps.{value-like, failing-like, normalise-like, settle-like}
+use Rattle.tophat.proofs.RenamingSteps.{value-like, failing-like, stride-like, normalise-like, settle-like}
 use Rattle.tophat.proofs.RenamingTouches.{LikeOption, like-none, like-some, handle-like, entries-like}
 use Rattle.tophat.proofs.RenamingTyped.{same-types, code-typed-like}
 use Rattle.state.proofs.OneState.{typed-at, types-length}
@@ -34,7 +35,7 @@ use Rattle.call_definitions.specs.Memory.{stateOf}
 use Rattle.call_definitions.specs.States.{taskState}
 use Rattle.call_definitions.specs.Answers.{as-task}
 use Rattle.call_definitions.proofs.Opening.{first-typed}
-use Rattle.mirror.specs.Regrouped.{Set, Regroups, codeOne, codeOther, Corresponds, tasks, Stand}
+use Rattle.mirror.specs.Regrouped.{Flagged, Regroups, codeOne, codeOther, Corresponds, tasks, Stand}
 
 -- ---- answers of a turned task are answers of the task
 
@@ -57,7 +58,7 @@ module _ {A B C : Type 0} {π : ℕ → ℕ} {P : ℕ → Type 0} (f : B → C) 
 module _ {rows rows₁ : List ℤ} (g : Regroups rows rows₁) where
   -- the cells that have a place in the other
   abbrev pub CellSet : ℕ → Type 0
-  CellSet = Set (g .shared)
+  CellSet = Flagged (g .shared)
 
   -- the code of the other
   abbrev pub codeThere : Code
@@ -72,7 +73,7 @@ module _ {rows rows₁ : List ℤ} (g : Regroups rows rows₁) where
   Stores s s₁ = Agrees (g .place) CellSet s s₁
 
   -- its cells are those of the one
-  named-other : CellsIn CellSet (codeOther g)
+  pub named-other : CellsIn CellSet (codeOther g)
   named-other = let w = g .named in (w .0 .0, (w .0 .1, w .1))
 
   module _ {s s₁ : Store} (k : Stores s s₁) where
@@ -97,6 +98,10 @@ module _ {rows rows₁ : List ℤ} (g : Regroups rows rows₁) where
           → LikeOption (g .place) CellSet image (handle (codeOne g) [] s t p x) (handle codeThere [] s₁ (image t) (pathIn t p) x)
       handle-same p x = option-map (renamedTask (g .place) (codeOther g)) turned (handle (codeOne g) [] s t p x)
           (handle-turned (g .a) (g .b) (g .c) [] s t p x) (handle-like (g .apart) (codeOther g) named-other [] s s₁ (turned t) (pathIn t p) x k)
+
+      pub stride-same : LikeWith (g .place) CellSet image (stride (codeOne g) [] s t) (stride codeThere [] s₁ (image t))
+      stride-same = with-map (renamedTask (g .place) (codeOther g)) turned (stride (codeOne g) [] s t)
+          (stride-turned (g .a) (g .b) (g .c) [] s t) (stride-like (g .apart) (codeOther g) named-other [] s s₁ (turned t) k)
 
       pub normalise-same : LikeWith (g .place) CellSet image (normalise (codeOne g) [] s t) (normalise codeThere [] s₁ (image t))
       normalise-same = with-map (renamedTask (g .place) (codeOther g)) turned (normalise (codeOne g) [] s t)
@@ -126,17 +131,22 @@ module _ {rows rows₁ : List ℤ} (g : Regroups rows rows₁) where
 
   -- ---- types: the first contents are one, so the cells' types are, and so is the type of the last row
 
-  cell-types : SameTypes (g .place) CellSet (g .cells) (g .cells₁)
-  cell-types = same-types (g .cells) (g .cells₁)
-      (λ k m. sym (type-of (typed-at first₁ (g .place k))) ∙ ap typeOf (g .firsts .content k m) ∙ type-of (typed-at first k))
-      (λ k m. subst (λ n. g .place k < n) (types-length first₁) (g .firsts .inside₁ k m))
-    where
-      first : ValueTypes (g .flow .first) (g .cells)
-      first = first-typed (g .flow)
+  pub type-there : (k : ℕ) → CellSet k → getD (g .cells₁) (g .place k) unit ≡ getD (g .cells) k unit
+  type-there k m =
+      sym (type-of (typed-at (first-typed (g .flow₁)) (g .place k))) ∙ ap typeOf (g .firsts .content k m) ∙ type-of (typed-at (first-typed (g .flow)) k)
 
-      first₁ : ValueTypes (g .flow₁ .first) (g .cells₁)
-      first₁ = first-typed (g .flow₁)
+  pub inside : (k : ℕ) → CellSet k → k < length (g .cells)
+  inside k m = subst (λ n. k < n) (types-length (first-typed (g .flow))) (g .firsts .inside k m)
+
+  pub inside-there : (k : ℕ) → CellSet k → g .place k < length (g .cells₁)
+  inside-there k m = subst (λ n. g .place k < n) (types-length (first-typed (g .flow₁))) (g .firsts .inside₁ k m)
+
+  pub cell-types : SameTypes (g .place) CellSet (g .cells) (g .cells₁)
+  cell-types = same-types (g .cells) (g .cells₁) type-there inside-there
+
+  -- the other's code has the type of the one
+  pub code-there : CodeType (g .cells) [] (codeOther g) (g .type)
+  code-there = code-turned (g .a) (g .b) (g .c) (g .flow .flow .typed)
 
   pub types-same : g .type₁ ≡ g .type
-  types-same = one-task-type (g .flow₁ .flow .typed)
-      (code-typed-like cell-types (code-turned (g .a) (g .b) (g .c) (g .flow .flow .typed)) named-other)
+  types-same = one-task-type (g .flow₁ .flow .typed) (code-typed-like cell-types code-there named-other)

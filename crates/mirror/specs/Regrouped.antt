@@ -29,11 +29,10 @@ use Rattle.mirror.specs.Mirrored.{movedTouch}
 -- ---- two sheets
 
 -- of a flag for each cell, the cells whose flag is set
-abbrev pub Set : (ℕ → Bool) → ℕ → Type 0
-Set f k = f k ≡ true
+abbrev pub Flagged : (ℕ → Bool) → ℕ → Type 0
+Flagged f k = f k ≡ true
 
--- both are accepted; the last rows read as 47 (47 a b) c and as 47 a (47 b c), wherever their rows stand. A cell may stand at another row:
--- each of those that a, b and c name has a place of its own there, and its first content
+-- both are accepted, and the last rows read as 47 (47 a b) c and as 47 a (47 b c), wherever their rows stand
 pub record Regroups (rows rows₁ : List ℤ) : Type 0 where
   pub a : Code
   pub b : Code
@@ -41,14 +40,16 @@ pub record Regroups (rows rows₁ : List ℤ) : Type 0 where
   pub cells : List Ty
   pub type : Ty
   pub flow : AcceptedFlow rows (or (or a b) c) cells type
+  -- the cells that stand in both, with all that a, b and c name among them
   pub shared : ℕ → Bool
-  pub named : CellsIn (Set shared) (or (or a b) c)
+  pub named : CellsIn (Flagged shared) (or (or a b) c)
+  -- where each stands in the second: at a place of its own, with its first content
   pub place : ℕ → ℕ
-  pub apart : Apart place (Set shared)
+  pub apart : Apart place (Flagged shared)
   pub cells₁ : List Ty
   pub type₁ : Ty
   pub flow₁ : AcceptedFlow rows₁ (renamed place (or a (or b c))) cells₁ type₁
-  pub firsts : Agrees place (Set shared) (flow .first) (flow₁ .first)
+  pub firsts : Agrees place (Flagged shared) (flow .first) (flow₁ .first)
 
 -- ---- two looks, where a path of the one is f of it in the other
 
@@ -90,7 +91,7 @@ module _ {rows rows₁ : List ℤ} (g : Regroups rows rows₁) where
   -- ---- two states, and where a touch of the one goes in the other: CR 5's marks until a choice is made, then the same
 
   pub data Corresponds : FlowState → FlowState → (Path → Path) → Type 0 where
-    tasks : {t : TaskOf codeOne} {s s₁ : Store} → Agrees (g .place) (Set (g .shared)) s s₁
+    tasks : {t : TaskOf codeOne} {s s₁ : Store} → Agrees (g .place) (Flagged (g .shared)) s s₁
         → Corresponds (taskState codeOne t s) (taskState (renamed (g .place) codeOther) (renamedTask (g .place) codeOther (turned t)) s₁) (pathIn t)
     -- CR 3: the start of the one left the range, and so did the other's
     failures : {s s₁ : Store} → Corresponds (failedState (g .type) s) (failedState (g .type₁) s₁) (λ p. p)
@@ -119,6 +120,9 @@ module _ {rows rows₁ : List ℤ} (g : Regroups rows rows₁) where
     pub starts : (memory memory₁ : List ℤ) → HasRoom rows memory → HasRoom rows₁ memory₁
         → (startCall rows memory .number ≡ 0) × (startCall rows₁ memory₁ .number ≡ 0) × (startCall rows₁ memory₁ .strides ≡ startCall rows memory .strides)
         × Stand (startCall rows memory .state) (startCall rows₁ memory₁ .state)
+    -- every rest of either sheet, whether start reaches it or not, goes together with one of the other
+    pub rests : {ws : List ℤ} → IsRest rows ws codeOne (g .cells) (g .type) → (ws₁ : List ℤ) × Stand ws ws₁
+    pub rests-back : {ws₁ : List ℤ} → IsRest rows₁ ws₁ (renamed (g .place) codeOther) (g .cells₁) (g .type₁) → (ws : List ℤ) × Stand ws ws₁
     pub looks : {ws ws₁ : List ℤ} (z : Stand ws ws₁) (values : List ℤ) (list : List ℕ)
         → LooksRegrouped (z .path) list (lookCall rows ws values list) (lookCall rows₁ ws₁ values list)
     -- touches that go together get equal numbers and strides, and leave states that go together

@@ -1,4 +1,4 @@
--- Three choices regrouped, (a, b), c against a, (b, c): the tasks of the one are those of the other, one for one, and value, failing,
+-- Three choices regrouped, (a, b), c against a, (b, c): the tasks of the other are those of the one, turned, and value, failing,
 -- stride, evaluation, overflow, normalising with its strides and types are the same, with writes or without. RegroupingTouches has
 -- handling and entries. Rests on StrideMaps.
 use mathlib.Core.Path.{_≡_, refl, sym, ap, _∙_}
@@ -55,7 +55,7 @@ none-kept (if e a b) (ifTrue t) s s₁ h = none-kept a t s s₁ h
 none-kept (if e a b) (ifFalse u) s s₁ h = none-kept b u s s₁ h
 none-kept (let' e b) (bound v u) s s₁ h = none-kept b u s s₁ h
 
--- ---- one for one
+-- ---- each task of a, (b, c) is one of (a, b), c, turned
 
 module _ {A B C : Type 0} where
   unfoldable pub unturned : OrT A (OrT B C) → OrT (OrT A B) C
@@ -76,16 +76,6 @@ module _ {A B C : Type 0} where
   turned-unturned (orRight (either u w)) = refl
   turned-unturned (orRight (orLeft u)) = refl
   turned-unturned (orRight (orRight w)) = refl
-
-  pub unturned-turned : (t : OrT (OrT A B) C) → unturned (turned t) ≡ t
-  unfolding turned unturned
-  unturned-turned (either (either t u) w) = refl
-  unturned-turned (either (orLeft t) w) = refl
-  unturned-turned (either (orRight u) w) = refl
-  unturned-turned (orLeft (either t u)) = refl
-  unturned-turned (orLeft (orLeft t)) = refl
-  unturned-turned (orLeft (orRight u)) = refl
-  unturned-turned (orRight w) = refl
 
 -- ---- (a, b), c against a, (b, c)
 
@@ -109,6 +99,16 @@ module _ (a b c : Code) where
     typed-turned (orLeft (orLeft t)) (k-or-left (k-or-left d e) k) = k-or-left d (t-or e k)
     typed-turned (orLeft (orRight u)) (k-or-left (k-or-right d e) k) = k-or-right d (k-or-left e k)
     typed-turned (orRight w) (k-or-right (t-or d e) k) = k-or-right d (k-or-right e k)
+
+    pub typed-unturned : (t : TaskOf (or (or a b) c)) → TaskType Σ Γ (or a (or b c)) (turned t) τ → TaskType Σ Γ (or (or a b) c) t τ
+    unfolding turned
+    typed-unturned (either (either t u) w) (k-either d (k-either e k)) = k-either (k-either d e) k
+    typed-unturned (either (orLeft t) w) (k-either d (k-or-right e k)) = k-either (k-or-left d e) k
+    typed-unturned (either (orRight u) w) (k-or-right d (k-either e k)) = k-either (k-or-right d e) k
+    typed-unturned (orLeft (either t u)) (k-either d (k-or-left e k)) = k-or-left (k-either d e) k
+    typed-unturned (orLeft (orLeft t)) (k-or-left d (t-or e k)) = k-or-left (k-or-left d e) k
+    typed-unturned (orLeft (orRight u)) (k-or-right d (k-or-left e k)) = k-or-left (k-or-right d e) k
+    typed-unturned (orRight w) (k-or-right d (k-or-right e k)) = k-or-right (t-or d e) k
 
   pub value-turned : (t : TaskOf (or (or a b) c)) (s : Store) → value (or a (or b c)) (turned t) s ≡ value (or (or a b) c) t s
   unfolding value turned

@@ -1,20 +1,23 @@
 -- Cells renamed: an expression, a code and a running task whose cells are renamed have the types that they had, where the cells named
--- have theirs; and the running tasks of a code and of the renamed code are one to one. Rests on the rules alone.
-use mathlib.Core.Path.{_≡_, refl, sym, ap, ap₂, subst, _∙_}
+-- have theirs; a running task has the type of the renamed one where its code has that type; and each running task of the renamed code is
+-- one of the code, renamed. Rests on TypingAgrees and Preservation.
+use mathlib.Core.Path.{_≡_, refl, ap, ap₂, subst, _∙_}
 use mathlib.Core.List.{List, [], _∷_}
 use Prim.Native.Nat.{ℕ, zero, suc, _<_}
 use native.Mathlib.Omega.{arith}
 use lib.ListN.{length, getD}
 use Rattle.tophat.specs.Syntax.{Ty, unit, Exp, Code, edit, enter, update, then, next, fail, and, or, xor, view, if, let'}
-use Rattle.tophat.specs.Syntax.{TaskOf, before, after, both, either, orLeft, orRight, unpicked, pickedLeft, pickedRight, ifTrue, ifFalse, bound}
+use Rattle.tophat.specs.Syntax.{TaskOf, filled, blank, entered, shared, before, after, failed, both, either, orLeft, orRight, unpicked, pickedLeft, pickedRight, ifTrue, ifFalse, bound}
 use Rattle.tophat.specs.Typing.{At, here, there, HasType, t-unit, t-truth, t-number, t-var, t-op, t-if, t-pair, t-fst, t-snd, t-deref, t-assign, t-let}
 use Rattle.tophat.specs.Typing.{CodeType, t-edit, t-enter, t-update, t-then, t-next, t-fail, t-and, t-or, t-xor, t-view, t-if-task, t-let-task}
 use Rattle.tophat.specs.Typing.{TaskType, k-filled, k-blank, k-entered, k-shared, k-then-before, k-then-after, k-next-before, k-next-after, k-failed, k-both, k-either, k-or-left, k-or-right}
 use Rattle.tophat.specs.Typing.{k-unpicked, k-picked-left, k-picked-right, k-viewed, k-if-true, k-if-false, k-bound}
 use Rattle.tophat.specs.Renamed.{renamedExp, renamed, renamedTask, NamesExp, CellsIn, SameTypes}
+use Rattle.tophat.proofs.TypingAgrees.{one-type, one-task-type}
+use Rattle.tophat.proofs.Preservation.{task-code}
 
 -- what is looked up inside a list stands there
-at-inside : (τs : List Ty) (n : ℕ) → n < length τs → At τs n (getD τs n unit)
+pub at-inside : (τs : List Ty) (n : ℕ) → n < length τs → At τs n (getD τs n unit)
 at-inside [] n l = absurd (omega arith)
 at-inside (τ ∷ τs) zero l = here
 at-inside (τ ∷ τs) (suc n) l = there (at-inside τs n (omega arith))
@@ -82,7 +85,41 @@ module _ {π : ℕ → ℕ} {P : ℕ → Type 0} {Σ Σ₁ : List Ty} (g : SameT
   task-typed-like (k-if-false x d e) w = k-if-false (exp-typed-like x (w .0)) (code-typed-like d (w .1)) (task-typed-like e (w .2))
   task-typed-like (k-bound x v d) w = k-bound (exp-typed-like x (w .0)) v (task-typed-like d (w .1))
 
--- ---- the running tasks are one to one
+  -- and back, where the code is typed
+  pub task-typed-back : {Γ : List Ty} {c : Code} {τ : Ty} → CodeType Σ Γ c τ → CellsIn P c → (t : TaskOf c) → TaskType Σ₁ Γ (renamed π c) (renamedTask π c t) τ → TaskType Σ Γ c t τ
+  unfolding renamedTask
+  task-typed-back (t-edit d) w (filled v) (k-filled d₁ h) = k-filled d h
+  task-typed-back (t-enter l) w blank k = k-blank l
+  task-typed-back (t-enter l) w (entered v) (k-entered l₁ h) = k-entered l h
+  task-typed-back (t-update d) w shared k = k-shared d
+  task-typed-back (t-then d e) w (before t) (k-then-before k e₁) =
+      let q = one-task-type (task-code k) (code-typed-like d (w .0)) in
+      k-then-before (task-typed-back d (w .0) t (rw q at k)) e
+  task-typed-back (t-then d e) w (after v u) (k-then-after d₁ h k) =
+      let q = one-task-type d₁ (code-typed-like d (w .0)) in
+      k-then-after d (rw q at h) (task-typed-back e (w .1) u (rw q at k))
+  task-typed-back (t-next d e) w (before t) (k-next-before k e₁) =
+      let q = one-task-type (task-code k) (code-typed-like d (w .0)) in
+      k-next-before (task-typed-back d (w .0) t (rw q at k)) e
+  task-typed-back (t-next d e) w (after v u) (k-next-after d₁ h k) =
+      let q = one-task-type d₁ (code-typed-like d (w .0)) in
+      k-next-after d (rw q at h) (task-typed-back e (w .1) u (rw q at k))
+  task-typed-back (t-fail l) w failed k = k-failed l
+  task-typed-back (t-and d e l) w (both t u) (k-both k m l₁) = k-both (task-typed-back d (w .0) t k) (task-typed-back e (w .1) u m) l
+  task-typed-back (t-or d e) w (either t u) (k-either k m) = k-either (task-typed-back d (w .0) t k) (task-typed-back e (w .1) u m)
+  task-typed-back (t-or d e) w (orLeft t) (k-or-left k e₁) = k-or-left (task-typed-back d (w .0) t k) e
+  task-typed-back (t-or d e) w (orRight u) (k-or-right d₁ m) = k-or-right d (task-typed-back e (w .1) u m)
+  task-typed-back (t-xor d e) w unpicked k = k-unpicked d e
+  task-typed-back (t-xor d e) w (pickedLeft t) (k-picked-left k e₁) = k-picked-left (task-typed-back d (w .0) t k) e
+  task-typed-back (t-xor d e) w (pickedRight u) (k-picked-right d₁ m) = k-picked-right d (task-typed-back e (w .1) u m)
+  task-typed-back (t-view d) w (filled v) (k-viewed d₁ h) = k-viewed d h
+  task-typed-back (t-if-task x d e) w (ifTrue t) (k-if-true x₁ k e₁) = k-if-true x (task-typed-back d (w .1) t k) e
+  task-typed-back (t-if-task x d e) w (ifFalse u) (k-if-false x₁ d₁ m) = k-if-false x d (task-typed-back e (w .2) u m)
+  task-typed-back (t-let-task x d) w (bound v u) (k-bound x₁ h k) =
+      let q = one-type x₁ (exp-typed-like x (w .0)) in
+      k-bound x (rw q at h) (task-typed-back d (w .1) u (rw q at k))
+
+-- ---- each running task of the renamed code is one of the code, renamed
 
 -- a running task of the renamed code, as one of the code
 unfoldable pub unrenamedTask : (π : ℕ → ℕ) (c : Code) → TaskOf (renamed π c) → TaskOf c
@@ -106,29 +143,7 @@ unrenamedTask π (if e a b) (ifTrue t) = ifTrue (unrenamedTask π a t)
 unrenamedTask π (if e a b) (ifFalse u) = ifFalse (unrenamedTask π b u)
 unrenamedTask π (let' e b) (bound v u) = bound v (unrenamedTask π b u)
 
--- there and back, both ways
-pub unrenamed-renamed : (π : ℕ → ℕ) (c : Code) (t : TaskOf c) → unrenamedTask π c (renamedTask π c t) ≡ t
-unfolding renamedTask unrenamedTask
-unrenamed-renamed π (edit e) t = refl
-unrenamed-renamed π (enter τ) t = refl
-unrenamed-renamed π (update n) t = refl
-unrenamed-renamed π (then a b) (before t) = ap before (unrenamed-renamed π a t)
-unrenamed-renamed π (then a b) (after v u) = ap (after v) (unrenamed-renamed π b u)
-unrenamed-renamed π (next a b) (before t) = ap before (unrenamed-renamed π a t)
-unrenamed-renamed π (next a b) (after v u) = ap (after v) (unrenamed-renamed π b u)
-unrenamed-renamed π (fail τ) t = refl
-unrenamed-renamed π (and a b) (both t u) = ap₂ both (unrenamed-renamed π a t) (unrenamed-renamed π b u)
-unrenamed-renamed π (or a b) (either t u) = ap₂ either (unrenamed-renamed π a t) (unrenamed-renamed π b u)
-unrenamed-renamed π (or a b) (orLeft t) = ap orLeft (unrenamed-renamed π a t)
-unrenamed-renamed π (or a b) (orRight u) = ap orRight (unrenamed-renamed π b u)
-unrenamed-renamed π (xor a b) unpicked = refl
-unrenamed-renamed π (xor a b) (pickedLeft t) = ap pickedLeft (unrenamed-renamed π a t)
-unrenamed-renamed π (xor a b) (pickedRight u) = ap pickedRight (unrenamed-renamed π b u)
-unrenamed-renamed π (view e) t = refl
-unrenamed-renamed π (if e a b) (ifTrue t) = ap ifTrue (unrenamed-renamed π a t)
-unrenamed-renamed π (if e a b) (ifFalse u) = ap ifFalse (unrenamed-renamed π b u)
-unrenamed-renamed π (let' e b) (bound v u) = ap (bound v) (unrenamed-renamed π b u)
-
+-- there again
 pub renamed-unrenamed : (π : ℕ → ℕ) (c : Code) (t : TaskOf (renamed π c)) → renamedTask π c (unrenamedTask π c t) ≡ t
 unfolding renamedTask unrenamedTask
 renamed-unrenamed π (edit e) t = refl
@@ -150,7 +165,3 @@ renamed-unrenamed π (view e) t = refl
 renamed-unrenamed π (if e a b) (ifTrue t) = ap ifTrue (renamed-unrenamed π a t)
 renamed-unrenamed π (if e a b) (ifFalse u) = ap ifFalse (renamed-unrenamed π b u)
 renamed-unrenamed π (let' e b) (bound v u) = ap (bound v) (renamed-unrenamed π b u)
-
--- so no two running tasks become one
-pub renamed-injective : (π : ℕ → ℕ) (c : Code) (t u : TaskOf c) → renamedTask π c t ≡ renamedTask π c u → t ≡ u
-renamed-injective π c t u e = sym (unrenamed-renamed π c t) ∙ ap (unrenamedTask π c) e ∙ unrenamed-renamed π c u
