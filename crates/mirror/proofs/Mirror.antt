@@ -42,7 +42,8 @@ halves {rows} l h = let (c, Σ, τ, f) = flow-of l in by f (f .flow .code) h
     typed : {a b : Code} {Σ : List Ty} {σ : Ty} (f : AcceptedFlow rows (and a b) Σ σ) → CodeType Σ [] (and a b) σ → (τ : Ty) × (υ : Ty) × Halves rows τ υ
     typed {a} {b} {Σ} f (t-and {τ = τ} {υ = υ} p q k) = (τ, υ, record { a = a; b = b; cells = Σ; flow = f })
 
-    by : {c : Code} {Σ : List Ty} {σ : Ty} {i : ℕ} → AcceptedFlow rows c Σ σ → ReadsCode (ownRows rows) i c → OfKind (ownRows rows) i (taskK andK) → (τ : Ty) × (υ : Ty) × Halves rows τ υ
+    by : {c : Code} {Σ : List Ty} {σ : Ty} {i : ℕ} → AcceptedFlow rows c Σ σ → ReadsCode (ownRows rows) i c → OfKind (ownRows rows) i (taskK andK)
+        → (τ : Ty) × (υ : Ty) × Halves rows τ υ
     by f (r-and k x y g e) h = typed f (f .flow .typed)
     by f (r-edit k x g) h = absurd (omega (arith, k, h))
     by f (r-enter k x g) h = absurd (omega (arith, k, h))

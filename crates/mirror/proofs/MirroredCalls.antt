@@ -64,7 +64,8 @@ module _ {rows : List ℤ} {a b : Code} {Σ : List Ty} {τ υ : Ty} (f : Accepte
   -- ---- handle
 
   -- a readable event at a rest, by what handling makes of it
-  handled-mirrored : (ws : List ℤ) (o : Option (TaskOf (and a b) × Store)) {s : Store} {t : TaskOf (and a b)} {p : Path} {x : Action} → All (GoodHandling Σ [] (pair τ υ) (and a b) [] s t p x) o
+  handled-mirrored : (ws : List ℤ) (o : Option (TaskOf (and a b) × Store)) {s : Store} {t : TaskOf (and a b)} {p : Path} {x : Action}
+      → All (GoodHandling Σ [] (pair τ υ) (and a b) [] s t p x) o
       → handled (mirrored rows) ws (and b a) (mapTask exchanged o) ≡ handled rows ws (and a b) o
   unfolding handled mapTask
   handled-mirrored ws none all-none = refl
@@ -73,7 +74,8 @@ module _ {rows : List ℤ} {a b : Code} {Σ : List Ty} {τ υ : Ty} (f : Accepte
       let k = normalise-sound (and a b) [] (q .1) (q .0) (g .task) v-nil (g .store) in
       rw (e, state-mirrored f (k .task) (k .store)) refl
 
-  handled-found : (ws : List ℤ) (e : Option (Path × Action)) {o o₁ : Opened} → Found f w o o₁ → handleIn (mirrored rows) ws (movedTouch mirrorPath e) o₁ ≡ handleIn rows ws e o
+  handled-found : (ws : List ℤ) (e : Option (Path × Action)) {o o₁ : Opened} → Found f w o o₁
+      → handleIn (mirrored rows) ws (movedTouch mirrorPath e) o₁ ≡ handleIn rows ws e o
   unfolding handleIn handleRead movedTouch handled handle
   handled-found ws e (neither g) = refl
   handled-found ws none (rests k h) = refl

@@ -175,7 +175,8 @@ acted o = bind o λ t. some (t .0, actionOf (t .1) (t .2))
 abbrev saying : Bool → Option Path → Option ℤ → Option (List Given) → Option (Path × Action)
 saying r path number leaves = acted (cond r (permitted (bind path λ p. bind number λ n. touched p (numbered actNumber actTable n) leaves)) none)
 
-said-mirrored : (r : Bool) (path : Option Path) (number : Option ℤ) (leaves : Option (List Given)) → saying r (mirroredPath path) number leaves ≡ movedTouch mirrorPath (saying r path number leaves)
+said-mirrored : (r : Bool) (path : Option Path) (number : Option ℤ) (leaves : Option (List Given))
+    → saying r (mirroredPath path) number leaves ≡ movedTouch mirrorPath (saying r path number leaves)
 unfolding bind mirroredPath movedTouch
 said-mirrored false path number leaves = refl
 said-mirrored true none number leaves = refl
@@ -186,7 +187,8 @@ said-mirrored true (some p) (some n) leaves = by (numbered actNumber actTable n)
     told true a ls = refl
     told false a ls = refl
 
-    by : (k : Option Act) (leaves : Option (List Given)) → acted (permitted (touched (mirrorPath p) k leaves)) ≡ movedTouch mirrorPath (acted (permitted (touched p k leaves)))
+    by : (k : Option Act) (leaves : Option (List Given))
+        → acted (permitted (touched (mirrorPath p) k leaves)) ≡ movedTouch mirrorPath (acted (permitted (touched p k leaves)))
     by none leaves = refl
     by (some a) none = refl
     by (some a) (some ls) = told (allowed a ls) a ls

@@ -124,7 +124,8 @@ module _ {rows : List ℤ} {a b : Code} {Σ : List Ty} {τ υ : Ty} (f : Accepte
   small = task-type-leaves (f .flow .typed) (cells-small (f .flow .cells)) small-nil
 
   -- at a rest
-  looks-both : (t : TaskOf a) (u : TaskOf b) (s : Store) → OptionType (value a t s) τ → OptionType (value b u s) υ → Fits 1 (entries a [] s t) → Fits 1 (entries b [] s u)
+  looks-both : (t : TaskOf a) (u : TaskOf b) (s : Store) → OptionType (value a t s) τ → OptionType (value b u s) υ → Fits 1 (entries a [] s t)
+      → Fits 1 (entries b [] s u)
       → Mirror (lookIn values list (restOf (taskState (and a b) (both t u) s))) (lookIn values list (restOf (taskState (and b a) (exchanged (both t u)) s)))
   unfolding lookIn
   looks-both t u s k h p q =

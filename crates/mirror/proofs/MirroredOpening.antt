@@ -87,7 +87,8 @@ module _ {rows : List ℤ} {a b : Code} {Σ : List Ty} {τ υ : Ty} (f : Accepte
           → Found (restOf (taskState (and a b) t s)) (restOf (taskState (and b a) (exchanged t) s))
       failures : {s : Store} → Found (restOf (failedState (pair τ υ) s)) (restOf (failedState (pair υ τ) s))
 
-    found-task : {t : TaskOf (and a b)} {s : Store} → TaskType Σ [] (and a b) t (pair τ υ) → ValueTypes s Σ → Found (atRest (and a b) t s) (atRest (and b a) (exchanged t) s)
+    found-task : {t : TaskOf (and a b)} {s : Store} → TaskType Σ [] (and a b) t (pair τ υ) → ValueTypes s Σ
+        → Found (atRest (and a b) t s) (atRest (and b a) (exchanged t) s)
     unfolding atRest
     found-task {t} {s} k h =
         let e : stride (and b a) [] s (exchanged t) .2 ≡ stride (and a b) [] s t .2 = ap (λ r. r .2) (stride-exchanged a b [] parts-writeless s t) in
@@ -106,7 +107,8 @@ module _ {rows : List ℤ} {a b : Code} {Σ : List Ty} {τ υ : Ty} (f : Accepte
             → Found (decoded rows ws (and a b) none) (decoded (mirrored rows) ws (and b a) none)
         by {x} y z g = rw (failed-opens f ws x y, failed-opens mirror ws x z) g
 
-    found-decoded : (ws : List ℤ) (o : Option (TaskOf (and a b) × Store)) → decodedFrom f ws ≡ o → Found (decoded rows ws (and a b) o) (decoded (mirrored rows) ws (and b a) (mapTask exchanged o))
+    found-decoded : (ws : List ℤ) (o : Option (TaskOf (and a b) × Store)) → decodedFrom f ws ≡ o
+        → Found (decoded rows ws (and a b) o) (decoded (mirrored rows) ws (and b a) (mapTask exchanged o))
     unfolding decoded mapTask
     found-decoded ws none e = found-failed ws
     found-decoded ws (some q) e = let k = decode-sound (ownRows rows) n (flowRows f) (ownOf n ws) (sym (decoded-as ws) ∙ e) in found-task (k .typed) (k .stored)

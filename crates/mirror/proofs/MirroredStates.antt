@@ -157,7 +157,8 @@ module _ {rs rs₁ : List ℕ} {n : ℕ} {a b : Code} {Σ : List Ty} {s₀ : Sto
     encode-both = other-words t u s ∙ (let (w, l) = swapped-writing in state-is rs n rowsOf (d .past) k h l w)
 
   -- one writing for both
-  pub encode-exchanged : {s : Store} (t : TaskOf (and a b)) → TaskType Σ [] (and a b) t (pair τ υ) → ValueTypes s Σ → encode rs₁ n (and b a) (exchanged t) s ≡ encode rs n (and a b) t s
+  pub encode-exchanged : {s : Store} (t : TaskOf (and a b)) → TaskType Σ [] (and a b) t (pair τ υ) → ValueTypes s Σ
+      → encode rs₁ n (and b a) (exchanged t) s ≡ encode rs n (and a b) t s
   unfolding exchanged
   encode-exchanged (both t u) k h = encode-both k h
 
@@ -172,7 +173,8 @@ pub decode-exchanged : {rs rs₁ : List ℕ} {n : ℕ} {a b : Code} {Σ : List T
 unfolding mapTask
 decode-exchanged {rs} {rs₁} {n} {a} {b} {Σ} d ws = by (decode rs n (and a b) Σ ws) (decode rs₁ n (and b a) Σ ws) refl refl
   where
-    by : (o : Option (TaskOf (and a b) × Store)) (o₁ : Option (TaskOf (and b a) × Store)) → decode rs n (and a b) Σ ws ≡ o → decode rs₁ n (and b a) Σ ws ≡ o₁ → o₁ ≡ mapTask exchanged o
+    by : (o : Option (TaskOf (and a b) × Store)) (o₁ : Option (TaskOf (and b a) × Store)) → decode rs n (and a b) Σ ws ≡ o
+        → decode rs₁ n (and b a) Σ ws ≡ o₁ → o₁ ≡ mapTask exchanged o
     by none none e f = refl
     by none (some q) e f = no-some (sym e ∙ decode-to (flip d) ws f)
     by (some q) o₁ e f = sym f ∙ decode-to d ws e

@@ -215,7 +215,8 @@ module _ (s : List ℕ) (n : ℕ) (whole : length s ≡ suc n * lineBytes) where
       (λ j. getD (text-is j) (e j) 0) ∙ end-byte p y x c at (parts .long-before) (parts .long-other) (parts .long-one) after-long
       ∙ sym ((λ j. getD (parts .is j) (e j) 0) ∙ end-byte p x y c at (parts .long-before) (parts .long-one) (parts .long-other) after-long)
 
-  line-mirrored : {k a b c : ℤ} → ofZ w32 k ≡ numberOf (taskK andK) → lineSays s n ≡ some (k ∷ a ∷ b ∷ c ∷ []) → lineSays (mirroredText s) n ≡ some (k ∷ b ∷ a ∷ c ∷ [])
+  line-mirrored : {k a b c : ℤ} → ofZ w32 k ≡ numberOf (taskK andK) → lineSays s n ≡ some (k ∷ a ∷ b ∷ c ∷ [])
+      → lineSays (mirroredText s) n ≡ some (k ∷ b ∷ a ∷ c ∷ [])
   unfolding lineSays kindWord
   line-mirrored {k} {a} {b} {c} e h =
       (λ j. cond (eqb (end-same j) newline) (saidBy n (fields-mirrored-are j)) none)
@@ -253,7 +254,8 @@ says-mirrored s n {ws} whole h o =
     let (zs, g, q) = bind-eq-some-iff (lineSays s n) _ .0 f in
     by us zs e g (some-is q) (line-long s n g)
   where
-    by : (us zs : List ℤ) → linesSay s n ≡ some us → lineSays s n ≡ some zs → us ++ zs ≡ ws → length zs ≡ rowWords → linesSay (mirroredText s) (suc n) ≡ some (mirrored ws)
+    by : (us zs : List ℤ) → linesSay s n ≡ some us → lineSays s n ≡ some zs → us ++ zs ≡ ws → length zs ≡ rowWords
+        → linesSay (mirroredText s) (suc n) ≡ some (mirrored ws)
     by us [] e g q l = absurd (omega arith)
     by us (k ∷ []) e g q l = absurd (omega arith)
     by us (k ∷ a ∷ []) e g q l = absurd (omega arith)

@@ -50,7 +50,8 @@ Writeless (view e) = Reads e
 Writeless (if e a b) = Reads e × Writeless a × Writeless b
 Writeless (let' e b) = Reads e × Writeless b
 
-branch-store : {X : Type 0} (x : Bool) (f g : Store → X × Store) (s s₁ : Store) → s ≡ s₁ → ((s : Store) → f s .1 ≡ s) → ((s : Store) → g s .1 ≡ s) → branch x f g s .1 ≡ s₁
+branch-store : {X : Type 0} (x : Bool) (f g : Store → X × Store) (s s₁ : Store) → s ≡ s₁ → ((s : Store) → f s .1 ≡ s) → ((s : Store) → g s .1 ≡ s)
+    → branch x f g s .1 ≡ s₁
 unfolding branch
 branch-store true f g s s₁ e h k = h s ∙ e
 branch-store false f g s s₁ e h k = k s ∙ e
@@ -91,7 +92,8 @@ module _ {A B : Type 0} where
   go-on-store v t s s₁ m r true e f = e
   go-on-store v t s s₁ m r false e f = f ∙ e
 
-  go-with-store : (o : Option Val) (t : A) (s s₁ : Store) (m : Bool) (E : Val → B × Store) (F : Val → B × Store → Bool) → s ≡ s₁ → ((v : Val) → E v .1 ≡ s) → goOnWith o t s m E F .1 ≡ s₁
+  go-with-store : (o : Option Val) (t : A) (s s₁ : Store) (m : Bool) (E : Val → B × Store) (F : Val → B × Store → Bool) → s ≡ s₁
+      → ((v : Val) → E v .1 ≡ s) → goOnWith o t s m E F .1 ≡ s₁
   unfolding goOnWith
   go-with-store none t s s₁ m E F e f = e
   go-with-store (some v) t s s₁ m E F e f = go-on-store v t s s₁ m (E v) (F v (E v)) e (f v)
@@ -101,7 +103,8 @@ module _ {A B : Type 0} where
   right-store none t u s s₁ m e = e
   right-store (some v) t u s s₁ m e = e
 
-  left-store : (o : Option Val) (t : A) (u : B) (s s₁ : Store) (m : Bool) (G : Store → B → B × Store × Bool) (W : B → Store → Option Val) → s ≡ s₁ → G s u .1 ≡ s → chooseLeft o t u s m G W .1 ≡ s₁
+  left-store : (o : Option Val) (t : A) (u : B) (s s₁ : Store) (m : Bool) (G : Store → B → B × Store × Bool) (W : B → Store → Option Val) → s ≡ s₁
+      → G s u .1 ≡ s → chooseLeft o t u s m G W .1 ≡ s₁
   unfolding chooseLeft
   left-store none t u s s₁ m G W e f = right-store _ _ _ _ s₁ _ (f ∙ e)
   left-store (some v) t u s s₁ m G W e f = e

@@ -29,7 +29,8 @@ pub record LikeWith {A B X : Type 0} (π : ℕ → ℕ) (P : ℕ → Type 0) (f 
 abbrev pub same : Val → Val
 same v = v
 
-branch-by : {X X₁ Y Y₁ : Type 0} (R : Y → Y₁ → Type 0) (x : Bool) (F G : X → Y) (F₁ G₁ : X₁ → Y₁) (s : X) (s₁ : X₁) → R (F s) (F₁ s₁) → R (G s) (G₁ s₁) → R (branch x F G s) (branch x F₁ G₁ s₁)
+branch-by : {X X₁ Y Y₁ : Type 0} (R : Y → Y₁ → Type 0) (x : Bool) (F G : X → Y) (F₁ G₁ : X₁ → Y₁) (s : X) (s₁ : X₁) → R (F s) (F₁ s₁)
+    → R (G s) (G₁ s₁) → R (branch x F G s) (branch x F₁ G₁ s₁)
 unfolding branch
 branch-by R true F G F₁ G₁ s s₁ p q = p
 branch-by R false F G F₁ G₁ s s₁ p q = q
@@ -40,7 +41,8 @@ branch-like : {X X₁ Y Y₁ : Type 0} (R : Y → Y₁ → Type 0) (F G : X → 
 branch-like R F G F₁ G₁ s s₁ {v} e p q = rw e (branch-by R (isTrue v) F G F₁ G₁ s s₁ p q)
 
 -- the same under a value that is one
-under : {A B : Type 0} {π : ℕ → ℕ} {P : ℕ → Type 0} {f : A → B} {r : A × Store} (F : Val → B × Store) {v v₁ : Val} → v₁ ≡ v → Like π P f r (F v) → Like π P f r (F v₁)
+under : {A B : Type 0} {π : ℕ → ℕ} {P : ℕ → Type 0} {f : A → B} {r : A × Store} (F : Val → B × Store) {v v₁ : Val} → v₁ ≡ v → Like π P f r (F v)
+    → Like π P f r (F v₁)
 under F e p = rw e p
 
 module _ {π : ℕ → ℕ} {P : ℕ → Type 0} (apart : Apart π P) where
@@ -113,7 +115,8 @@ module _ {π : ℕ → ℕ} {P : ℕ → Type 0} (apart : Apart π P) where
       ap₂ _||_ (overflows-like a (w .0) ρ s s₁ g) (ap (λ v. overflows (renamedExp π b) (v ∷ ρ) (eval (renamedExp π a) ρ s₁ .1)) (p .made) ∙ overflows-like b (w .1) (_ ∷ ρ) _ _ (p .store))
 
   -- a code evaluates to the same task
-  pub evaluate-like : (c : Code) → CellsIn P c → (ρ : Env) (s s₁ : Store) → Agrees π P s s₁ → Like π P (renamedTask π c) (evaluate c ρ s) (evaluate (renamed π c) ρ s₁)
+  pub evaluate-like : (c : Code) → CellsIn P c → (ρ : Env) (s s₁ : Store) → Agrees π P s s₁
+      → Like π P (renamedTask π c) (evaluate c ρ s) (evaluate (renamed π c) ρ s₁)
   unfolding evaluate renamedTask
   evaluate-like (edit e) w ρ s s₁ g = let p = eval-like e w ρ s s₁ g in record { made = ap filled (p .made); store = p .store }
   evaluate-like (enter τ) w ρ s s₁ g = record { made = refl; store = g }

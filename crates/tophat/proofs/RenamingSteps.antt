@@ -108,7 +108,8 @@ module _ {π : ℕ → ℕ} {P : ℕ → Type 0} where
 
   -- a choice whose parts have strided
   choose-right-like : (a b : Code) (o : Option Val) {o₁ : Option Val} (t : TaskOf a) {t₁ : TaskOf (renamed π a)} (u : TaskOf b) {u₁ : TaskOf (renamed π b)} {s s₁ : Store} {m m₁ : Bool}
-      → o₁ ≡ o → t₁ ≡ renamedTask π a t → u₁ ≡ renamedTask π b u → Agrees π P s s₁ → m₁ ≡ m → LikeWith π P (renamedTask π (or a b)) (chooseRight o t u s m) (chooseRight o₁ t₁ u₁ s₁ m₁)
+      → o₁ ≡ o → t₁ ≡ renamedTask π a t → u₁ ≡ renamedTask π b u → Agrees π P s s₁ → m₁ ≡ m
+      → LikeWith π P (renamedTask π (or a b)) (chooseRight o t u s m) (chooseRight o₁ t₁ u₁ s₁ m₁)
   unfolding chooseRight renamedTask
   choose-right-like a b none t u e d h g f = rw e (record { made = ap₂ either d h; store = g; third = f })
   choose-right-like a b (some v) t u e d h g f = rw e (record { made = ap orRight h; store = g; third = refl })
@@ -124,7 +125,8 @@ module _ {π : ℕ → ℕ} {P : ℕ → Type 0} where
   choose-left-like a b (some v) t u G G₁ w e d g f h = rw e (record { made = ap orLeft d; store = g; third = refl })
 
   -- a task whose strides correspond, normalised
-  normal-like : (c : Code) (ρ : Env) → ((s s₁ : Store) (t : TaskOf c) → Agrees π P s s₁ → LikeWith π P (renamedTask π c) (stride c ρ s t) (stride (renamed π c) ρ s₁ (renamedTask π c t)))
+  normal-like : (c : Code) (ρ : Env)
+      → ((s s₁ : Store) (t : TaskOf c) → Agrees π P s s₁ → LikeWith π P (renamedTask π c) (stride c ρ s t) (stride (renamed π c) ρ s₁ (renamedTask π c t)))
       → (s s₁ : Store) (t : TaskOf c) {t₁ : TaskOf (renamed π c)} → t₁ ≡ renamedTask π c t → Agrees π P s s₁
       → LikeWith π P (renamedTask π c) (strides (λ s t. stride c ρ s t) (suc (moves c)) s t) (strides (λ s t. stride (renamed π c) ρ s t) (suc (moves (renamed π c))) s₁ t₁)
   normal-like c ρ h s s₁ t e g =
@@ -205,7 +207,8 @@ module _ {π : ℕ → ℕ} {P : ℕ → Type 0} (apart : Apart π P) where
   goes of-view w s s₁ g = record { fails = refl; strides = record { made = refl; store = g; third = refl } }
 
   -- whether a task fails is one
-  pub failing-like : (c : Code) → CellsIn P c → (ρ : Env) (s s₁ : Store) (t : TaskOf c) → Agrees π P s s₁ → failing (renamed π c) ρ s₁ (renamedTask π c t) ≡ failing c ρ s t
+  pub failing-like : (c : Code) → CellsIn P c → (ρ : Env) (s s₁ : Store) (t : TaskOf c) → Agrees π P s s₁
+      → failing (renamed π c) ρ s₁ (renamedTask π c t) ≡ failing c ρ s t
   failing-like c w ρ s s₁ t g = goes (formed c ρ t) w s s₁ g .fails
 
   -- strides correspond: the task is renamed, whether it moved is one, the stores agree

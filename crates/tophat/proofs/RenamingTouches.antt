@@ -36,7 +36,8 @@ module _ {π : ℕ → ℕ} {P : ℕ → Type 0} where
   map-like K L e (like-some p) = like-some (record { made = ap L (p .made) ∙ e _; store = p .store })
 
   module _ {C D : Type 0} (h : C → D) where
-    then-like : {A : Type 0} (o : Option A) (F : A → C × Store) (F₁ : A → D × Store) → ((a : A) → Like π P h (F a) (F₁ a)) → LikeOption π P h (thenSome o F) (thenSome o F₁)
+    then-like : {A : Type 0} (o : Option A) (F : A → C × Store) (F₁ : A → D × Store) → ((a : A) → Like π P h (F a) (F₁ a))
+        → LikeOption π P h (thenSome o F) (thenSome o F₁)
     unfolding thenSome
     then-like none F F₁ k = like-none
     then-like (some a) F F₁ k = like-some (k a)
@@ -141,7 +142,8 @@ module _ {π : ℕ → ℕ} {P : ℕ → Type 0} (apart : Apart π P) where
   continue-if none F F₁ e h = rw e refl
   continue-if (some v) F F₁ e h = rw e (ap (λ x. buttonIf (not x) continue) (h v))
 
-  shows : {c : Code} {ρ : Env} {t : TaskOf c} → Formed c ρ t → CellsIn P c → (s s₁ : Store) → Agrees π P s s₁ → entries (renamed π c) ρ s₁ (renamedTask π c t) ≡ entries c ρ s t
+  shows : {c : Code} {ρ : Env} {t : TaskOf c} → Formed c ρ t → CellsIn P c → (s s₁ : Store) → Agrees π P s s₁
+      → entries (renamed π c) ρ s₁ (renamedTask π c t) ≡ entries c ρ s t
   unfolding entries renamedTask
   shows (of-became {c = c} {c₁ = c₁} {ρ = ρ} {u = u} b d) w s s₁ g =
       let k = renamed-became π P b in
@@ -160,5 +162,6 @@ module _ {π : ℕ → ℕ} {P : ℕ → Type 0} (apart : Apart π P) where
   shows of-view w s s₁ g = refl
 
   -- the entries are the same
-  pub entries-like : (c : Code) → CellsIn P c → (ρ : Env) (s s₁ : Store) (t : TaskOf c) → Agrees π P s s₁ → entries (renamed π c) ρ s₁ (renamedTask π c t) ≡ entries c ρ s t
+  pub entries-like : (c : Code) → CellsIn P c → (ρ : Env) (s s₁ : Store) (t : TaskOf c) → Agrees π P s s₁
+      → entries (renamed π c) ρ s₁ (renamedTask π c t) ≡ entries c ρ s t
   entries-like c w ρ s s₁ t g = shows (formed c ρ t) w s s₁ g

@@ -27,7 +27,8 @@ at-is here = refl
 at-is (there d) = at-is d
 
 -- the same types, by what is looked up
-pub same-types : {π : ℕ → ℕ} {P : ℕ → Type 0} (Σ Σ₁ : List Ty) → ((k : ℕ) → P k → getD Σ₁ (π k) unit ≡ getD Σ k unit) → ((k : ℕ) → P k → π k < length Σ₁) → SameTypes π P Σ Σ₁
+pub same-types : {π : ℕ → ℕ} {P : ℕ → Type 0} (Σ Σ₁ : List Ty) → ((k : ℕ) → P k → getD Σ₁ (π k) unit ≡ getD Σ k unit)
+    → ((k : ℕ) → P k → π k < length Σ₁) → SameTypes π P Σ Σ₁
 same-types {π} Σ Σ₁ h l = record { cell = λ k τ p d. subst (λ υ. At Σ₁ (π k) υ) (h k p ∙ at-is d) (at-inside Σ₁ (π k) (l k p)) }
 
 module _ {π : ℕ → ℕ} {P : ℕ → Type 0} {Σ Σ₁ : List Ty} (g : SameTypes π P Σ Σ₁) where
@@ -86,7 +87,8 @@ module _ {π : ℕ → ℕ} {P : ℕ → Type 0} {Σ Σ₁ : List Ty} (g : SameT
   task-typed-like (k-bound x v d) w = k-bound (exp-typed-like x (w .0)) v (task-typed-like d (w .1))
 
   -- and back, where the code is typed
-  pub task-typed-back : {Γ : List Ty} {c : Code} {τ : Ty} → CodeType Σ Γ c τ → CellsIn P c → (t : TaskOf c) → TaskType Σ₁ Γ (renamed π c) (renamedTask π c t) τ → TaskType Σ Γ c t τ
+  pub task-typed-back : {Γ : List Ty} {c : Code} {τ : Ty} → CodeType Σ Γ c τ → CellsIn P c → (t : TaskOf c)
+      → TaskType Σ₁ Γ (renamed π c) (renamedTask π c t) τ → TaskType Σ Γ c t τ
   unfolding renamedTask
   task-typed-back (t-edit d) w (filled v) (k-filled d₁ h) = k-filled d h
   task-typed-back (t-enter l) w blank k = k-blank l
