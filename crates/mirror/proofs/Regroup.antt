@@ -11,7 +11,8 @@
 -- - start answers 0 on both, in all memories of the right size, with equal strides, and leaves states that go together;
 -- - every rest of either sheet, whether start and touches reach it or not, goes together with a rest of the other;
 -- - look, lent the same value memory and list memory, whatever they are, gives equal numbers, flags and values; where it answers 0, the
---   list is the one's with the paths of its entries moved, in the same order; where it refuses, both answers are one;
+--   list is the one's with the paths of its entries moved, in the same order; where it refuses, both answers are one. Lent memories of
+--   their own, two looks that answer 0 show the same in this sense too;
 -- - where a touch goes: while no choice is made, marks 1 1, 1 2 and 2 against 1, 2 1 and 2 2; then the same. Touches that go together
 --   get equal numbers and strides, the refused among them, and leave states that go together;
 -- - each event of either sheet has such a counterpart, or its path in the other sheet would have more marks than an event can say, and then
@@ -27,7 +28,7 @@ use Rattle.mirror.specs.Regrouped.{Regroups, Stand, Together, no-more, b
 use Rattle.mirror.proofs.RegroupedStates.{types-same}
 use Rattle.mirror.proofs.RegroupedStarts.{starts-together}
 use Rattle.mirror.proofs.RegroupedRests.{rests-there, rests-back}
-use Rattle.mirror.proofs.RegroupedLooks.{looks-together}
+use Rattle.mirror.proofs.RegroupedLooks.{looks-together, shows-together}
 use Rattle.mirror.proofs.RegroupedTouches.{touches-together}
 use Rattle.mirror.proofs.Counterparts.{there-together, back-together}
 
@@ -47,6 +48,7 @@ module _ {rows rows₁ : List ℤ} (g : Regroups rows rows₁) where
     rests = rests-there g;
     rests-back = rests-back g;
     looks = looks-together g;
+    shows = shows-together g;
     touches = touches-together g;
     there = there-together g;
     back = back-together g;

@@ -1,7 +1,7 @@
 -- Looks at three choices grouped one way and the other, in two states that go together, with any value memory and any list memory: equal
 -- numbers, flags and values, and a list whose entries are those of the one with their paths moved, in the same order. Rests on
 -- RegroupedStates and on call_definitions' Opening and Grounds.
-use mathlib.Core.Path.{_≡_, refl, sym, ap, subst}
+use mathlib.Core.Path.{_≡_, refl, sym, ap, subst, _∙_}
 use mathlib.Core.Bool.{Bool, true, false, cond}
 use mathlib.Core.Option.{Option}
 use mathlib.Core.List.{List, [], _++_}
@@ -44,6 +44,47 @@ opened-rest {rows} {ws} a r false = opened-misfit rows ws false (a .loads) (λ m
 shown-fit : {rows ws : List ℤ} {c : Code} {Σ : List Ty} {τ : Ty} (a : AcceptedFlow rows c Σ τ) (r : IsRest rows ws c Σ τ)
     → Fits 0 (entries (r .state .code) [] (r .state .store) (r .state .task))
 shown-fit a r = let (k, h) = state-typed a (r .writes) in entries-fit (cells-small (a .flow .cells)) h 0 [] k small-nil (omega arith) (state-marks a (r .writes))
+
+-- an accepted look's answer, lent another list memory
+abbrev relent : List ℕ → LookAnswer → LookAnswer
+relent list x = record {
+  number = x .number;
+  hasValue = x .hasValue;
+  fails = x .fails;
+  value = x .value;
+  part = x .part;
+  list = x .part ++ drop (length (x .part)) list;
+}
+
+-- what it answers where it is accepted rests on the state alone
+module _ (values values₁ : List ℤ) (list list₁ : List ℕ) (y : FlowState) where
+  abbrev lent : List ℤ → List ℕ → Bool → LookAnswer
+  lent values list b = lookIn values list (cond b (restOf y) (refusedBy wrongMemory))
+
+  by-rooms : (room room₁ : Bool) (z : LookAnswer) → z .number ≡ 0 → cond room z (lookRefusal listTooShort values list) .number ≡ 0
+      → cond room₁ (relent list₁ z) (lookRefusal listTooShort values₁ list₁) .number ≡ 0
+      → cond room₁ (relent list₁ z) (lookRefusal listTooShort values₁ list₁) ≡ relent list₁ (cond room z (lookRefusal listTooShort values list))
+  by-rooms true true z h e k = refl
+  by-rooms true false z h e k = absurd (omega (arith, k))
+  by-rooms false room₁ z h e k = absurd (omega (arith, e))
+
+  by-fits : (b b₁ : Bool) → lent values list b .number ≡ 0 → lent values₁ list₁ b₁ .number ≡ 0 → lent values₁ list₁ b₁ ≡ relent list₁ (lent values list b)
+  unfolding lookIn
+  by-fits true true e k = by-rooms (leb _ (length list)) (leb _ (length list₁)) _ refl e k
+  by-fits true false e k = absurd (omega (arith, k))
+  by-fits false b₁ e k = absurd (omega (arith, e))
+
+look-relent : {rows ws : List ℤ} {c : Code} {Σ : List Ty} {τ : Ty} → AcceptedFlow rows c Σ τ → IsRest rows ws c Σ τ
+    → (values values₁ : List ℤ) (list list₁ : List ℕ) → lookCall rows ws values list .number ≡ 0 → lookCall rows ws values₁ list₁ .number ≡ 0
+    → lookCall rows ws values₁ list₁ ≡ relent list₁ (lookCall rows ws values list)
+unfolding lookCall
+look-relent a r values values₁ list list₁ e k =
+    let b = eqb (length values) maxLeaves in
+    let b₁ = eqb (length values₁) maxLeaves in
+    let h = ap (lookIn values list) (opened-rest a r b) in
+    let h₁ = ap (lookIn values₁ list₁) (opened-rest a r b₁) in
+    h₁ ∙ by-fits values values₁ list list₁ (r .state) b b₁ (sym (ap (λ x. x .number) h) ∙ e) (sym (ap (λ x. x .number) h₁) ∙ k)
+    ∙ sym (ap (relent list₁) h)
 
 -- ---- both
 
@@ -138,3 +179,24 @@ module _ {rows rows₁ : List ℤ} (g : Regroups rows rows₁) where
         (sym (ap (lookIn values list) (opened-rest (g .flow) (z .rest) b)))
         (subst (LooksRegrouped (z .path) list (lookIn values list (cond b (restOf (z .rest .state)) (refusedBy wrongMemory))))
         (sym (ap (lookIn values list) (opened-rest (g .flow₁) (z .rest₁) b))) (by-fit b))
+
+  -- two accepted looks, each lent memories of its own
+  pub shows-together : {ws ws₁ : List ℤ} (z : Stand g ws ws₁) (values values₁ : List ℤ) (list list₁ : List ℕ)
+      → lookCall rows ws values list .number ≡ 0 → lookCall rows₁ ws₁ values₁ list₁ .number ≡ 0
+      → LooksRegrouped (z .path) list₁ (lookCall rows ws values list) (lookCall rows₁ ws₁ values₁ list₁)
+  shows-together {ws} {ws₁} z values values₁ list list₁ e k =
+      let l = looks-together z values list in
+      let h = look-relent (g .flow₁) (z .rest₁) values values₁ list list₁ (l .number ∙ e) k in
+      subst (LooksRegrouped (z .path) list₁ (lookCall rows ws values list)) (sym h) (record {
+        number = l .number;
+        hasValue = l .hasValue;
+        fails = l .fails;
+        value = l .value;
+        refused = λ n. absurd (n e);
+        entries = l .entries;
+        fits = l .fits;
+        fits-regrouped = l .fits-regrouped;
+        part = l .part;
+        part-regrouped = l .part-regrouped;
+        list-regrouped = λ n. refl;
+      })

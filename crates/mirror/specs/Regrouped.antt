@@ -123,8 +123,13 @@ module _ {rows rows₁ : List ℤ} (g : Regroups rows rows₁) where
     -- every rest of either sheet, whether start reaches it or not, goes together with one of the other
     pub rests : {ws : List ℤ} → IsRest rows ws codeOne (g .cells) (g .type) → (ws₁ : List ℤ) × Stand ws ws₁
     pub rests-back : {ws₁ : List ℤ} → IsRest rows₁ ws₁ (renamed (g .place) codeOther) (g .cells₁) (g .type₁) → (ws : List ℤ) × Stand ws ws₁
+    -- look, with any value memory and list memory
     pub looks : {ws ws₁ : List ℤ} (z : Stand ws ws₁) (values : List ℤ) (list : List ℕ)
         → LooksRegrouped (z .path) list (lookCall rows ws values list) (lookCall rows₁ ws₁ values list)
+    -- two looks with room for what they answer, each lent memories of its own
+    pub shows : {ws ws₁ : List ℤ} (z : Stand ws ws₁) (values values₁ : List ℤ) (list list₁ : List ℕ)
+        → lookCall rows ws values list .number ≡ 0 → lookCall rows₁ ws₁ values₁ list₁ .number ≡ 0
+        → LooksRegrouped (z .path) list₁ (lookCall rows ws values list) (lookCall rows₁ ws₁ values₁ list₁)
     -- touches that go together get equal numbers and strides, and leave states that go together
     pub touches : {ws ws₁ : List ℤ} (z : Stand ws ws₁) (event event₁ : List ℕ) → Counterpart (z .path) event event₁
         → (handleCall rows₁ ws₁ event₁ .number ≡ handleCall rows ws event .number) × (handleCall rows₁ ws₁ event₁ .strides ≡ handleCall rows ws event .strides)

@@ -29,6 +29,7 @@ pub mod Blanks
 pub mod EntriesAgree
 pub mod EveryRun
 -- flows drawn another way (CR 5), and cells at other places
+pub mod TypedParts
 pub mod StrideMaps
 pub mod Mirroring
 pub mod Regrouping

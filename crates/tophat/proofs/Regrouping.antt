@@ -1,6 +1,6 @@
 -- Three choices regrouped, (a, b), c against a, (b, c): the tasks of the other are those of the one, turned, and value, failing,
 -- stride, evaluation, overflow, normalising with its strides and types are the same, with writes or without. RegroupingTouches has
--- handling and entries. Rests on StrideMaps.
+-- handling and entries. Rests on StrideMaps and TypedParts.
 use mathlib.Core.Path.{_≡_, refl, sym, ap, _∙_}
 use mathlib.Core.Bool.{Bool, _||_, and-assoc, or-assoc}
 use mathlib.Core.Option.{Option, none, some}
@@ -16,6 +16,7 @@ use Rattle.tophat.specs.Redrawn.{turned}
 use Rattle.tophat.proofs.Basics.{no-some}
 use Rattle.tophat.proofs.ComputeEvaluation.{evaluate, overflowsTask}
 use Rattle.tophat.proofs.ComputeNormalising.{strides, chooseRight, chooseLeft, failing, stride, normalise, settle}
+use Rattle.tophat.proofs.TypedParts.{or-typed, either-typed, left-typed, right-typed}
 use Rattle.tophat.proofs.StrideMaps.{onTask, strides-map}
 
 -- ---- whether a task has a value does not depend on the store
@@ -92,23 +93,23 @@ module _ (a b c : Code) where
 
     pub typed-turned : (t : TaskOf (or (or a b) c)) → TaskType Σ Γ (or (or a b) c) t τ → TaskType Σ Γ (or a (or b c)) (turned t) τ
     unfolding turned
-    typed-turned (either (either t u) w) (k-either (k-either d e) k) = k-either d (k-either e k)
-    typed-turned (either (orLeft t) w) (k-either (k-or-left d e) k) = k-either d (k-or-right e k)
-    typed-turned (either (orRight u) w) (k-either (k-or-right d e) k) = k-or-right d (k-either e k)
-    typed-turned (orLeft (either t u)) (k-or-left (k-either d e) k) = k-either d (k-or-left e k)
-    typed-turned (orLeft (orLeft t)) (k-or-left (k-or-left d e) k) = k-or-left d (t-or e k)
-    typed-turned (orLeft (orRight u)) (k-or-left (k-or-right d e) k) = k-or-right d (k-or-left e k)
-    typed-turned (orRight w) (k-or-right (t-or d e) k) = k-or-right d (k-or-right e k)
+    typed-turned (either (either t u) w) h = let (g, k) = either-typed h in let (d, e) = either-typed g in k-either d (k-either e k)
+    typed-turned (either (orLeft t) w) h = let (g, k) = either-typed h in let (d, e) = left-typed g in k-either d (k-or-right e k)
+    typed-turned (either (orRight u) w) h = let (g, k) = either-typed h in let (d, e) = right-typed g in k-or-right d (k-either e k)
+    typed-turned (orLeft (either t u)) h = let (g, k) = left-typed h in let (d, e) = either-typed g in k-either d (k-or-left e k)
+    typed-turned (orLeft (orLeft t)) h = let (g, k) = left-typed h in let (d, e) = left-typed g in k-or-left d (t-or e k)
+    typed-turned (orLeft (orRight u)) h = let (g, k) = left-typed h in let (d, e) = right-typed g in k-or-right d (k-or-left e k)
+    typed-turned (orRight w) h = let (g, k) = right-typed h in let (d, e) = or-typed g in k-or-right d (k-or-right e k)
 
     pub typed-unturned : (t : TaskOf (or (or a b) c)) → TaskType Σ Γ (or a (or b c)) (turned t) τ → TaskType Σ Γ (or (or a b) c) t τ
     unfolding turned
-    typed-unturned (either (either t u) w) (k-either d (k-either e k)) = k-either (k-either d e) k
-    typed-unturned (either (orLeft t) w) (k-either d (k-or-right e k)) = k-either (k-or-left d e) k
-    typed-unturned (either (orRight u) w) (k-or-right d (k-either e k)) = k-either (k-or-right d e) k
-    typed-unturned (orLeft (either t u)) (k-either d (k-or-left e k)) = k-or-left (k-either d e) k
-    typed-unturned (orLeft (orLeft t)) (k-or-left d (t-or e k)) = k-or-left (k-or-left d e) k
-    typed-unturned (orLeft (orRight u)) (k-or-right d (k-or-left e k)) = k-or-left (k-or-right d e) k
-    typed-unturned (orRight w) (k-or-right d (k-or-right e k)) = k-or-right (t-or d e) k
+    typed-unturned (either (either t u) w) h = let (d, g) = either-typed h in let (e, k) = either-typed g in k-either (k-either d e) k
+    typed-unturned (either (orLeft t) w) h = let (d, g) = either-typed h in let (e, k) = right-typed g in k-either (k-or-left d e) k
+    typed-unturned (either (orRight u) w) h = let (d, g) = right-typed h in let (e, k) = either-typed g in k-either (k-or-right d e) k
+    typed-unturned (orLeft (either t u)) h = let (d, g) = either-typed h in let (e, k) = left-typed g in k-or-left (k-either d e) k
+    typed-unturned (orLeft (orLeft t)) h = let (d, g) = left-typed h in let (e, k) = or-typed g in k-or-left (k-or-left d e) k
+    typed-unturned (orLeft (orRight u)) h = let (d, g) = right-typed h in let (e, k) = left-typed g in k-or-left (k-or-right d e) k
+    typed-unturned (orRight w) h = let (d, g) = right-typed h in let (e, k) = right-typed g in k-or-right (t-or d e) k
 
   pub value-turned : (t : TaskOf (or (or a b) c)) (s : Store) → value (or a (or b c)) (turned t) s ≡ value (or (or a b) c) t s
   unfolding value turned

@@ -1,6 +1,6 @@
 -- Cells renamed: an expression, a code and a running task whose cells are renamed have the types that they had, where the cells named
 -- have theirs; a running task has the type of the renamed one where its code has that type; and each running task of the renamed code is
--- one of the code, renamed. Rests on TypingAgrees and Preservation.
+-- one of the code, renamed. Rests on TypingAgrees, Preservation and TypedParts.
 use mathlib.Core.Path.{_≡_, refl, ap, ap₂, subst, _∙_}
 use mathlib.Core.List.{List, [], _∷_}
 use Prim.Native.Nat.{ℕ, zero, suc, _<_}
@@ -15,6 +15,8 @@ use Rattle.tophat.specs.Typing.{k-unpicked, k-picked-left, k-picked-righ
 use Rattle.tophat.specs.Renamed.{renamedExp, renamed, renamedTask, NamesExp, CellsIn, SameTypes}
 use Rattle.tophat.proofs.TypingAgrees.{one-type, one-task-type}
 use Rattle.tophat.proofs.Preservation.{task-code}
+use Rattle.tophat.proofs.TypedParts.{filled-typed, entered-typed, viewed-typed, bound-typed, then-before-typed, then-after-typed, next-before-typed, next-after-typed}
+use Rattle.tophat.proofs.TypedParts.{both-typed, either-typed, left-typed, right-typed, picked-left-typed, picked-right-typed, if-true-typed, if-false-typed}
 
 -- what is looked up inside a list stands there
 pub at-inside : (τs : List Ty) (n : ℕ) → n < length τs → At τs n (getD τs n unit)
@@ -90,36 +92,41 @@ module _ {π : ℕ → ℕ} {P : ℕ → Type 0} {Σ Σ₁ : List Ty} (g : SameT
   pub task-typed-back : {Γ : List Ty} {c : Code} {τ : Ty} → CodeType Σ Γ c τ → CellsIn P c → (t : TaskOf c)
       → TaskType Σ₁ Γ (renamed π c) (renamedTask π c t) τ → TaskType Σ Γ c t τ
   unfolding renamedTask
-  task-typed-back (t-edit d) w (filled v) (k-filled d₁ h) = k-filled d h
+  task-typed-back (t-edit d) w (filled v) k = k-filled d (filled-typed k)
   task-typed-back (t-enter l) w blank k = k-blank l
-  task-typed-back (t-enter l) w (entered v) (k-entered l₁ h) = k-entered l h
+  task-typed-back (t-enter l) w (entered v) k = k-entered l (entered-typed k)
   task-typed-back (t-update d) w shared k = k-shared d
-  task-typed-back (t-then d e) w (before t) (k-then-before k e₁) =
-      let q = one-task-type (task-code k) (code-typed-like d (w .0)) in
-      k-then-before (task-typed-back d (w .0) t (rw q at k)) e
-  task-typed-back (t-then d e) w (after v u) (k-then-after d₁ h k) =
+  task-typed-back (t-then d e) w (before t) k =
+      let (υ, m) = then-before-typed k in
+      let q = one-task-type (task-code m) (code-typed-like d (w .0)) in
+      k-then-before (task-typed-back d (w .0) t (rw q at m)) e
+  task-typed-back (t-then d e) w (after v u) k =
+      let (υ, d₁, h, m) = then-after-typed k in
       let q = one-task-type d₁ (code-typed-like d (w .0)) in
-      k-then-after d (rw q at h) (task-typed-back e (w .1) u (rw q at k))
-  task-typed-back (t-next d e) w (before t) (k-next-before k e₁) =
-      let q = one-task-type (task-code k) (code-typed-like d (w .0)) in
-      k-next-before (task-typed-back d (w .0) t (rw q at k)) e
-  task-typed-back (t-next d e) w (after v u) (k-next-after d₁ h k) =
+      k-then-after d (rw q at h) (task-typed-back e (w .1) u (rw q at m))
+  task-typed-back (t-next d e) w (before t) k =
+      let (υ, m) = next-before-typed k in
+      let q = one-task-type (task-code m) (code-typed-like d (w .0)) in
+      k-next-before (task-typed-back d (w .0) t (rw q at m)) e
+  task-typed-back (t-next d e) w (after v u) k =
+      let (υ, d₁, h, m) = next-after-typed k in
       let q = one-task-type d₁ (code-typed-like d (w .0)) in
-      k-next-after d (rw q at h) (task-typed-back e (w .1) u (rw q at k))
+      k-next-after d (rw q at h) (task-typed-back e (w .1) u (rw q at m))
   task-typed-back (t-fail l) w failed k = k-failed l
-  task-typed-back (t-and d e l) w (both t u) (k-both k m l₁) = k-both (task-typed-back d (w .0) t k) (task-typed-back e (w .1) u m) l
-  task-typed-back (t-or d e) w (either t u) (k-either k m) = k-either (task-typed-back d (w .0) t k) (task-typed-back e (w .1) u m)
-  task-typed-back (t-or d e) w (orLeft t) (k-or-left k e₁) = k-or-left (task-typed-back d (w .0) t k) e
-  task-typed-back (t-or d e) w (orRight u) (k-or-right d₁ m) = k-or-right d (task-typed-back e (w .1) u m)
+  task-typed-back (t-and d e l) w (both t u) k = let (m, n) = both-typed k in k-both (task-typed-back d (w .0) t m) (task-typed-back e (w .1) u n) l
+  task-typed-back (t-or d e) w (either t u) k = let (m, n) = either-typed k in k-either (task-typed-back d (w .0) t m) (task-typed-back e (w .1) u n)
+  task-typed-back (t-or d e) w (orLeft t) k = k-or-left (task-typed-back d (w .0) t (left-typed k .0)) e
+  task-typed-back (t-or d e) w (orRight u) k = k-or-right d (task-typed-back e (w .1) u (right-typed k .1))
   task-typed-back (t-xor d e) w unpicked k = k-unpicked d e
-  task-typed-back (t-xor d e) w (pickedLeft t) (k-picked-left k e₁) = k-picked-left (task-typed-back d (w .0) t k) e
-  task-typed-back (t-xor d e) w (pickedRight u) (k-picked-right d₁ m) = k-picked-right d (task-typed-back e (w .1) u m)
-  task-typed-back (t-view d) w (filled v) (k-viewed d₁ h) = k-viewed d h
-  task-typed-back (t-if-task x d e) w (ifTrue t) (k-if-true x₁ k e₁) = k-if-true x (task-typed-back d (w .1) t k) e
-  task-typed-back (t-if-task x d e) w (ifFalse u) (k-if-false x₁ d₁ m) = k-if-false x d (task-typed-back e (w .2) u m)
-  task-typed-back (t-let-task x d) w (bound v u) (k-bound x₁ h k) =
+  task-typed-back (t-xor d e) w (pickedLeft t) k = k-picked-left (task-typed-back d (w .0) t (picked-left-typed k)) e
+  task-typed-back (t-xor d e) w (pickedRight u) k = k-picked-right d (task-typed-back e (w .1) u (picked-right-typed k))
+  task-typed-back (t-view d) w (filled v) k = k-viewed d (viewed-typed k)
+  task-typed-back (t-if-task x d e) w (ifTrue t) k = k-if-true x (task-typed-back d (w .1) t (if-true-typed k)) e
+  task-typed-back (t-if-task x d e) w (ifFalse u) k = k-if-false x d (task-typed-back e (w .2) u (if-false-typed k))
+  task-typed-back (t-let-task x d) w (bound v u) k =
+      let (υ, x₁, h, m) = bound-typed k in
       let q = one-type x₁ (exp-typed-like x (w .0)) in
-      k-bound x (rw q at h) (task-typed-back d (w .1) u (rw q at k))
+      k-bound x (rw q at h) (task-typed-back d (w .1) u (rw q at m))
 
 -- ---- each running task of the renamed code is one of the code, renamed
 
