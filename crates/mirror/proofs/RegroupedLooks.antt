@@ -61,16 +61,16 @@ module _ (values values₁ : List ℤ) (list list₁ : List ℕ) (y : FlowState)
   abbrev lent : List ℤ → List ℕ → Bool → LookAnswer
   lent values list b = lookIn values list (cond b (restOf y) (refusedBy wrongMemory))
 
-  by-rooms : (room room₁ : Bool) (z : LookAnswer) → z .number ≡ 0 → cond room z (lookRefusal listTooShort values list) .number ≡ 0
+  by-rooms : (room room₁ : Bool) (z : LookAnswer) → cond room z (lookRefusal listTooShort values list) .number ≡ 0
       → cond room₁ (relent list₁ z) (lookRefusal listTooShort values₁ list₁) .number ≡ 0
       → cond room₁ (relent list₁ z) (lookRefusal listTooShort values₁ list₁) ≡ relent list₁ (cond room z (lookRefusal listTooShort values list))
-  by-rooms true true z h e k = refl
-  by-rooms true false z h e k = absurd (omega (arith, k))
-  by-rooms false room₁ z h e k = absurd (omega (arith, e))
+  by-rooms true true z e k = refl
+  by-rooms true false z e k = absurd (omega (arith, k))
+  by-rooms false room₁ z e k = absurd (omega (arith, e))
 
   by-fits : (b b₁ : Bool) → lent values list b .number ≡ 0 → lent values₁ list₁ b₁ .number ≡ 0 → lent values₁ list₁ b₁ ≡ relent list₁ (lent values list b)
   unfolding lookIn
-  by-fits true true e k = by-rooms (leb _ (length list)) (leb _ (length list₁)) _ refl e k
+  by-fits true true e k = by-rooms (leb _ (length list)) (leb _ (length list₁)) _ e k
   by-fits true false e k = absurd (omega (arith, k))
   by-fits false b₁ e k = absurd (omega (arith, e))
 
