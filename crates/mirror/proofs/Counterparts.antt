@@ -37,7 +37,7 @@ use Rattle.call_definitions.specs.Calls.{handled, handleRead, handleCall}
 use Rattle.call_definitions.proofs.Opening.{state-typed, marks-fit}
 use Rattle.call_definitions.proofs.HandleAnswered.{rest-handle}
 use Rattle.mirror.specs.Mirrored.{movedTouch}
-use Rattle.mirror.specs.Regrouped.{Regroups, Corresponds, tasks, failures, Stand, Counterpart, TooDeep, TooDeepBack}
+use Rattle.mirror.specs.Regrouped.{Regroups, Corresponds, tasks, failures, Stand, Counterpart, TooLong, TooLongBack}
 use Rattle.mirror.proofs.RegroupedStates.{codeThere, image, handle-same}
 
 -- ---- an event with another path
@@ -141,21 +141,21 @@ module _ {rows rows₁ : List ℤ} (g : Regroups rows rows₁) where
       (le-or-lt (length (pathBack t q)) maxMarks)
 
   module _ {ws ws₁ : List ℤ} (z : Stand g ws ws₁) where
-    pub there-together : (event : List ℕ) → Goes (z .path) event ⊎ (TooDeep (z .path) event × (handleCall rows ws event ≡ refusal notHandled ws))
+    pub there-together : (event : List ℕ) → Goes (z .path) event ⊎ (TooLong (z .path) event × (handleCall rows ws event ≡ refusal notHandled ws))
     unfolding movedTouch
     there-together event = by (eventOf event) refl
       where
-        by : (o : Option (Path × Action)) → eventOf event ≡ o → Goes (z .path) event ⊎ (TooDeep (z .path) event × (handleCall rows ws event ≡ refusal notHandled ws))
+        by : (o : Option (Path × Action)) → eventOf event ≡ o → Goes (z .path) event ⊎ (TooLong (z .path) event × (handleCall rows ws event ≡ refusal notHandled ws))
         by none e = inl (event, e ∙ sym (ap (movedTouch (z .path)) e))
         by (some q) e = ⊎-elim inl (λ (l, h). inr ((q .0, q .1, e, l), refused-call (g .flow) (z .rest) event e h))
             (there-in (z .alike) (state-typed (g .flow₁) (z .rest₁ .writes)) event e)
 
-    pub back-together : (event₁ : List ℕ) → Comes (z .path) event₁ ⊎ (TooDeepBack (z .path) event₁ × (handleCall rows₁ ws₁ event₁ ≡ refusal notHandled ws₁))
+    pub back-together : (event₁ : List ℕ) → Comes (z .path) event₁ ⊎ (TooLongBack (z .path) event₁ × (handleCall rows₁ ws₁ event₁ ≡ refusal notHandled ws₁))
     unfolding movedTouch
     back-together event₁ = by (eventOf event₁) refl
       where
         by : (o : Option (Path × Action)) → eventOf event₁ ≡ o
-            → Comes (z .path) event₁ ⊎ (TooDeepBack (z .path) event₁ × (handleCall rows₁ ws₁ event₁ ≡ refusal notHandled ws₁))
+            → Comes (z .path) event₁ ⊎ (TooLongBack (z .path) event₁ × (handleCall rows₁ ws₁ event₁ ≡ refusal notHandled ws₁))
         by none e = inl (event₁, e ∙ sym (ap (movedTouch (z .path)) e))
         by (some q) e = ⊎-elim inl (λ (l, h). inr ((q .0, q .1, e, l), refused-call (g .flow₁) (z .rest₁) event₁ e h))
             (back-in (z .alike) (state-typed (g .flow) (z .rest .writes)) event₁ e)

@@ -74,11 +74,11 @@ abbrev pub Counterpart : (Path → Path) → List ℕ → List ℕ → Type 0
 Counterpart f event event₁ = eventOf event₁ ≡ movedTouch f (eventOf event)
 
 -- the event can be read, and what its path would be is longer than an event can say: there, and back
-abbrev pub TooDeep : (Path → Path) → List ℕ → Type 0
-TooDeep f event = (p : Path) × (x : Action) × (eventOf event ≡ some (p, x)) × (maxMarks < length (f p))
+abbrev pub TooLong : (Path → Path) → List ℕ → Type 0
+TooLong f event = (p : Path) × (x : Action) × (eventOf event ≡ some (p, x)) × (maxMarks < length (f p))
 
-abbrev pub TooDeepBack : (Path → Path) → List ℕ → Type 0
-TooDeepBack f event₁ = (q : Path) × (x : Action) × (eventOf event₁ ≡ some (q, x)) × ((p : Path) → f p ≡ q → maxMarks < length p)
+abbrev pub TooLongBack : (Path → Path) → List ℕ → Type 0
+TooLongBack f event₁ = (q : Path) × (x : Action) × (eventOf event₁ ≡ some (q, x)) × ((p : Path) → f p ≡ q → maxMarks < length p)
 
 module _ {rows rows₁ : List ℤ} (g : Regroups rows rows₁) where
   -- the codes of the two
@@ -123,7 +123,7 @@ module _ {rows rows₁ : List ℤ} (g : Regroups rows rows₁) where
     -- every rest of either sheet, whether start reaches it or not, goes together with one of the other
     pub rests : {ws : List ℤ} → IsRest rows ws codeOne (g .cells) (g .type) → (ws₁ : List ℤ) × Stand ws ws₁
     pub rests-back : {ws₁ : List ℤ} → IsRest rows₁ ws₁ (renamed (g .place) codeOther) (g .cells₁) (g .type₁) → (ws : List ℤ) × Stand ws ws₁
-    -- look, with any value memory and list memory
+    -- look, both lent the same value memory and list memory, whatever these are
     pub looks : {ws ws₁ : List ℤ} (z : Stand ws ws₁) (values : List ℤ) (list : List ℕ)
         → LooksRegrouped (z .path) list (lookCall rows ws values list) (lookCall rows₁ ws₁ values list)
     -- two looks with room for what they answer, each lent memories of its own
@@ -136,7 +136,7 @@ module _ {rows rows₁ : List ℤ} (g : Regroups rows rows₁) where
         × Stand (handleCall rows ws event .state) (handleCall rows₁ ws₁ event₁ .state)
     -- an event of either sheet has a counterpart, or its path would be too long in the other: then it is refused
     pub there : {ws ws₁ : List ℤ} (z : Stand ws ws₁) (event : List ℕ)
-        → ((event₁ : List ℕ) × Counterpart (z .path) event event₁) ⊎ (TooDeep (z .path) event × (handleCall rows ws event ≡ refusal notHandled ws))
+        → ((event₁ : List ℕ) × Counterpart (z .path) event event₁) ⊎ (TooLong (z .path) event × (handleCall rows ws event ≡ refusal notHandled ws))
     pub back : {ws ws₁ : List ℤ} (z : Stand ws ws₁) (event₁ : List ℕ)
-        → ((event : List ℕ) × Counterpart (z .path) event event₁) ⊎ (TooDeepBack (z .path) event₁ × (handleCall rows₁ ws₁ event₁ ≡ refusal notHandled ws₁))
+        → ((event : List ℕ) × Counterpart (z .path) event event₁) ⊎ (TooLongBack (z .path) event₁ × (handleCall rows₁ ws₁ event₁ ≡ refusal notHandled ws₁))
     pub runs : {ws ws₁ : List ℤ} {ks ks₁ : List Call} → Stand ws ws₁ → Together ws ws₁ ks ks₁ → Stand (run rows ws ks) (run rows₁ ws₁ ks₁)
