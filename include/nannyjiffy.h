@@ -1,6 +1,6 @@
-/* Nannyjiffy's four calls for C: load a sheet, start its flow, look at a rest, handle an event. They stand in libflow_c.a
- * (`rt staticlib flow_c`), whose contracts are in crates/flow_c/src/lib.rt; document 01 says what sheets, events and list
- * entries are, docs/STATE.md what a state's words are, and docs/NUMBERS.md what to do about each number.
+/* Nannyjiffy's four calls for C: load a sheet, start its flow, look at a rest in a role, handle an event. They stand in
+ * libflow_c.a (`rt staticlib flow_c`), whose contracts are in crates/flow_c/src/lib.rt; document 01 says what sheets, events and
+ * list entries are, docs/STATE.md what a state's words are, and docs/NUMBERS.md what to do about each number.
  *
  * Memory. Every memory is the caller's: the library allocates nothing, keeps nothing between calls, has no globals, and so may
  * run on several threads at once. A memory is lent for one call, as a pointer and a count of its bytes or words. A call
@@ -29,15 +29,20 @@ extern "C" {
 #define NANNYJIFFY_LINE_BYTES 45
 #define NANNYJIFFY_MAX_LEAVES 8
 
-/* An event is 115 bytes: path, action, 8 leaves of 12 columns, byte 10; a list entry is 35: path, action, 8 leaf kinds of 2
+/* An event is 117 bytes: role, path, action, 8 leaves of 12 columns, byte 10; a list entry is 35: path, action, 8 leaf kinds of 2
  * columns, byte 10. */
-#define NANNYJIFFY_EVENT_BYTES (16 + 2 + 12 * NANNYJIFFY_MAX_LEAVES + 1)
+#define NANNYJIFFY_EVENT_BYTES (2 + 16 + 2 + 12 * NANNYJIFFY_MAX_LEAVES + 1)
 #define NANNYJIFFY_ENTRY_BYTES (16 + 2 + 2 * NANNYJIFFY_MAX_LEAVES + 1)
 
 /* Words of rows memory and of a state for each row, and words of a value. */
 #define NANNYJIFFY_ROW_WORDS 4
 #define NANNYJIFFY_STATE_WORDS 16
 #define NANNYJIFFY_VALUE_WORDS NANNYJIFFY_MAX_LEAVES
+
+/* Roles are 1 to 8. A row of kind 50 is for one of them, and may be touched 0 to 99 times; the touches left are part of the
+ * state. */
+#define NANNYJIFFY_MAX_ROLE 8
+#define NANNYJIFFY_MAX_TOUCHES 99
 
 /* Stack that suffices for each call, 2.5 MiB. */
 #define NANNYJIFFY_STACK_BYTES 2621440
@@ -52,22 +57,27 @@ enum nannyjiffy_number {
     NANNYJIFFY_LENGTH = 1,     /* sheet length not 45 times 1 to 256 */
     NANNYJIFFY_UNREADABLE = 2, /* a field or byte 10 unreadable, or a wrong row number; a blank where an operand is used, as row
                                 * number or kind, or in an operand of a kind that is none */
-    NANNYJIFFY_NOT_LISTED = 3, /* a kind, operator, truth or unused operand not as listed */
+    NANNYJIFFY_NOT_LISTED = 3, /* a kind, operator, truth or unused operand not as listed; in kind 50 a role not 1 to 8, or
+                                * touches not 0 to 99 */
     NANNYJIFFY_SORT = 4,       /* an operand not a lower row, or not of the sort asked */
     NANNYJIFFY_NAMING = 5,     /* the naming rule broken, or a last row that is no task by its kind */
     NANNYJIFFY_LIMIT = 6,      /* a type row over 8 leaves, or over 16 binders or marks */
     NANNYJIFFY_TYPING = 7,     /* no typing for the last row as a task */
-    NANNYJIFFY_EVENT = 8,      /* event length, byte 10, field, path digit or action bad, or a leaf not 0 at actions 2 to 4; a
-                                * blank action, but no blank leaf and no blank path */
+    NANNYJIFFY_EVENT = 8,      /* event length, byte 10, field, role, path digit or action bad, or a leaf not 0 at actions 2 to
+                                * 4; a blank role or action, but no blank leaf and no blank path; a look's role not 1 to 8 */
     NANNYJIFFY_HANDLING = 9,   /* no handling rule derives a step: the flow does not take this event now; a blank leaf meets
                                 * leaf kind 0 alone; a Continue, Left or Right whose sums leave the range is not taken, and a
                                 * flow whose start left it takes no event */
     NANNYJIFFY_ROWS = 20,      /* rows that no accepted sheet loads to */
     NANNYJIFFY_MEMORY = 21,    /* rows memory at load, state or value memory not of its exact length */
     NANNYJIFFY_NO_STATE = 22,  /* not the writing of a state; a last row that failed as a whole is one where start fails so and
-                                * the cells have their first contents, and nowhere else */
+                                * the cells have their first contents, and nowhere else; touches left of a row of kind 50 are
+                                * 0 to its C */
     NANNYJIFFY_NO_REST = 23,   /* normalising would change the state */
-    NANNYJIFFY_LIST = 24       /* list memory under 35 bytes an entry */
+    NANNYJIFFY_LIST = 24,      /* list memory under 35 bytes an entry */
+    NANNYJIFFY_ROLE = 30,      /* a rule derives a step, but a row of kind 50 that the event passes, from the last row to the row
+                                * that takes it, is another role's */
+    NANNYJIFFY_TOUCHES = 31    /* the same, and all of these rows are the event's role's, but one has no touch left */
 };
 
 /* Loads a sheet. Asks 1, 21, 2, 3, 4, 5, 6, 7.
@@ -84,25 +94,27 @@ uint32_t nannyjiffy_load(const uint8_t *sheet, size_t sheet_bytes, int32_t *rows
  *   strides  how many strides normalising took, at most 1 more than the rows of kind 43 and 47; refused: 0 */
 uint32_t nannyjiffy_start(const int32_t *rows, size_t rows_words, int32_t *state, size_t state_words, uint32_t *strides);
 
-/* Looks at a rest. Asks 20, 21, 22, 23, 24.
+/* Looks at a rest, in a role. Asks 20, 21, 22, 23, 8, 24.
  *   rows    read, as by start
  *   state   read: what start or handle wrote; 16 words a row exactly, else 21
+ *   role    who looks, 1 to 8, else 8; the list has just what this role may do now, all else is the same for every role
  *   value   accepted: all 8 words written, the value's leaves, unused ones 0, all 0 without a value; 8 words exactly, else 21
  *   list    accepted: the entries from its first byte on, 35 bytes each; the bytes after them keep their content.
- *           Too short for the entries: 24. NANNYJIFFY_LIST_BYTES(rows) always suffice; a quiet flow, one without entries,
- *           needs none
+ *           Too short for the entries: 24. NANNYJIFFY_LIST_BYTES(rows) always suffice; where there is no entry none is needed:
+ *           for every role in a quiet flow, for one role while another can go on, and for all once touches are spent
  *   valued  1 with a value, else 0; refused: 0
  *   fails   1 where the flow fails, else 0; a flow that fails is quiet, a quiet one need not fail; it is 1 after a failed
  *           start; refused: 0
  *   bytes   how many bytes of the list the entries are, a multiple of 35; refused: 0 */
-uint32_t nannyjiffy_look(const int32_t *rows, size_t rows_words, const int32_t *state, size_t state_words, int32_t *value,
-                         size_t value_words, uint8_t *list, size_t list_bytes, uint32_t *valued, uint32_t *fails,
-                         size_t *bytes);
+uint32_t nannyjiffy_look(const int32_t *rows, size_t rows_words, const int32_t *state, size_t state_words, uint32_t role,
+                         int32_t *value, size_t value_words, uint8_t *list, size_t list_bytes, uint32_t *valued,
+                         uint32_t *fails, size_t *bytes);
 
-/* Handles an event, and normalises. Asks 20, 21, 22, 23, 8, 9.
+/* Handles an event, and normalises. Asks 20, 21, 22, 23, 8, 9, 30, 31.
  *   rows     read, as by start
- *   state    a rest; accepted: every word written, the rest that the event leads to; 16 words a row exactly, else 21
- *   event    read: 115 bytes, else 8
+ *   state    a rest; accepted: every word written, the rest that the event leads to, with one touch less in each row of kind 50
+ *            that the event passed; 16 words a row exactly, else 21
+ *   event    read: 117 bytes, else 8
  *   strides  how many strides normalising took, as by start; refused: 0 */
 uint32_t nannyjiffy_handle(const int32_t *rows, size_t rows_words, int32_t *state, size_t state_words,
                            const uint8_t *event, size_t event_bytes, uint32_t *strides);

@@ -6,7 +6,8 @@
 #include <stdio.h>
 #include <stdlib.h>
 
-enum { ROWS = 12 };
+/* The role that touches, and looks. */
+enum { ROWS = 12, ROLE = 1 };
 
 /* Row number, kind, A, B, C. The literal's last byte, 0, is no part of the sheet. */
 static const char sheet[ROWS * NANNYJIFFY_LINE_BYTES + 1] =
@@ -23,12 +24,12 @@ static const char sheet[ROWS * NANNYJIFFY_LINE_BYTES + 1] =
     "  10  25           4           8           9\n"
     "  11  43           1          10           0\n";
 
-/* Path, action, leaves: value 12, value 4, Continue. The last seven leaves are not used. */
+/* Role, path, action, leaves: value 12, value 4, Continue. The last seven leaves are not used. */
 #define UNUSED "           0           0           0           0           0           0           0"
 static const char events[3][NANNYJIFFY_EVENT_BYTES + 1] = {
-    "               0 1          12" UNUSED "\n",
-    "               0 1           4" UNUSED "\n",
-    "               0 2           0" UNUSED "\n",
+    " 1               0 1          12" UNUSED "\n",
+    " 1               0 1           4" UNUSED "\n",
+    " 1               0 2           0" UNUSED "\n",
 };
 
 static int32_t rows[ROWS * NANNYJIFFY_ROW_WORDS];
@@ -51,8 +52,8 @@ static void print_screen(uint32_t answer, uint32_t strides)
 {
     uint32_t valued, fails;
     size_t bytes;
-    demand("look", nannyjiffy_look(rows, WORDS(rows), state, WORDS(state), value, WORDS(value), list, sizeof list, &valued,
-                                   &fails, &bytes));
+    demand("look", nannyjiffy_look(rows, WORDS(rows), state, WORDS(state), ROLE, value, WORDS(value), list, sizeof list,
+                                   &valued, &fails, &bytes));
     printf("%4" PRIu32 "%4" PRIu32 "%2" PRIu32 "%2" PRIu32, answer, strides, fails, valued);
     for (size_t leaf = 0; leaf < WORDS(value); leaf++) {
         printf("%12" PRId32, value[leaf]);

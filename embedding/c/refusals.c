@@ -1,14 +1,15 @@
 /* Each export from C with memory that is wrong in one way: the number that it answers, its single answers, and that lent memory, and
- * what stands beside it, keeps its content; lengths as they were with four leaves; a value of eight leaves; blanks, where they
- * are read as 0 and where not; a look at a quiet flow, which needs no list memory; and a start that leaves the range, which is
- * accepted and fails as a whole. Prints nothing where all is as nannyjiffy.h says. */
+ * what stands beside it, keeps its content; lengths as they were with four leaves and without a role; a value of eight leaves;
+ * blanks, where they are read as 0 and where not; a look at a quiet flow, which needs no list memory; roles, touches that are
+ * spent, and looks in each role; and a start that leaves the range, which is accepted and fails as a whole. Prints nothing where
+ * all is as nannyjiffy.h says. */
 #include "nannyjiffy.h"
 
 #include <stdio.h>
 #include <stdlib.h>
 #include <string.h>
 
-enum { ROWS = 2, BEYOND_ROWS = 4, WIDE_ROWS = 5 };
+enum { ROWS = 2, BEYOND_ROWS = 4, WIDE_ROWS = 5, GATED_ROWS = 3 };
 
 static const char sheet[] = "   0   3           0           0           0\n"
                             "   1  41           0           0           0\n";
@@ -29,16 +30,21 @@ static const char wide[] = "   0   3           0           0           0\n"
                            "   4  41           3           0           0\n";
 static const char too_wide[] = "   4   4           3           0           0\n"
                                "   5  41           4           0           0\n";
-static const char give_wide[] = "               0 1           1           2           3           4"
+static const char give_wide[] = " 1               0 1           1           2           3           4"
                                 "           5           6           7 -2147483648\n";
+/* An empty editor that role 2 may touch once. */
+static const char gated[] = "   0   3           0           0           0\n"
+                            "   1  41           0           0           0\n"
+                            "   2  50           2           1           1\n";
 
 /* The last seven leaves of an event, as 0 and as blanks. */
 #define ZEROS "           0           0           0           0           0           0           0"
 #define BLANKS "                                                                                    "
 
 static const char entry[] = "               0 1 3 0 0 0 0 0 0 0\n";
-static const char give[] = "               0 1          12" ZEROS "\n";
-/* The same with four leaves, as events, entries and values once had. */
+static const char give[] = " 1               0 1          12" ZEROS "\n";
+/* The same without a role, as events once were, and with four leaves, as events, entries and values once had. */
+static const char give_nobody[] = "               0 1          12" ZEROS "\n";
 static const char give_four[] = "               0 1          12           0           0           0\n";
 static const char entry_four[] = "               0 1 3 0 0 0\n";
 enum { FOUR_WORDS = 4 };
@@ -47,13 +53,15 @@ static const char sheet_blank[] = "   0   3                                    \
                                   "   1  41           0                        \n";
 static const char sheet_missing[] = "   0   3                                    \n"
                                     "   1  41                                    \n";
-static const char give_blank[] = "                 1           7" BLANKS "\n";
-static const char give_missing[] = "                 1            " ZEROS "\n";
-static const char no_action[] = "               0            12" ZEROS "\n";
-static const char left[] = "               0 3           0" ZEROS "\n";
+static const char give_blank[] = " 1                 1           7" BLANKS "\n";
+static const char give_missing[] = " 1                 1            " ZEROS "\n";
+static const char no_action[] = " 1               0            12" ZEROS "\n";
+static const char no_role[] = "                 0 1          12" ZEROS "\n";
+static const char left[] = " 1               0 3           0" ZEROS "\n";
 
 _Static_assert(sizeof give == NANNYJIFFY_EVENT_BYTES + 1 && sizeof give_blank == sizeof give, "an event");
 _Static_assert(sizeof give_wide == sizeof give && sizeof give_four == 67 + 1, "an event of eight leaves, and of four");
+_Static_assert(sizeof no_role == sizeof give && sizeof give_nobody == 115 + 1, "an event with a blank role, and without one");
 _Static_assert(sizeof entry == NANNYJIFFY_ENTRY_BYTES + 1 && sizeof entry_four == 27 + 1, "an entry, and one of four leaves");
 
 /* Each memory has room in front and behind that no call may write. */
@@ -96,12 +104,14 @@ static struct {
     size_t bytes;
 } seen;
 
-static uint32_t look(size_t words, size_t value, size_t list)
+static uint32_t look_in(uint32_t role, size_t words, size_t value, size_t list)
 {
     seen.valued = seen.fails = 99, seen.bytes = 99;
-    return nannyjiffy_look(lent.rows, ROWS_WORDS, lent.state, words, lent.value, value, lent.list, list, &seen.valued,
+    return nannyjiffy_look(lent.rows, ROWS_WORDS, lent.state, words, role, lent.value, value, lent.list, list, &seen.valued,
                            &seen.fails, &seen.bytes);
 }
+
+static uint32_t look(size_t words, size_t value, size_t list) { return look_in(1, words, value, list); }
 
 /* A refused look. */
 static void check_look(uint32_t number, uint32_t expected)
@@ -128,7 +138,7 @@ static void check_failed_start(void)
     CHECK(nannyjiffy_load((const uint8_t *)beyond, sizeof beyond - 1, rows, rows_words) == NANNYJIFFY_ACCEPTED);
     CHECK(nannyjiffy_start(rows, rows_words, state, state_words, &strides) == NANNYJIFFY_ACCEPTED && strides == 1);
     CHECK(memcmp(state, failed, sizeof state) == 0);
-    CHECK(nannyjiffy_look(rows, rows_words, state, state_words, value, NANNYJIFFY_VALUE_WORDS, list, 0, &valued, &fails,
+    CHECK(nannyjiffy_look(rows, rows_words, state, state_words, 1, value, NANNYJIFFY_VALUE_WORDS, list, 0, &valued, &fails,
                           &bytes) == NANNYJIFFY_ACCEPTED);
     CHECK(valued == 0 && fails == 1 && bytes == 0 && list[0] == 7 && memcmp(value, no_value, sizeof value) == 0);
     CHECK(nannyjiffy_handle(rows, rows_words, state, state_words, (const uint8_t *)give, NANNYJIFFY_EVENT_BYTES,
@@ -165,10 +175,60 @@ static void check_eight_leaves(void)
     CHECK(nannyjiffy_handle(rows, rows_words, state, state_words, (const uint8_t *)give_wide, sizeof give_wide - 1,
                             &strides) == NANNYJIFFY_ACCEPTED && strides == 1);
     CHECK(last[0] == 2 && memcmp(&last[2], leaves, sizeof leaves) == 0);
-    CHECK(nannyjiffy_look(rows, rows_words, state, state_words, value, NANNYJIFFY_VALUE_WORDS, list, sizeof list, &valued,
-                          &fails, &bytes) == NANNYJIFFY_ACCEPTED);
+    CHECK(nannyjiffy_look(rows, rows_words, state, state_words, NANNYJIFFY_MAX_ROLE, value, NANNYJIFFY_VALUE_WORDS, list,
+                          sizeof list, &valued, &fails, &bytes) == NANNYJIFFY_ACCEPTED);
     CHECK(valued == 1 && fails == 0 && bytes == NANNYJIFFY_ENTRY_BYTES && memcmp(value, leaves, sizeof value) == 0);
     CHECK(memcmp(list, "               0 1 3 3 3 3 3 3 3 3\n", sizeof list) == 0);
+}
+
+/* The number that an event of a role gets. */
+static uint32_t touch(const int32_t *rows, int32_t *state, char role)
+{
+    char event[sizeof give];
+    uint32_t strides = 99, number;
+    memcpy(event, give, sizeof event);
+    event[1] = role;
+    number = nannyjiffy_handle(rows, GATED_ROWS * NANNYJIFFY_ROW_WORDS, state, GATED_ROWS * NANNYJIFFY_STATE_WORDS,
+                               (const uint8_t *)event, NANNYJIFFY_EVENT_BYTES, &strides);
+    CHECK(strides == (number == NANNYJIFFY_ACCEPTED));
+    return number;
+}
+
+/* One touch of role 2: 30 for others, 31 once it is used; each role's list; touches left that are no state. */
+static void check_roles(void)
+{
+    const size_t rows_words = GATED_ROWS * NANNYJIFFY_ROW_WORDS, state_words = GATED_ROWS * NANNYJIFFY_STATE_WORDS;
+    int32_t rows[GATED_ROWS * NANNYJIFFY_ROW_WORDS], state[GATED_ROWS * NANNYJIFFY_STATE_WORDS];
+    int32_t before[GATED_ROWS * NANNYJIFFY_STATE_WORDS], value[NANNYJIFFY_VALUE_WORDS];
+    int32_t *gate = &state[2 * NANNYJIFFY_STATE_WORDS];
+    uint8_t list[NANNYJIFFY_ENTRY_BYTES];
+    uint32_t strides = 99, valued, fails;
+    size_t bytes;
+
+    CHECK(nannyjiffy_load((const uint8_t *)gated, sizeof gated - 1, rows, rows_words) == NANNYJIFFY_ACCEPTED);
+    CHECK(nannyjiffy_start(rows, rows_words, state, state_words, &strides) == NANNYJIFFY_ACCEPTED && strides == 1);
+    CHECK(gate[0] == 1 && gate[1] == 3 && gate[2] == 1);
+    for (uint32_t role = 1; role <= NANNYJIFFY_MAX_ROLE; role++) {
+        CHECK(nannyjiffy_look(rows, rows_words, state, state_words, role, value, NANNYJIFFY_VALUE_WORDS, list, sizeof list,
+                              &valued, &fails, &bytes) == NANNYJIFFY_ACCEPTED);
+        CHECK(valued == 0 && fails == 0 && bytes == (role == 2 ? sizeof list : 0));
+    }
+    memcpy(before, state, sizeof state);
+    CHECK(touch(rows, state, '1') == NANNYJIFFY_ROLE && touch(rows, state, '9') == NANNYJIFFY_EVENT);
+    CHECK(memcmp(state, before, sizeof state) == 0);
+    CHECK(touch(rows, state, '2') == NANNYJIFFY_ACCEPTED && gate[2] == 0);
+    memcpy(before, state, sizeof state);
+    CHECK(touch(rows, state, '2') == NANNYJIFFY_TOUCHES && touch(rows, state, '8') == NANNYJIFFY_ROLE);
+    CHECK(memcmp(state, before, sizeof state) == 0);
+    CHECK(nannyjiffy_look(rows, rows_words, state, state_words, 2, value, NANNYJIFFY_VALUE_WORDS, list, 0, &valued, &fails,
+                          &bytes) == NANNYJIFFY_ACCEPTED);
+    CHECK(valued == 1 && fails == 0 && bytes == 0 && value[0] == 12);
+    for (int32_t left = -1; left <= 2; left += 3) {
+        gate[2] = left;
+        CHECK(touch(rows, state, '2') == NANNYJIFFY_NO_STATE);
+    }
+    rows[2 * NANNYJIFFY_ROW_WORDS + 3] = NANNYJIFFY_MAX_TOUCHES + 1;
+    CHECK(touch(rows, state, '2') == NANNYJIFFY_ROWS);
 }
 
 int main(void)
@@ -176,6 +236,7 @@ int main(void)
     uint32_t strides;
     check_failed_start();
     check_eight_leaves();
+    check_roles();
     memset(&lent, 0x77, sizeof lent);
     kept = lent;
 
@@ -205,10 +266,17 @@ int main(void)
     check_look(look(STATE_WORDS, FOUR_WORDS, sizeof entry), NANNYJIFFY_MEMORY);
     check_look(look(STATE_WORDS, NANNYJIFFY_VALUE_WORDS, NANNYJIFFY_ENTRY_BYTES - 1), NANNYJIFFY_LIST);
     check_look(look(STATE_WORDS, NANNYJIFFY_VALUE_WORDS, sizeof entry_four - 1), NANNYJIFFY_LIST);
+    /* A role that there is not is asked after 21 to 23 and before 24. */
+    check_look(look_in(0, STATE_WORDS, NANNYJIFFY_VALUE_WORDS, 0), NANNYJIFFY_EVENT);
+    check_look(look_in(NANNYJIFFY_MAX_ROLE + 1, STATE_WORDS, NANNYJIFFY_VALUE_WORDS, sizeof entry), NANNYJIFFY_EVENT);
+    check_look(look_in(0x101, STATE_WORDS, NANNYJIFFY_VALUE_WORDS, sizeof entry), NANNYJIFFY_EVENT);
+    check_look(look_in(UINT32_MAX, STATE_WORDS - 1, NANNYJIFFY_VALUE_WORDS, 0), NANNYJIFFY_MEMORY);
     CHECK(handle(STATE_WORDS - 1, give, NANNYJIFFY_EVENT_BYTES, &strides) == NANNYJIFFY_MEMORY && strides == 0);
     CHECK(handle(STATE_WORDS, give, NANNYJIFFY_EVENT_BYTES - 1, &strides) == NANNYJIFFY_EVENT && strides == 0);
     CHECK(handle(STATE_WORDS, give_four, sizeof give_four - 1, &strides) == NANNYJIFFY_EVENT && strides == 0);
+    CHECK(handle(STATE_WORDS, give_nobody, sizeof give_nobody - 1, &strides) == NANNYJIFFY_EVENT && strides == 0);
     CHECK(handle(STATE_WORDS, no_action, NANNYJIFFY_EVENT_BYTES, &strides) == NANNYJIFFY_EVENT && strides == 0);
+    CHECK(handle(STATE_WORDS, no_role, NANNYJIFFY_EVENT_BYTES, &strides) == NANNYJIFFY_EVENT && strides == 0);
     CHECK(handle(STATE_WORDS, left, NANNYJIFFY_EVENT_BYTES, &strides) == NANNYJIFFY_HANDLING && strides == 0);
     CHECK(handle(STATE_WORDS, give_missing, NANNYJIFFY_EVENT_BYTES, &strides) == NANNYJIFFY_HANDLING && strides == 0);
     CHECK(memcmp(&lent, &kept, sizeof lent) == 0);

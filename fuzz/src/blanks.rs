@@ -1,6 +1,6 @@
 //! Fields left blank (CR 2), whether they are meant or not: some of a line, or of an event.
 
-use reference::event::{leaf_columns, ACTION, EVENT, PATH};
+use reference::event::{leaf_columns, ACTION_COLUMNS, EVENT, PATH_COLUMNS, ROLE_COLUMNS};
 use reference::limits::LEAVES;
 use reference::random::Random;
 use reference::sheet::{COLUMNS, LINE};
@@ -12,9 +12,9 @@ pub fn line(random: &mut Random, text: &mut [u8]) {
     blank(random, text, LINE, COLUMNS.into_iter().zip(percent));
 }
 
-/// In events, fields of some event: more often path and leaves than the action.
+/// In events, fields of some event: more often path and leaves than the role and the action.
 pub fn event(random: &mut Random, events: &mut [u8]) {
-    let head = [(0..PATH, 40), (PATH..PATH + ACTION, 5)];
+    let head = [(ROLE_COLUMNS, 5), (PATH_COLUMNS, 40), (ACTION_COLUMNS, 5)];
     blank(random, events, EVENT, head.into_iter().chain((0..LEAVES).map(|leaf| (leaf_columns(leaf), 40))));
 }
 

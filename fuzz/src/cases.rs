@@ -1,4 +1,4 @@
-//! The files: sessions as the session program reads them, and lent memory as seven frames.
+//! The files: sessions as the session program reads them, and lent memory as eight frames.
 
 use reference::lent::Lent;
 use std::fs;
@@ -47,7 +47,7 @@ pub fn sessions() -> io::Result<Vec<Case<Vec<u8>>>> {
 pub fn lents() -> io::Result<Vec<Case<Lent>>> {
     let lent = |file: &PathBuf| {
         let Case { name, content } = read(file)?;
-        let content = lent_of(&content).ok_or_else(|| io::Error::other(format!("{name} is no seven frames")))?;
+        let content = lent_of(&content).ok_or_else(|| io::Error::other(format!("{name} is no eight frames")))?;
         Ok(Case { name, content })
     };
     files(LENT)?.iter().map(lent).collect()
@@ -62,11 +62,13 @@ pub fn keep(extension: &str, bytes: &[u8]) -> io::Result<PathBuf> {
     Ok(file)
 }
 
-/// Frames: a length in 8 columns, byte 10, and that many bytes; words are 4 bytes, the least first.
+/// Frames: a length in 8 columns, byte 10, and that many bytes; words are 4 bytes, the least first, and so is the role.
 pub fn bytes_of(lent: &Lent) -> Vec<u8> {
     let words = |words: &[i32]| words.iter().flat_map(|word| word.to_le_bytes()).collect::<Vec<u8>>();
-    let Lent { text, room, rows, state, value, list, event } = lent;
-    let memories = [text.clone(), words(room), words(rows), words(state), words(value), list.clone(), event.clone()];
+    let Lent { text, room, rows, state, role, value, list, event } = lent;
+    let role = role.to_le_bytes().to_vec();
+    let memories =
+        [text.clone(), words(room), words(rows), words(state), role, words(value), list.clone(), event.clone()];
     memories.iter().flat_map(|bytes| [format!("{:8}\n", bytes.len()).into_bytes(), bytes.clone()].concat()).collect()
 }
 
@@ -83,6 +85,7 @@ fn lent_of(mut bytes: &[u8]) -> Option<Lent> {
         room: words(frame()?),
         rows: words(frame()?),
         state: words(frame()?),
+        role: u32::from_le_bytes(frame()?.try_into().ok()?),
         value: words(frame()?),
         list: frame()?,
         event: frame()?,

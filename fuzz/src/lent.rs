@@ -10,10 +10,12 @@ use reference::generate::{states, touches};
 use reference::lent::{self, Lent};
 use reference::limits::LEAVES;
 use reference::random::Random;
+use reference::roles::Role;
 use reference::rules::Rules;
 use reference::session;
 use reference::sheet::{self, Row};
-use reference::state::State;
+use reference::slips::Slip;
+use reference::state::{LastRow, State};
 use reference::words::{self, STATE_ROW};
 
 /// Words and bytes of a memory at most: a fence has room for them.
@@ -27,21 +29,22 @@ pub fn of_session(input: &[u8]) -> Vec<Lent> {
     let (mut state, _) = State::start(&flow);
     let mut lent = Vec::new();
     for event in events.chunks(EVENT).chain([&b""[..]]) {
-        lent.push(of_state(&flow, &state, event.to_vec()));
+        lent.push(of_state(&flow, &state, session::role_after(event, Slip::None), event.to_vec()));
         // A refused event leaves the state as it is.
         let _ = state.handle(event);
     }
     lent
 }
 
-fn of_state(flow: &Flow, state: &State, event: Vec<u8>) -> Lent {
+fn of_state(flow: &Flow, state: &State, role: Role, event: Vec<u8>) -> Lent {
     let rows = calls::words_of_rows(&flow.rows);
-    let list = vec![b'.'; ENTRY * state.look().entries.len()];
+    let list = vec![b'.'; ENTRY * state.look(role).entries.len()];
     Lent {
         text: sheet::write(&flow.rows),
         room: vec![7; rows.len()],
         rows,
         state: words::write(flow, state),
+        role,
         value: vec![7; LEAVES],
         list,
         event,
@@ -68,7 +71,7 @@ pub fn make(random: &mut Random, pool: &[Lent]) -> Lent {
 }
 
 fn change(random: &mut Random, lent: &mut Lent, other: &Lent) {
-    match random.below(22) {
+    match random.below(24) {
         0 => change_bytes(random, &mut lent.text, b" 0123456789-\n"),
         1 => change_bytes(random, &mut lent.event, b" 01234-\n"),
         2 => change_bytes(random, &mut lent.list, b".27"),
@@ -83,6 +86,8 @@ fn change(random: &mut Random, lent: &mut Lent, other: &Lent) {
         18 => drawn(random, lent),
         19 => blanks::line(random, &mut lent.text),
         20 => blanks::event(random, &mut lent.event),
+        21 => lent.role = lent::some_role(random),
+        22 => other_touches(random, lent),
         _ => lent.text.clone_from(&other.text),
     }
 }
@@ -142,13 +147,24 @@ fn run(random: &mut Random, lent: &mut Lent) {
         return;
     }
     let Some(mut state) = words::read(&flow, &lent.state) else { return };
-    let entries = state.look().entries;
-    lent.event = touches::event(random, &entries);
-    lent.list.resize(ENTRY * entries.len(), b'.');
+    lent.event = touches::event(random, &state);
+    lent.role = session::role_after(&lent.event, Slip::None);
+    lent.list.resize(ENTRY * state.look(lent.role).entries.len(), b'.');
     lent.value.resize(LEAVES, 7);
     if random.chance(50) && state.rests() && state.handle(&lent.event).is_ok() {
-        *lent = of_state(&flow, &state, touches::event(random, &state.look().entries));
+        let event = touches::event(random, &state);
+        *lent = of_state(&flow, &state, session::role_after(&event, Slip::None), event);
     }
+}
+
+/// Other touches left in the rows of kind 50 that are live.
+fn other_touches(random: &mut Random, lent: &mut Lent) {
+    let Ok(flow) = calls::flow_of(&lent.rows) else { return };
+    let Some(mut state) = words::read(&flow, &lent.state) else { return };
+    if let LastRow::Task(task) = &mut state.last_row {
+        task.change_touches(&mut |gate| states::touches_left(random, gate));
+    }
+    lent.state = words::write(&flow, &state);
 }
 
 /// A state of the flow, a rest or not; now and then the words of a last row that failed as a whole, a state or not.
@@ -172,7 +188,7 @@ pub fn shown(lent: &Lent, answers: &Answers) -> Vec<u64> {
     ];
     let rows = lent.rows.chunks(ROW).zip(lent.state.chunks(STATE_ROW)).filter(|(_, state)| state[0] != 0);
     // Words that no row has are one.
-    let [kind, tag] = [|word: i32| word.clamp(0, 50) as u64, |word: i32| word.clamp(0, 5) as u64];
+    let [kind, tag] = [|word: i32| word.clamp(0, 51) as u64, |word: i32| word.clamp(0, 5) as u64];
     shown.extend(rows.map(|(row, state)| hash([kind(row[0]), tag(state[0]), look, handle + 3000])));
     shown
 }

@@ -39,18 +39,20 @@ fn stand_in(random: &mut Random, row: &mut Row) {
     } else if let Some(alike) = ALIKE.iter().find(|alike| alike.contains(&row.kind)) {
         row.kind = *random.pick(alike).expect("kinds");
     } else {
-        row.kind = random.between(0, 50);
+        row.kind = random.between(0, 51);
     }
 }
 
-/// Another number, truth, content or binder.
+/// Another number, truth, content, binder, role or touches.
 fn constant(random: &mut Random, rows: &mut [Row]) {
-    let places: Vec<usize> = (0..rows.len()).filter(|&at| [10, 21, 22, 23].contains(&rows[at].kind)).collect();
+    let places: Vec<usize> = (0..rows.len()).filter(|&at| [10, 21, 22, 23, 50].contains(&rows[at].kind)).collect();
     let Some(&at) = random.pick(&places) else { return };
     match rows[at].kind {
         10 => rows[at].operands[1] = random.word(),
         21 => rows[at].operands[0] = random.between(0, 1),
         22 => rows[at].operands[0] = random.word(),
+        50 if random.chance(50) => rows[at].operands[0] = random.between(0, 9),
+        50 => rows[at].operands[2] = random.weighed(&[(3, 0), (3, 1), (3, 2), (2, 99), (1, 100), (1, -1)]),
         _ => rows[at].operands[0] = random.between(-1, 16),
     }
 }
@@ -103,11 +105,12 @@ fn join(random: &mut Random, rows: &mut Vec<Row>, other: &[Row]) {
     rows.push(Row::new(random.weighed(&[(3, 46), (2, 47), (3, 48), (2, 43), (2, 44)]), one, last, 0));
 }
 
-/// The last row under a choice beside a fail, or as the right side of a step from a filled or an empty editor.
+/// The last row under a choice beside a fail, as the right side of a step from a filled or an empty editor, or for a role.
 fn wrap(random: &mut Random, rows: &mut Vec<Row>) {
     let inner = rows.len() as i32 - 1;
     let of = (0..rows.len()).find(|&at| (1..=4).contains(&rows[at].kind)).unwrap_or(0) as i32;
-    match random.below(3) {
+    match random.below(5) {
+        3..=4 => rows.push(Row::new(50, random.between(1, 3), inner, random.between(0, 3))),
         0 => rows.extend([Row::new(45, of, 0, 0), Row::new(48, inner, inner + 1, 0)]),
         1 => rows.extend([Row::new(41, of, 0, 0), Row::new(random.between(43, 44), inner + 1, inner, 0)]),
         _ => rows.extend([

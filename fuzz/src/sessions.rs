@@ -1,7 +1,7 @@
 //! Sessions: bytes to count, rows and events and back, and changes of them.
 
 use crate::{blanks, lines};
-use reference::event::{with_four_leaves, ACTION, ENTRY, EVENT, PATH};
+use reference::event::{with_four_leaves, without_role, ACTION, ENTRY, EVENT, PATH, ROLE_COLUMNS};
 use reference::generate::{self, touches};
 use reference::random::Random;
 use reference::rules::Rules;
@@ -83,16 +83,20 @@ fn change_rows(random: &mut Random, input: &mut Vec<u8>, other: &[u8]) {
     *input = [generate::counted(&rows), events.to_vec()].concat();
 }
 
-/// Events in another order, twice, left out, those of another session, or one of four leaves at the end.
+/// Events in another order, twice, left out, those of another session, of another role, or one of four leaves or without a role
+/// at the end.
 fn change_events(random: &mut Random, input: &mut Vec<u8>, other: &[u8]) {
     let (Some((rows, events)), Some((_, others))) = (parts(input), parts(other)) else { return };
-    let old = events.chunks_exact(EVENT).last().map(with_four_leaves).unwrap_or_default();
+    let old = if random.chance(50) { with_four_leaves } else { without_role };
+    let old = events.chunks_exact(EVENT).last().map(old).unwrap_or_default();
+    let other_role = events.chunks_exact(EVENT).last().map(|event| with_drawn_role(random, event)).unwrap_or_default();
     let mut events: Vec<&[u8]> = events.chunks(EVENT).collect();
     let at = random.below(events.len() + 1);
-    match random.below(5) {
+    match random.below(7) {
         0 => events.extend(others.chunks(EVENT)),
         1 => drop(events.drain(at..)),
         2 => events.push(&old),
+        5..=6 => events.push(&other_role),
         3 if at < events.len() => drop(events.remove(at)),
         _ if at < events.len() => {
             let with = random.below(events.len());
@@ -101,6 +105,13 @@ fn change_events(random: &mut Random, input: &mut Vec<u8>, other: &[u8]) {
         _ => {}
     }
     *input = [generate::counted(&rows), events.concat()].concat();
+}
+
+/// The event with another role, or none.
+fn with_drawn_role(random: &mut Random, event: &[u8]) -> Vec<u8> {
+    let mut event = event.to_vec();
+    event[ROLE_COLUMNS].copy_from_slice(format!("{:2}", random.between(0, 9)).as_bytes());
+    event
 }
 
 /// Further events, for what the session shows at its end.
@@ -116,7 +127,7 @@ fn touch(random: &mut Random, input: &mut Vec<u8>) {
     }
     input.truncate(whole);
     for _ in 0..1 + random.below(4) {
-        let event = touches::event(random, &state.look().entries);
+        let event = touches::event(random, &state);
         let _ = state.handle(&event);
         input.extend(event);
     }

@@ -19,7 +19,7 @@ use std::path::PathBuf;
 
 /// The numbers that load, start, look and handle may answer.
 const NUMBERS: [&[u32]; 4] =
-    [&[0, 1, 2, 3, 4, 5, 6, 7, 21], &[0, 20, 21], &[0, 20, 21, 22, 23, 24], &[0, 8, 9, 20, 21, 22, 23]];
+    [&[0, 1, 2, 3, 4, 5, 6, 7, 21], &[0, 20, 21], &[0, 8, 20, 21, 22, 23, 24], &[0, 8, 9, 20, 21, 22, 23, 30, 31]];
 
 pub struct Exports(Archive);
 

@@ -1,7 +1,7 @@
 //! Sessions with blanks (CR 2) in each place: each operand of each kind, kinds not listed, row numbers and
-//! kinds, path, action and each leaf of events; and fields that are nearly blank.
+//! kinds, role, path, action and each leaf of events; and fields that are nearly blank.
 
-use crate::event::{self, leaf_columns, ACTION, LEAF, PATH};
+use crate::event::{self, leaf_columns, ACTION_COLUMNS, LEAF, PATH_COLUMNS, ROLE_COLUMNS};
 use crate::generate::blanks::unused;
 use crate::generate::with_count;
 use crate::limits::LEAVES;
@@ -9,8 +9,8 @@ use crate::sheet::{self, Row, COLUMNS, LINE};
 use crate::value::padded;
 use std::ops::Range;
 
-/// The rows of an accepted sheet that has each of the 27 kinds.
-pub const EVERY_KIND: [Row; 32] = [
+/// The rows of an accepted sheet that has each of the 28 kinds.
+pub const EVERY_KIND: [Row; 33] = [
     Row::new(1, 0, 0, 0),
     Row::new(2, 0, 0, 0),
     Row::new(3, 0, 0, 0),
@@ -46,6 +46,7 @@ pub const EVERY_KIND: [Row; 32] = [
     Row::new(45, 3, 0, 0),
     Row::new(48, 28, 29, 0),
     Row::new(46, 27, 30, 0),
+    Row::new(50, 1, 31, 99),
 ];
 
 /// The inputs, each with its name.
@@ -86,7 +87,7 @@ pub fn each_set_blank(event: &[u8]) -> Vec<Vec<u8>> {
             with[leaf_columns(leaf)].fill(b' ');
         }
         events.push(with.clone());
-        with[..PATH].fill(b' ');
+        with[PATH_COLUMNS].fill(b' ');
         events.push(with);
     }
     events
@@ -114,7 +115,7 @@ fn operands() -> Vec<(String, Vec<u8>)> {
 /// Kinds not listed, or unreadable, in the first and the last line, with each operand blank and with none.
 fn unlisted() -> Vec<(String, Vec<u8>)> {
     let mut inputs = Vec::new();
-    for kind in ["0", "5", "9", "11", "19", "32", "39", "50", "999", "-1", "x", "03", "", "3 "] {
+    for kind in ["0", "5", "9", "11", "19", "32", "39", "51", "999", "-1", "x", "03", "", "3 "] {
         for at in [0, EVERY_KIND.len() - 1] {
             let text = placed(&sheet::write(&EVERY_KIND), at, &COLUMNS[1], kind);
             inputs.push((format!("kind {kind:?} in row {at}"), touched(text.clone())));
@@ -184,7 +185,7 @@ pub fn each_width() -> Vec<(Row, Vec<i32>)> {
 }
 
 /// Editors of each number of leaves, and of each kind of leaf, with each set of leaves blank, at 0 and at
-/// leaves that fit; and with the action blank.
+/// leaves that fit; and with the role blank, and the action.
 fn editors() -> Vec<(String, Vec<u8>)> {
     let (types, fitting): (Vec<Row>, Vec<Vec<i32>>) = each_width().into_iter().unzip();
     let mut inputs = Vec::new();
@@ -194,9 +195,11 @@ fn editors() -> Vec<(String, Vec<u8>)> {
         let leaves = padded(fitting);
         let mut events = each_set_blank(&event::write("", 1, [0; LEAVES]));
         events.extend(each_set_blank(&event::write("", 1, leaves)));
-        let mut blank_action = event::write("", 1, leaves);
-        blank_action[PATH..PATH + ACTION].fill(b' ');
-        events.push(blank_action);
+        for columns in [ROLE_COLUMNS, ACTION_COLUMNS] {
+            let mut blank = event::write("", 1, leaves);
+            blank[columns].fill(b' ');
+            events.push(blank);
+        }
         inputs.push((format!("blank leaves at {fitting:?}"), [with_count(all_blank(&rows)), events.concat()].concat()));
     }
     inputs

@@ -1,10 +1,11 @@
 //! The four calls on lent memory (01, "Grounds in the state"): rows, states and values are words,
-//! 4 and 16 a row and 8; lists and events are bytes. A refusal leaves all lent memory as it was.
+//! 4 and 16 a row and 8; lists and events are bytes, a look's role is a number. A refusal leaves all lent memory as it was.
 
 use crate::event::{Entry, ENTRY};
 use crate::flow::Flow;
 use crate::grounds::Ground;
 use crate::limits::LEAVES;
+use crate::roles::{self, Role};
 use crate::rules::Rules;
 use crate::sheet::{self, Row, LINES};
 use crate::slips::Slip;
@@ -69,13 +70,17 @@ pub fn start(rows: &[i32], state: &mut [i32]) -> (u32, u32) {
     moved(started, state)
 }
 
-/// Shows value, flags and list of a rest. Grounds 20 to 24. An accepted look writes all 8 words of
-/// the value memory, and the list memory up to the bytes that it answers.
-pub fn look(rows: &[i32], state: &[i32], value: &mut [i32], list: &mut [u8]) -> Looked {
+/// Shows value, flags and list of a rest to a role. Grounds 20 to 23, 8, 24. An accepted look writes all 8 words of the
+/// value memory, and the list memory up to the bytes that it answers.
+pub fn look(rows: &[i32], state: &[i32], role: Role, value: &mut [i32], list: &mut [u8]) -> Looked {
     let looked = flow_of(rows).and_then(|flow| {
         exact(state.len(), STATE_ROW * flow.rows.len())?;
         exact(value.len(), LEAVES)?;
-        let look = rest(&flow, state)?.look();
+        let rest = rest(&flow, state)?;
+        if !roles::is_role(role) {
+            return Err(Ground::Event);
+        }
+        let look = rest.look(role);
         let bytes = bytes_of(&look.entries);
         if list.len() < bytes.len() {
             return Err(Ground::List);
@@ -92,7 +97,7 @@ pub fn look(rows: &[i32], state: &[i32], value: &mut [i32], list: &mut [u8]) -> 
     }
 }
 
-/// Handles an event and normalises. Grounds 20 to 23, 8, 9. Gives the number and the strides.
+/// Handles an event and normalises. Grounds 20 to 23, 8, 9, 30, 31. Gives the number and the strides.
 pub fn handle(rows: &[i32], state: &mut [i32], event: &[u8]) -> (u32, u32) {
     let handled = flow_of(rows).and_then(|flow| {
         exact(state.len(), STATE_ROW * flow.rows.len())?;

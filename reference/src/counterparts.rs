@@ -1,11 +1,12 @@
 //! What CR 5 says of bytes: the counterparts of a sheet, an event and a screen where the halves of a last row 46 are
 //! exchanged, and of an event and a screen where three choices under a last row 47 are regrouped.
 
-use crate::event::{ENTRY, LEAF, PATH};
+use crate::event::{ENTRY, LEAF, PATH, PATH_COLUMNS, ROLE};
 use crate::field;
-use crate::session::{HEAD, HEAD_COUNT, HEAD_LEAVES};
+use crate::session::{self, HEAD, HEAD_COUNT, HEAD_LEAVES};
 use crate::sheet::{COLUMNS, LINE};
 use crate::slips::Slip;
+use crate::state::Look;
 
 /// How CR 5 is read: as it is meant, or in a wrong way, which a comparison must find out.
 #[derive(Clone, Copy, Debug, Default, PartialEq, Eq)]
@@ -55,12 +56,12 @@ pub fn mirrored_sheet(text: &[u8]) -> Vec<u8> {
     text
 }
 
-/// The event with its first mark exchanged. Whatever else stands in it stays.
+/// The event with its first mark exchanged. Whatever else stands in it stays, its role too.
 pub fn mirrored_event(event: &[u8], reading: Reading) -> Vec<u8> {
     let mut event = event.to_vec();
-    let columns = event.len().min(PATH);
-    if reading != Reading::TouchesInPlace {
-        exchange_marks(&mut event[..columns], reading);
+    let columns = event.len().min(PATH_COLUMNS.end);
+    if let Some(path) = event[..columns].get_mut(ROLE..).filter(|_| reading != Reading::TouchesInPlace) {
+        exchange_marks(path, reading);
     }
     event
 }
@@ -102,8 +103,14 @@ pub fn rotated_back(path: &[u8]) -> Option<Vec<u8>> {
     (rotated.len() <= PATH).then_some(rotated)
 }
 
-/// The event or entry with the path of its counterpart: where no choice is made and these columns are a path, the rotated
-/// one. None where there is none.
+/// The event with the path of its counterpart, and its own role.
+pub fn regrouped_event(event: &[u8], made: bool, reading: Reading) -> Option<Vec<u8>> {
+    let (role, rest) = event.split_at(event.len().min(ROLE));
+    Some([role, &regrouped(rest, made, reading)?].concat())
+}
+
+/// The entry, or what stands behind an event's role, with the path of its counterpart: where no choice is made and these
+/// columns are a path, the rotated one. None where there is none.
 pub fn regrouped(bytes: &[u8], made: bool, reading: Reading) -> Option<Vec<u8>> {
     let stays = match reading {
         Reading::NeverRotated => true,
@@ -127,6 +134,13 @@ pub struct Screen {
 }
 
 impl Screen {
+    /// What is printed for a look, with answer and strides 0.
+    pub fn of(look: &Look) -> Screen {
+        let mut bytes = Vec::new();
+        session::print(&mut bytes, Ok(0), look, Slip::None).expect("memory is written");
+        Screen::all(&bytes).and_then(|mut screens| screens.pop()).expect("a whole screen")
+    }
+
     /// The screens in these bytes; none where one is not whole.
     pub fn all(mut bytes: &[u8]) -> Option<Vec<Screen>> {
         let mut screens = Vec::new();
@@ -185,11 +199,12 @@ impl Screen {
         Some(Screen { head: self.head.clone(), entries })
     }
 
-    /// Whether this is the screen of the same state as `before`, after a touch that was refused.
-    pub fn refuses(&self, before: &Screen) -> bool {
+    /// Whether this is the screen of the same state as `before`, after a touch that was refused; the list is the same where
+    /// it is that of the same role.
+    pub fn refuses(&self, before: &Screen, same_role: bool) -> bool {
         matches!(self.number(), Some(8 | 9))
             && self.head[4..8] == *b"   0"
-            && self.head[8..] == before.head[8..]
-            && self.entries == before.entries
+            && self.head[8..HEAD_COUNT.start] == before.head[8..HEAD_COUNT.start]
+            && (!same_role || self.entries == before.entries)
     }
 }

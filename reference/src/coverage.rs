@@ -1,12 +1,14 @@
 //! What cases cover: counts over kinds, operators, grounds, strides, lists, events, rows, blanks, numbers beyond the
-//! range, leaves.
+//! range, leaves, and [roles](crate::role_coverage).
 
 use crate::binders::Binders;
-use crate::event::{leaf_columns, Action, Entry, Event, EVENT, PATH};
+use crate::event::{leaf_columns, Action, Entry, Event, EVENT, PATH_COLUMNS};
 use crate::field;
 use crate::flow::Flow;
 use crate::grounds::Ground;
 use crate::limits::{self, LEAVES};
+use crate::role_coverage::RoleCoverage;
+use crate::roles::{self, Role, Who};
 use crate::rules::Rules;
 use crate::session::{self, COUNT};
 use crate::sheet::{COLUMNS, LINE};
@@ -73,7 +75,7 @@ pub struct Coverage {
     /// Strides of start and of accepted events.
     pub strides: Tally,
     /// Entries, failing flags and value flags of the screens, and the failing flags of the quiet
-    /// ones, which have no entry (CR 1).
+    /// ones, which have no entry for anyone (CR 1).
     pub entries: Tally,
     pub failing: Tally,
     pub values: Tally,
@@ -93,6 +95,8 @@ pub struct Coverage {
     pub editors: Tally,
     pub shown: Tally,
     pub given: Tally,
+    /// Roles and touches (CR 6).
+    pub roles: RoleCoverage,
 }
 
 /// The numbers of leaves that a session comes to, as in [`Coverage::editors`] and [`Coverage::shown`].
@@ -128,11 +132,13 @@ impl Coverage {
         let (mut state, strides) = State::start(&flow);
         self.strides.add(strides);
         let (mut places, mut widths) = (BTreeSet::new(), Widths::default());
-        let mut entries = self.add_screen(&state, &mut widths);
+        let mut entries = self.add_screen(&state, roles::FIRST, &mut widths);
         add_overflows(&state, &mut places);
         for event in input.chunks(EVENT) {
+            let before = state.clone();
             let handled = state.handle(event);
             self.add_event(event, answer(handled.as_ref().err()));
+            self.roles.add_event(&before, event, answer(handled.as_ref().err()));
             if let (Ok(strides), Some(event)) = (handled, Event::read(event, Slip::None)) {
                 self.strides.add(strides);
                 self.actions.add(event.action.number() as usize);
@@ -140,7 +146,7 @@ impl Coverage {
                 let touched = entries.iter().find(|entry| entry.path == event.path && entry.action == event.action);
                 touched.and_then(editor_leaves).into_iter().for_each(|leaves| self.given.add(leaves));
             }
-            entries = self.add_screen(&state, &mut widths);
+            entries = self.add_screen(&state, session::role_after(event, Slip::None), &mut widths);
             add_overflows(&state, &mut places);
         }
         places.into_iter().for_each(|place| self.overflows.add(place));
@@ -154,12 +160,13 @@ impl Coverage {
         if (0..LEAVES).any(|leaf| is_blank(leaf_columns(leaf))) {
             self.blank_leaves.add(answer);
         }
-        if is_blank(0..PATH) {
+        if is_blank(PATH_COLUMNS) {
             self.blank_paths.add(answer);
         }
     }
 
     fn add_flow(&mut self, flow: &Flow) {
+        self.roles.add_rows(&flow.rows);
         self.rows.add(flow.rows.len());
         for row in &flow.rows {
             self.kinds.add(row.kind as usize);
@@ -173,18 +180,19 @@ impl Coverage {
         self.leaves.add(flow.own_type.leaves());
     }
 
-    /// Gives the entries of the screen.
-    fn add_screen(&mut self, state: &State, widths: &mut Widths) -> Vec<Entry> {
-        let look = state.look();
+    /// Adds the screen that this role sees. Gives the entries of anyone's.
+    fn add_screen(&mut self, state: &State, role: Role, widths: &mut Widths) -> Vec<Entry> {
+        self.roles.add_screen(state, role);
+        let (look, entries) = (state.look(role), state.entries(Who::Anyone));
         self.entries.add(look.entries.len());
         self.failing.add(look.failing.into());
         self.values.add(look.value.is_some().into());
-        if look.entries.is_empty() {
+        if entries.is_empty() {
             self.quiet.add(look.failing.into());
         }
         widths.editors.extend(look.entries.iter().filter_map(editor_leaves));
         widths.shown.extend(look.value.map(|value| value.type_of().leaves()));
-        look.entries
+        entries
     }
 }
 
@@ -221,6 +229,7 @@ fn add_tried(env: &Env, store: &Store, task: &Task, places: &mut BTreeSet<usize>
                 places.insert(48);
             }
         }
+        Task::Gate(_, _, task) => add_tried(env, store, task, places),
         Task::Became(origin, task) => add_tried(&origin.within(env), store, task, places),
         Task::Filled(_) | Task::Empty(_) | Task::Shared(_) | Task::Fail | Task::View(_) => {}
     }
@@ -268,6 +277,6 @@ impl fmt::Display for Coverage {
         for (name, tally) in tallies {
             writeln!(out, "{name} ({}):{tally}", tally.total())?;
         }
-        Ok(())
+        write!(out, "{}", self.roles)
     }
 }

@@ -1,12 +1,13 @@
 //! Sessions at the edges: 01's own (lines, binders, a field too large, an empty text), and those of
 //! row counts, events cut short, marks, depth, shown values, [blanks](crate::blank_edges), [numbers beyond the
-//! range](crate::overflow_edges) and [leaves](crate::leaf_edges).
+//! range](crate::overflow_edges), [leaves](crate::leaf_edges) and [roles](crate::role_edges).
 
 use crate::blank_edges;
 use crate::event;
 use crate::generate::counted;
 use crate::leaf_edges;
 use crate::overflow_edges;
+use crate::role_edges;
 use crate::sheet::{Row, LINES};
 use crate::value::padded;
 
@@ -52,6 +53,7 @@ pub fn inputs() -> Vec<(String, Vec<u8>)> {
     inputs.extend(blank_edges::inputs());
     inputs.extend(overflow_edges::inputs());
     inputs.extend(leaf_edges::inputs());
+    inputs.extend(role_edges::inputs());
     for levels in [1, 2, 16, 64, 126] {
         inputs.push((format!("{levels} choices deep"), with(&picks(levels), &vec![press(3); levels])));
     }
@@ -168,7 +170,7 @@ const SHOWN: [(&str, &[[i32; 4]]); 11] = [
     ("49 with a B", &[FIVE, [49, 0, 1, 0]]),
     ("49 with a C", &[FIVE, [49, 0, 0, 1]]),
     ("49 of a task", &[FIVE, [40, 0, 0, 0], [49, 1, 0, 0]]),
-    ("kind 50", &[FIVE, [50, 0, 0, 0]]),
+    ("kind 51", &[FIVE, [51, 0, 0, 0]]),
 ];
 
 /// The largest and the least number, and one past each.

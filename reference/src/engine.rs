@@ -2,6 +2,7 @@
 
 use crate::calls::{self, Looked};
 use crate::lent::Lent;
+use crate::roles::Role;
 
 /// The four calls on lent memory.
 pub trait Engine {
@@ -9,7 +10,7 @@ pub trait Engine {
     fn load(&self, text: &[u8], rows: &mut [i32]) -> u32;
     /// Gives the number and the strides.
     fn start(&self, rows: &[i32], state: &mut [i32]) -> (u32, u32);
-    fn look(&self, rows: &[i32], state: &[i32], value: &mut [i32], list: &mut [u8]) -> Looked;
+    fn look(&self, rows: &[i32], state: &[i32], role: Role, value: &mut [i32], list: &mut [u8]) -> Looked;
     /// Gives the number and the strides.
     fn handle(&self, rows: &[i32], state: &mut [i32], event: &[u8]) -> (u32, u32);
 }
@@ -27,8 +28,8 @@ impl Engine for Reference {
         calls::start(rows, state)
     }
 
-    fn look(&self, rows: &[i32], state: &[i32], value: &mut [i32], list: &mut [u8]) -> Looked {
-        calls::look(rows, state, value, list)
+    fn look(&self, rows: &[i32], state: &[i32], role: Role, value: &mut [i32], list: &mut [u8]) -> Looked {
+        calls::look(rows, state, role, value, list)
     }
 
     fn handle(&self, rows: &[i32], state: &mut [i32], event: &[u8]) -> (u32, u32) {
@@ -58,7 +59,7 @@ impl Answers {
         Answers {
             load: engine.load(&lent.text, &mut loaded),
             start: engine.start(&lent.rows, &mut started),
-            look: engine.look(&lent.rows, &lent.state, &mut value, &mut list),
+            look: engine.look(&lent.rows, &lent.state, lent.role, &mut value, &mut list),
             handle: engine.handle(&lent.rows, &mut handled, &lent.event),
             loaded,
             started,

@@ -130,6 +130,7 @@ impl Rules {
                 Task::Pick(left, right)
             }
             Code::View(content) => Task::View(self.plain(env, store, content)?),
+            Code::Gate(gate, task) => Task::Gate(*gate, gate.touches, self.part(env, store, task)?),
             Code::Condition(condition, then, otherwise) => {
                 let (side, code) = match self.plain(env, store, condition)?.truth() {
                     true => (Side::Left, then),

@@ -1,23 +1,33 @@
-//! Events and list entries as bytes (01, "Touches and what is shown").
+//! Events and list entries as bytes (01, "Touches and what is shown"; CR 6 for the role in front of an event).
 
 use crate::field::{self, Field};
 use crate::limits::{LEAVES, LEAVES_BEFORE};
+use crate::roles::{self, Role};
 use crate::slips::Slip;
 use crate::value::{Given, Leaves};
 use std::io::{self, Write};
 use std::ops::Range;
 
-/// Bytes an event and an entry of the list, and columns of a path, an action, a leaf and a leaf kind.
+/// Bytes an event and an entry of the list, and columns of a role, a path, an action, a leaf and a leaf kind.
 pub const EVENT: usize = event_bytes(LEAVES);
 pub const ENTRY: usize = entry_bytes(LEAVES);
+pub const ROLE: usize = 2;
 pub const PATH: usize = 16;
 pub const ACTION: usize = 2;
 pub const LEAF: usize = 12;
 pub const KIND: usize = 2;
 
+/// Where an event has its role, its path and its action; an entry has its path in front.
+pub const ROLE_COLUMNS: Range<usize> = 0..ROLE;
+pub const PATH_COLUMNS: Range<usize> = ROLE..ROLE + PATH;
+pub const ACTION_COLUMNS: Range<usize> = ROLE + PATH..ROLE + PATH + ACTION;
+
+/// Bytes an event before CR 6: the same without a role.
+pub const EVENT_BEFORE: usize = EVENT - ROLE;
+
 /// The bytes of an event of so many leaves.
 pub const fn event_bytes(leaves: usize) -> usize {
-    PATH + ACTION + leaves * LEAF + 1
+    ROLE + PATH + ACTION + leaves * LEAF + 1
 }
 
 /// The bytes of an entry of so many leaf kinds.
@@ -25,9 +35,9 @@ pub const fn entry_bytes(leaves: usize) -> usize {
     PATH + ACTION + leaves * KIND + 1
 }
 
-/// The columns of leaf `at`.
+/// The columns of leaf `at` of an event.
 pub fn leaf_columns(at: usize) -> Range<usize> {
-    let from = PATH + ACTION + LEAF * at;
+    let from = ACTION_COLUMNS.end + LEAF * at;
     from..from + LEAF
 }
 
@@ -55,6 +65,7 @@ impl Action {
 /// are two leaves (CR 2).
 #[derive(Clone, Copy, Debug, PartialEq, Eq)]
 pub struct Event<'e> {
+    pub role: Role,
     pub path: &'e [u8],
     pub action: Action,
     pub leaves: Given,
@@ -63,13 +74,15 @@ pub struct Event<'e> {
 impl<'e> Event<'e> {
     /// The event in these bytes; none where ground 8 holds.
     pub fn read(bytes: &'e [u8], slip: Slip) -> Option<Self> {
-        let (last, fields) = bytes.split_last()?;
-        let count = leaves_in(bytes.len(), slip)?;
+        let (role, rest) = split_role(bytes, slip)?;
+        let (last, fields) = rest.split_last()?;
+        let count = leaves_in(ROLE + rest.len(), slip)?;
         if *last != b'\n' && slip != Slip::EventByteTenUnread {
             return None;
         }
-        let path = read_path(&fields[..PATH], slip)?;
-        let action = read_action(&fields[PATH..PATH + ACTION], slip)?;
+        let (path, fields) = fields.split_at(PATH);
+        let (action, fields) = fields.split_at(ACTION);
+        let (path, action) = (read_path(path, slip)?, read_action(action, slip)?);
         let leaves = read_leaves(fields, count, slip)?;
         // A leaf not 0 at actions 2 to 4; a blank is none.
         let given = |leaf: &Option<i32>| match leaf {
@@ -78,32 +91,51 @@ impl<'e> Event<'e> {
         };
         let unused = action != Action::Value && leaves.iter().any(given);
         match slip {
-            Slip::LeafAtContinueIgnored => Some(Event { path, action, leaves }),
+            Slip::LeafAtContinueIgnored => Some(Event { role, path, action, leaves }),
             // Read as a value, which nothing takes at a path that long.
             Slip::LeafAtContinueIsNine if unused => {
-                Some(Event { path: &[b'1'; PATH + 2], action: Action::Value, leaves })
+                Some(Event { role, path: &[b'1'; PATH + 2], action: Action::Value, leaves })
             }
-            _ => (!unused).then_some(Event { path, action, leaves }),
+            _ => (!unused).then_some(Event { role, path, action, leaves }),
         }
+    }
+}
+
+/// The role, where it can be read, and what stands behind it.
+fn split_role(bytes: &[u8], slip: Slip) -> Option<(Role, &[u8])> {
+    let without = matches!(slip, Slip::EventsWithoutRole | Slip::EventWithoutRoleRead);
+    if without && bytes.len() == EVENT_BEFORE {
+        return Some((roles::FIRST, bytes));
+    }
+    let (role, rest) = bytes.split_at_checked(ROLE)?;
+    Some((read_role(role, slip)?, rest))
+}
+
+/// The role in these columns: a number from 1 to 8.
+pub fn read_role(field: &[u8], slip: Slip) -> Option<Role> {
+    match field::read(field, slip) {
+        Field::Number(number) => roles::role_of(number, slip),
+        Field::Blank => (slip == Slip::BlankRoleIsOne).then_some(roles::FIRST),
+        Field::Unreadable => None,
     }
 }
 
 /// How many leaves an event of so many bytes has; none where no event has that length.
 fn leaves_in(bytes: usize, slip: Slip) -> Option<usize> {
     match slip {
-        Slip::EventsOf67 => (bytes == event_bytes(LEAVES_BEFORE)).then_some(LEAVES_BEFORE),
-        Slip::EventOf67Read if bytes == event_bytes(LEAVES_BEFORE) => Some(LEAVES_BEFORE),
+        Slip::EventsOfFourLeaves => (bytes == event_bytes(LEAVES_BEFORE)).then_some(LEAVES_BEFORE),
+        Slip::EventOfFourLeavesRead if bytes == event_bytes(LEAVES_BEFORE) => Some(LEAVES_BEFORE),
         _ => (bytes == EVENT).then_some(LEAVES),
     }
 }
 
-/// The first `count` leaves, each a number or blank; none where one is neither. Those after them, which a slip leaves
-/// unread, are 0.
+/// The first `count` leaves in these columns, each a number or blank; none where one is neither. Those after them, which a
+/// slip leaves unread, are 0.
 fn read_leaves(fields: &[u8], count: usize, slip: Slip) -> Option<Given> {
     let mut leaves = [Some(0); LEAVES];
     let read = if slip == Slip::LastLeafUnread { LEAVES - 1 } else { count };
-    for (at, leaf) in leaves.iter_mut().enumerate().take(read) {
-        *leaf = match field::read(&fields[leaf_columns(at)], slip) {
+    for (leaf, field) in leaves.iter_mut().zip(fields.chunks_exact(LEAF)).take(read) {
+        *leaf = match field::read(field, slip) {
             Field::Number(number) => Some(number),
             Field::Blank if slip != Slip::BlankLeafIsEight => None,
             Field::Blank | Field::Unreadable => return None,
@@ -160,14 +192,26 @@ impl Entry {
     }
 }
 
-/// The bytes of an event; path and action may be any text and number.
+/// The bytes of an event of role 1; path and action may be any text and number.
 pub fn write(path: &str, action: i32, leaves: Leaves) -> Vec<u8> {
     let path = if path.is_empty() { "0" } else { path };
     let leaves = leaves.map(|leaf| format!("{leaf:>LEAF$}")).concat();
-    format!("{path:>PATH$}{action:>ACTION$}{leaves}\n").into_bytes()
+    format!("{:>ROLE$}{path:>PATH$}{action:>ACTION$}{leaves}\n", roles::FIRST).into_bytes()
 }
 
-/// The event with its first four leaves alone, as events were before CR 4: 67 bytes, or all that there are.
+/// The same event with this text for its role.
+pub fn with_role(role: &str, mut event: Vec<u8>) -> Vec<u8> {
+    event[ROLE_COLUMNS].copy_from_slice(format!("{role:>ROLE$}").as_bytes());
+    event
+}
+
+/// The event without its role, as events were before CR 6: 115 bytes, or all that there are.
+pub fn without_role(event: &[u8]) -> Vec<u8> {
+    event[event.len().min(ROLE)..].to_vec()
+}
+
+/// The event with its first four leaves alone: 69 bytes, or all that there are. Without its role it is what an event was
+/// before CR 4.
 pub fn with_four_leaves(event: &[u8]) -> Vec<u8> {
     let columns = event.len().min(event_bytes(LEAVES_BEFORE) - 1);
     [&event[..columns], b"\n"].concat()

@@ -1,13 +1,13 @@
 //! The grounds on which a call is refused (01, "Grounds in the input" and "Grounds in the state").
 
-/// A ground, with its number in 01. Grounds 20 to 24 speak of lent memory ([`crate::calls`]).
+/// A ground, with its number in 01 and CR 6. Grounds 20 to 24 speak of lent memory ([`crate::calls`]).
 #[derive(Clone, Copy, Debug, PartialEq, Eq, PartialOrd, Ord)]
 pub enum Ground {
     /// 1: sheet length not 45 times 1 to 256, or a row count unreadable or not met.
     Length = 1,
     /// 2: a field or byte 10 unreadable, or a wrong row number.
     Unreadable = 2,
-    /// 3: a kind, operator, truth or unused operand not as listed.
+    /// 3: a kind, operator, truth, role, number of touches or unused operand not as listed.
     NotListed = 3,
     /// 4: an operand not a lower row, or not of the sort asked.
     Sort = 4,
@@ -17,7 +17,7 @@ pub enum Ground {
     Limit = 6,
     /// 7: no typing for the last row as a task.
     Typing = 7,
-    /// 8: an event that cannot be read.
+    /// 8: an event that cannot be read, or a look in no role.
     Event = 8,
     /// 9: no handling rule derives a step.
     Handling = 9,
@@ -31,6 +31,10 @@ pub enum Ground {
     NoRest = 23,
     /// 24: list memory under 35 bytes an entry.
     List = 24,
+    /// 30: a rule derives a step, but a row of kind 50 that the event passes is another role's.
+    Role = 30,
+    /// 31: the same, and all of them are this role's, but one has no touch left.
+    Touches = 31,
 }
 
 impl Ground {

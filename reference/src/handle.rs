@@ -1,19 +1,27 @@
-//! Handling an event (01, "The rules"; the paper's rules H-).
+//! Handling an event (01, "The rules"; the paper's rules H-; CR 6 for rows of kind 50).
 
 use crate::evaluate::Whole;
 use crate::event::{Action, Event};
-use crate::observe::Attempt;
+use crate::roles::{Gate, Passed};
 use crate::rules::Rules;
 use crate::slips::Slip;
 use crate::syntax::{Code, Going};
 use crate::task::{Env, Origin, Side, Store, Task};
 use crate::value::Value;
 
+/// What a rule derives beside task and store.
+#[derive(Clone, Debug, Default, PartialEq, Eq)]
+pub struct Derived {
+    /// The strides inside the rule, which 01 does not count.
+    pub strides: usize,
+    /// The rows of kind 50 from here to the row that takes the event, the outermost first.
+    pub passed: Vec<Passed>,
+}
+
 impl Rules {
-    /// Handles the event, before normalising: task and store change only where a rule derives a
-    /// step. Gives the strides inside the rule, which 01 does not count; none where no rule
-    /// derives a step.
-    pub fn handle(&self, env: &Env, store: &mut Store, task: &mut Task, event: Event) -> Option<usize> {
+    /// Handles the event, before normalising, roles and touches aside: task and store change only where a rule derives a
+    /// step. Each row of kind 50 that the event passes then has one touch less, if it had one.
+    pub fn handle(&self, env: &Env, store: &mut Store, task: &mut Task, event: Event) -> Option<Derived> {
         let at_end = event.path.is_empty();
         match task {
             Task::Filled(_) | Task::Empty(_) | Task::Shared(_) => {
@@ -24,8 +32,10 @@ impl Rules {
             Task::Step(going, left, right) => {
                 if at_end && event.action == Action::Continue && *going == Going::AtContinue {
                     if let Some(taken) = self.go_on(env, store, left, right) {
+                        let asked = self.slip == Slip::ContinueAsksA;
+                        let passed = if asked { gates_in_front(left) } else { Vec::new() };
                         *task = taken;
-                        return Some(0);
+                        return Some(Derived { strides: 0, passed });
                     }
                     if self.slip == Slip::ContinueNotPassed {
                         return None;
@@ -44,19 +54,17 @@ impl Rules {
                     _ => return None,
                 };
                 let here = at_end || self.slip == Slip::DigitsLeftOver;
-                let picked = here.then(|| self.pick(env, store, code))??;
-                if self.slip != Slip::LeftDropsStore {
-                    *store = picked.store;
-                }
-                *task = Task::Became(Origin::Picked(side), Box::new(picked.task));
-                Some(picked.strides)
+                let (picked, strides) = here.then(|| self.pick(env, store, code))??;
+                *task = Task::Became(Origin::Picked(side), Box::new(picked));
+                Some(Derived { strides, passed: Vec::new() })
             }
             Task::View(content) if self.slip == Slip::ViewTakesValue && at_end && event.action == Action::Value => {
                 *content = Value::of_leaves(&content.type_of(), &event.leaves, self.slip)?;
-                Some(0)
+                Some(Derived::default())
             }
             // CR 1: a shown value takes no event.
             Task::Fail | Task::View(_) => None,
+            Task::Gate(gate, left, task) => self.pass(env, store, (*gate, left), task, event),
             Task::Became(origin, task) => {
                 let mut path = event.path;
                 if let (Origin::Chosen(side), Slip::ChosenKeepsMark) = (&*origin, self.slip) {
@@ -67,8 +75,35 @@ impl Rules {
         }
     }
 
+    /// 50 passes events on, and has one touch less where its task takes one. Where it has none left it keeps none: the step
+    /// is derived all the same, and refused by the verdict.
+    fn pass(
+        &self,
+        env: &Env,
+        store: &mut Store,
+        (gate, left): (Gate, &mut i32),
+        task: &mut Task,
+        event: Event,
+    ) -> Option<Derived> {
+        let before = (self.slip == Slip::OutermostTouchUsed).then(|| task.clone());
+        let mut derived = self.handle(env, store, task, event)?;
+        if let Some(before) = before {
+            task.take_touches(&before);
+        }
+        let uses = match self.slip {
+            Slip::NoTouchUsed => false,
+            Slip::InnermostTouchUsed => derived.passed.is_empty(),
+            _ => true,
+        };
+        derived.passed.insert(0, Passed { role: gate.role, left: *left });
+        if uses && *left > 0 {
+            *left -= 1;
+        }
+        Some(derived)
+    }
+
     /// An editor takes a value of its type: 41 becomes filled, 42 writes its cell.
-    fn edit(&self, store: &mut Store, task: &mut Task, event: Event) -> Option<usize> {
+    fn edit(&self, store: &mut Store, task: &mut Task, event: Event) -> Option<Derived> {
         let of = match task {
             Task::Filled(content) => &content.type_of(),
             Task::Empty(of) => *of,
@@ -83,7 +118,7 @@ impl Rules {
             Task::Shared(cell) if self.slip != Slip::SharedBecomesFilled => store.write(*cell, content),
             _ => *task = Task::Filled(content),
         }
-        Some(0)
+        Some(Derived::default())
     }
 
     /// 44 takes Continue if A has a value and B evaluated under it does not fail. B is evaluated
@@ -106,13 +141,20 @@ impl Rules {
         Some(Task::Became(Origin::Taken(value), Box::new(tried.task)))
     }
 
-    /// 48 takes Left or Right if that branch, normalised, does not fail.
-    fn pick<'c>(&self, env: &Env, store: &Store, code: &'c Code) -> Option<Attempt<'c>> {
+    /// 48 takes Left or Right if that branch, normalised, does not fail. Gives the branch and its strides.
+    fn pick<'c>(&self, env: &Env, store: &mut Store, code: &'c Code) -> Option<(Task<'c>, usize)> {
         let mut picked = self.branch(env, store, code);
         if self.slip == Slip::LeftEvaluates {
             Whole { task: picked.task, store: picked.store, .. } = self.whole(env, store, code);
         }
-        (!picked.fails || self.slip == Slip::LeftTakenThoughFailing).then_some(picked)
+        if let (Slip::PickUsesTouch, Task::Gate(_, touches @ 1.., _)) = (self.slip, &mut picked.task) {
+            *touches -= 1;
+        }
+        (!picked.fails || self.slip == Slip::LeftTakenThoughFailing).then_some(())?;
+        if self.slip != Slip::LeftDropsStore {
+            *store = picked.store;
+        }
+        Some((picked.task, picked.strides))
     }
 
     /// 46 and 47 take mark 1 or 2 and pass the rest of the path on.
@@ -128,6 +170,18 @@ impl Rules {
         let (digit, rest) = path.split_first()?;
         let first = (*digit == b'1') != (self.slip == Slip::MarksExchangedInHandling);
         Some((if first { left } else { right }, rest))
+    }
+}
+
+/// The rows of kind 50 that an event at the empty path comes to first: what a slip asks at Continue.
+fn gates_in_front(task: &Task) -> Vec<Passed> {
+    match task {
+        Task::Gate(gate, left, task) => {
+            let own = Passed { role: gate.role, left: *left };
+            [vec![own], gates_in_front(task)].concat()
+        }
+        Task::Step(_, task, _) | Task::Became(_, task) => gates_in_front(task),
+        _ => Vec::new(),
     }
 }
 

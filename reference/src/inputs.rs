@@ -3,34 +3,43 @@
 use crate::event::{Action, Entry};
 use crate::handle::mark;
 use crate::limits::LEAVES;
+use crate::roles::Who;
 use crate::rules::Rules;
 use crate::slips::Slip;
 use crate::syntax::{Code, Going, Type};
 use crate::task::{Env, Origin, Side, Store, Task};
-use crate::value::leaf_kinds;
+use crate::value::{leaf_kinds, Leaves};
 
-/// The list being written, and the path to the task at hand.
-#[derive(Default)]
+/// The list being written, for whom, and the path to the task at hand.
 struct List {
+    who: Who,
     path: Vec<u8>,
+    /// Whether what stands here is not to be listed.
+    hidden: bool,
     entries: Vec<Entry>,
 }
 
 impl List {
     fn editor(&mut self, of: &Type) {
-        self.entries.push(Entry { path: self.path.clone(), action: Action::Value, kinds: leaf_kinds(of) });
+        self.add(Action::Value, leaf_kinds(of));
     }
 
     fn action(&mut self, action: Action) {
-        self.entries.push(Entry { path: self.path.clone(), action, kinds: [0; LEAVES] });
+        self.add(action, [0; LEAVES]);
+    }
+
+    fn add(&mut self, action: Action, kinds: Leaves) {
+        if !self.hidden {
+            self.entries.push(Entry { path: self.path.clone(), action, kinds });
+        }
     }
 }
 
 impl Rules {
-    /// The entries of a task at rest, in order: A before B, A's entries before Continue, Left
-    /// before Right.
-    pub fn inputs(&self, env: &Env, store: &Store, task: &Task) -> Vec<Entry> {
-        let mut list = List::default();
+    /// The entries of a task at rest that this role may touch now, or anyone, in order: A before B, A's entries before
+    /// Continue, Left before Right.
+    pub fn inputs(&self, env: &Env, store: &Store, task: &Task, who: Who) -> Vec<Entry> {
+        let mut list = List { who, path: Vec::new(), hidden: false, entries: Vec::new() };
         self.list(env, store, task, &mut list);
         list.entries
     }
@@ -73,6 +82,10 @@ impl Rules {
                     }
                 }
             }
+            Task::Gate(gate, left, task) => {
+                let lists = self.lists(list.who, *gate, *left);
+                self.list_behind(env, store, task, lists, list);
+            }
             Task::Became(origin, task) => {
                 let env = origin.within(env);
                 match origin {
@@ -83,6 +96,17 @@ impl Rules {
                 }
             }
         }
+    }
+
+    /// The entries of the task of a row of kind 50, where it lists them; else none.
+    fn list_behind(&self, env: &Env, store: &Store, task: &Task, lists: bool, list: &mut List) {
+        let (outside, innermost) = (list.hidden, self.slip == Slip::InnermostGateLists);
+        list.hidden = !lists || (outside && !innermost);
+        // What is hidden need not be asked for.
+        if !list.hidden || innermost {
+            self.list(env, store, task, list);
+        }
+        list.hidden = outside;
     }
 
     /// The entries of a part, with its mark in front of what follows.

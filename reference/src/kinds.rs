@@ -27,6 +27,9 @@ pub enum Operand {
     Row(Sort),
     /// A plain row or a task row.
     Expression,
+    /// A role and a number of touches (CR 6): no rows.
+    Role,
+    Touches,
 }
 
 impl Operand {
@@ -36,7 +39,7 @@ impl Operand {
     }
 }
 
-use Operand::{BasicType, Content, Expression, Number, Operator, Outward, Truth, Unused};
+use Operand::{BasicType, Content, Expression, Number, Operator, Outward, Role, Touches, Truth, Unused};
 
 const TYPE: Operand = Operand::Row(Sort::Type);
 const CELL: Operand = Operand::Row(Sort::Cell);
@@ -65,6 +68,8 @@ pub fn operands(kind: i32) -> Option<[Operand; 3]> {
         41 | 45 => [TYPE, Unused, Unused],
         42 => [CELL, Unused, Unused],
         43 | 44 | 46..=48 => [TASK, TASK, Unused],
+        // 50, a task for a role, is CR 6's.
+        50 => [Role, TASK, Touches],
         _ => return None,
     })
 }

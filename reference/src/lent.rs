@@ -5,11 +5,12 @@
 //! in most inputs nothing or one thing, in some several, so that the order of the grounds shows.
 
 use crate::calls::{self, ROW};
-use crate::event::{entry_bytes, with_four_leaves, Event, ENTRY, EVENT};
+use crate::event::{entry_bytes, with_four_leaves, without_role, Event, ENTRY, EVENT};
 use crate::flow::Flow;
-use crate::generate::{self, blanks, faults, layout, states, touches};
+use crate::generate::{self, blanks, faults, gates, layout, states, touches};
 use crate::limits::{LEAVES, LEAVES_BEFORE};
 use crate::random::Random;
+use crate::roles::Role;
 use crate::rules::Rules;
 use crate::session::COUNT;
 use crate::sheet::{Row, LINE, LINES};
@@ -18,13 +19,14 @@ use crate::state::State;
 use crate::words::{self, STATE_ROW};
 
 /// What is lent: `text` and `room`, the rows memory, to load; `rows` and `state` to start; these,
-/// `value` and `list` to look; `rows`, `state` and `event` to handle.
+/// `role`, `value` and `list` to look; `rows`, `state` and `event` to handle.
 #[derive(Clone, Debug, PartialEq, Eq)]
 pub struct Lent {
     pub text: Vec<u8>,
     pub room: Vec<i32>,
     pub rows: Vec<i32>,
     pub state: Vec<i32>,
+    pub role: Role,
     pub value: Vec<i32>,
     pub list: Vec<u8>,
     pub event: Vec<u8>,
@@ -38,16 +40,18 @@ pub fn inputs(seed: u64, count: u64) -> impl Iterator<Item = Lent> {
 fn input(random: &mut Random) -> Lent {
     let flow = Flow::of_rows(generate::accepted(random), Rules::default()).expect("accepted");
     let state = some_state(random, &flow);
-    let entries = state.look().entries;
+    let role = some_role(random);
+    let entries = state.look(role).entries;
     let text = if random.chance(60) { blanks::sheet(random, &flow.rows) } else { faulty_text(random) };
     let mut lent = Lent {
         room: drawn(random, text.len() / LINE * ROW),
         text,
         rows: calls::words_of_rows(&flow.rows),
         state: words::write(&flow, &state),
+        role,
         value: drawn(random, LEAVES),
         list: list(random, flow.rows.len(), entries.len()),
-        event: touches::event(random, &entries),
+        event: touches::event(random, &state),
     };
     // How many of 100 memories are broken; a state, which has the most ways to be, more often.
     let (percent, of_states) = random.weighed(&[(8, (0, 0)), (8, (12, 40)), (4, (50, 60))]);
@@ -87,6 +91,15 @@ fn faulty_text(random: &mut Random) -> Vec<u8> {
     input
 }
 
+/// A role to look in, mostly one that rows of kind 50 are for; now and then none.
+pub fn some_role(random: &mut Random) -> Role {
+    match random.below(20) {
+        0 => *random.pick(&[0, 9, 10, 257, 1 << 31, Role::MAX]).expect("numbers"),
+        1..=2 => random.between(1, 8) as Role,
+        _ => *random.pick(&gates::ROLES).expect("roles"),
+    }
+}
+
 /// A list memory for so many entries: exactly fitting, too short, now and then as it fitted before CR 4, or with bytes
 /// left.
 fn list(random: &mut Random, rows: usize, entries: usize) -> Vec<u8> {
@@ -122,7 +135,7 @@ fn reached<'f>(random: &mut Random, flow: &'f Flow) -> State<'f> {
     let (mut state, _) = State::start(flow);
     for _ in 0..random.below(12) {
         // A refused event leaves the state as it is.
-        let _ = state.handle(&touches::event(random, &state.look().entries));
+        let _ = state.handle(&touches::event(random, &state));
     }
     state
 }
@@ -132,7 +145,7 @@ fn reached<'f>(random: &mut Random, flow: &'f Flow) -> State<'f> {
 fn unrested<'f>(random: &mut Random, flow: &'f Flow) -> State<'f> {
     let mut state = if random.chance(50) { State::evaluated(flow) } else { reached(random, flow) };
     for _ in 0..random.below(8) {
-        let event = touches::event(random, &state.look().entries);
+        let event = touches::event(random, &state);
         if let Some(event) = Event::read(&event, Slip::None) {
             state.take(event);
         }
@@ -200,7 +213,7 @@ fn break_rows(random: &mut Random, rows: &mut Vec<i32>) {
             let at = random.below(rows.len());
             rows[at] = match random.below(4) {
                 0 => rows[at].wrapping_add(random.between(-1, 1)),
-                1 if at.is_multiple_of(ROW) => random.between(0, 50),
+                1 if at.is_multiple_of(ROW) => random.between(0, 51),
                 2 => random.between(-1, rows.len() as i32 / ROW as i32),
                 _ => random.word(),
             };
@@ -217,9 +230,10 @@ fn break_state(random: &mut Random, flow: &Flow, state: &mut Vec<i32>) {
     if state[(rows - 1) * STATE_ROW] == words::WHOLE && random.chance(50) {
         return fail_whole(random, flow, state);
     }
-    match random.below(22) {
+    match random.below(24) {
         0..=3 => break_length(random, state, STATE_ROW),
         4..=10 => break_word(random, state),
+        22..=23 => break_touches(random, flow, state),
         11 => state[row..row + STATE_ROW].fill(0),
         12 => {
             let other = random.below(rows) * STATE_ROW;
@@ -246,6 +260,18 @@ fn break_state(random: &mut Random, flow: &Flow, state: &mut Vec<i32>) {
             let at = random.below(state.len());
             state[at] = random.word();
         }
+    }
+}
+
+/// Other touches left in a row of kind 50, if one is live: as many as it may have, one more, none, or fewer.
+fn break_touches(random: &mut Random, flow: &Flow, state: &mut [i32]) {
+    let whole = flow.rows.len().min(state.len() / STATE_ROW);
+    let is_live = |row: &usize| flow.rows[*row].kind == 50 && state[row * STATE_ROW] == 1;
+    let live: Vec<usize> = (0..whole).filter(is_live).collect();
+    if let Some(&row) = random.pick(&live) {
+        let most = flow.rows[row].operands[2];
+        let words = [most, most + 1, 0, -1, random.between(0, most)];
+        state[row * STATE_ROW + words::LEAF] = *random.pick(&words).expect("words");
     }
 }
 
@@ -284,6 +310,7 @@ fn break_event(random: &mut Random, event: &mut Vec<u8>) {
         1 => event.extend_from_slice(b"\n"),
         2 => event.extend_from_within(..),
         3 => *event = (0..EVENT).map(|_| random.draw() as u8).collect(),
+        4 if random.chance(50) => *event = without_role(event),
         4 => *event = with_four_leaves(event),
         _ => {
             if let Some(at) = some_place(random, event.len()) {

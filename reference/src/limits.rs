@@ -58,7 +58,8 @@ pub fn enclosing(rows: &[Row], slip: Slip) -> Vec<Enclosing> {
     let mut enclosing = vec![Enclosing::default(); rows.len()];
     for (at, row) in rows.iter().enumerate().rev().filter(|(_, row)| row.kind >= 20) {
         let outer = enclosing[at];
-        let is_mark = kinds::is_mark(row.kind) || (slip == Slip::PickIsMark && row.kind == 48);
+        let is_mark =
+            kinds::is_mark(row.kind) || matches!((slip, row.kind), (Slip::PickIsMark, 48) | (Slip::GateIsMark, 50));
         for (place, (_, operand)) in row.places().enumerate().filter(|(_, (asked, _))| asked.names_row()) {
             let bound = kinds::binds(row.kind) && (place == 1 || slip == Slip::BinderEnclosesA);
             if let Some(inner) = usize::try_from(operand).ok().and_then(|name| enclosing.get_mut(name)) {

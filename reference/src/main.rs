@@ -5,6 +5,7 @@ use reference::compare;
 use reference::coverage::Coverage;
 use reference::edges;
 use reference::generate;
+use reference::model::Model;
 use reference::pair_report;
 use reference::program::Report;
 use reference::rules::Rules;
@@ -25,6 +26,8 @@ const USAGE: &str = "usage:
   reference mirror PROGRAM SEED COUNT
                                  runs PROGRAM on COUNT mirrored and COUNT regrouped pairs of sessions (CR 5) and on as many
                                  of each control, and compares its screens with these, and those of a pair with each other
+  reference model SEED EVENTS    asks, in each role, EVENTS events at the rests of the cases' sessions, and compares answers,
+                                 touches left and lists with what CR 1 to CR 6 say
   reference coverage SEED COUNT  what the cases cover
   reference slips SEED COUNT     how many cases catch each slip, and the first that does";
 
@@ -51,6 +54,7 @@ fn run(words: &[&str]) -> io::Result<()> {
         }
         ["compare", program, seed, count] => compare_program(Path::new(program), number(seed)?, number(count)?),
         ["mirror", program, seed, count] => compare_pairs(Path::new(program), number(seed)?, number(count)?),
+        ["model", seed, events] => ask_model(number(seed)?, number(events)?),
         ["replay"] => replay(&mut io::stdin().lock(), &mut output),
         ["coverage", seed, count] => {
             write!(output, "{}", Coverage::of(generate::cases(number(seed)?, number(count)?)))?;
@@ -106,6 +110,17 @@ fn compare_pairs(program: &Path, seed: u64, count: u64) -> io::Result<()> {
         Ok(())
     } else {
         Err(io::Error::other("pairs of sessions do not correspond, or tell nothing"))
+    }
+}
+
+/// Asks at the rests of sessions.
+fn ask_model(seed: u64, events: u64) -> io::Result<()> {
+    let model = Model::of(Rules::default(), seed, events as usize);
+    print!("{model}");
+    if model.failures.is_empty() {
+        Ok(())
+    } else {
+        Err(io::Error::other("a rest is not as expected"))
     }
 }
 

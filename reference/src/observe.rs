@@ -30,7 +30,8 @@ impl Rules {
             Task::Empty(_) | Task::Step(..) | Task::Fail | Task::Pick(..) => None,
             Task::Both(left, right) => Some(Value::pair(self.value(store, left)?, self.value(store, right)?)),
             Task::Choice(left, right) => self.value(store, left).or_else(|| self.value(store, right)),
-            Task::Became(_, task) => self.value(store, task),
+            Task::Gate(_, 0, _) if self.slip == Slip::SpentHasNoValue => None,
+            Task::Gate(_, _, task) | Task::Became(_, task) => self.value(store, task),
         }
     }
 
@@ -53,6 +54,8 @@ impl Rules {
                 self.failing(env, store, left) && self.failing(env, store, right)
             }
             Task::Pick(left, right) => self.pick_fails(env, store, left, right),
+            Task::Gate(_, 0, _) if self.slip == Slip::SpentFails => true,
+            Task::Gate(_, _, task) => self.failing(env, store, task),
             Task::Became(origin, task) => self.failing(&origin.within(env), store, task),
         }
     }

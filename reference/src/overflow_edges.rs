@@ -241,20 +241,20 @@ impl Rows {
     }
 
     /// A row of one operand, and what stands around it.
-    fn with(&mut self, kind: i32, operand: i32, around: impl FnOnce(&mut Self, i32) -> i32) -> i32 {
+    pub fn with(&mut self, kind: i32, operand: i32, around: impl FnOnce(&mut Self, i32) -> i32) -> i32 {
         let row = self.add(kind, operand, 0, 0);
         around(self, row)
     }
 
-    fn filled(&mut self, number: i32) -> i32 {
+    pub fn filled(&mut self, number: i32) -> i32 {
         self.with(22, number, |rows, number| rows.add(40, number, 0, 0))
     }
 
-    fn empty(&mut self) -> i32 {
+    pub fn empty(&mut self) -> i32 {
         self.add(41, 0, 0, 0)
     }
 
-    fn fail(&mut self) -> i32 {
+    pub fn fail(&mut self) -> i32 {
         self.add(45, 0, 0, 0)
     }
 

@@ -2,7 +2,7 @@
 //! whether the pairs were telling.
 
 use crate::counterparts::{Reading, Screen};
-use crate::event::{EVENT, PATH};
+use crate::event::{EVENT, PATH_COLUMNS};
 use crate::field;
 use crate::generate::arrangements::{self, Order, Sheets};
 use crate::pairs::{Arrangement, Pair};
@@ -64,11 +64,14 @@ pub struct Counts {
     pub accepted: usize,
     pub unreadable: usize,
     pub refused: usize,
+    pub other_role: usize,
+    pub spent: usize,
     pub alone: usize,
-    /// Pairs that show a value, an entry, or leave the range at start.
+    /// Pairs that show a value, an entry, leave the range at start, or have rows of kind 50.
     pub values: usize,
     pub lists: usize,
     pub fail_whole: usize,
+    pub gated: usize,
     /// Mirrored: halves of different numbers of leaves, both touched, and one that a touch of the other changes.
     pub uneven: usize,
     pub both_touched: usize,
@@ -90,11 +93,14 @@ impl Counts {
         self.values += usize::from(screens.iter().any(Screen::has_value));
         self.lists += usize::from(screens.iter().any(|screen| !screen.entries.is_empty()));
         self.fail_whole += usize::from(pair.fails_whole);
+        self.gated += usize::from(pair.gated);
         self.alone += pair.steps.iter().filter(|step| !step.corresponds).count();
         for screen in screens.iter().skip(1) {
             match screen.number() {
                 Some(0) => self.accepted += 1,
                 Some(8) => self.unreadable += 1,
+                Some(30) => self.other_role += 1,
+                Some(31) => self.spent += 1,
                 _ => self.refused += 1,
             }
         }
@@ -114,7 +120,9 @@ impl Counts {
             let (mark, from, to) = if half == 0 { (b'2', first, first + second) } else { (b'1', 0, first) };
             let [before, after] = [&screens[at - 1], &screens[at]];
             let values = before.has_value() && after.has_value();
-            across |= before.block(mark) != after.block(mark)
+            // Lists of two roles tell nothing of the touch.
+            let same_role = !pair.gated || pair.steps[at - 1].role == pair.steps[at].role;
+            across |= (same_role && before.block(mark) != after.block(mark))
                 || (values && before.leaves(from, to) != after.leaves(from, to));
         }
         self.both_touched += usize::from(touched == [true; 2]);
@@ -149,10 +157,13 @@ impl Counts {
         let mut asked = vec![
             ("touches accepted", self.accepted, 200),
             ("touches refused", self.refused, 50),
+            ("touches of another role", self.other_role, 5),
+            ("touches of spent rows", self.spent, 2),
             ("touches unreadable", self.unreadable, 10),
             ("with a value", self.values, 15),
             ("with an entry", self.lists, 60),
             ("out of range at start", self.fail_whole, 1),
+            ("with rows of kind 50", self.gated, 20),
         ];
         match of {
             Of::Mirrored | Of::MirroredWrites => asked.extend([
@@ -184,7 +195,7 @@ impl Counts {
 fn accepted<'p>(pair: &'p Pair, screens: &'p [Screen]) -> impl Iterator<Item = (usize, &'p [u8])> {
     let events = pair.events[0].chunks(EVENT).zip(screens.iter().skip(1)).enumerate();
     let taken = events.filter(|(_, (_, screen))| screen.number() == Some(0));
-    taken.map(|(at, (event, _))| (at + 1, field::after_spaces(&event[..PATH])))
+    taken.map(|(at, (event, _))| (at + 1, field::after_spaces(&event[PATH_COLUMNS])))
 }
 
 /// What a run came to.
@@ -258,14 +269,16 @@ impl fmt::Display for Report {
         let of = |count: fn(&Counts) -> usize| count(mirrored) + count(regrouped);
         writeln!(
             out,
-            "mirrored pairs {}, regrouped {}; touches accepted {}, refused {} (ground 8 {}, ground 9 {}); differing {}; \
-             controls differing: mirrored with writes {} of {}, a and b exchanged {} of {}",
+            "mirrored pairs {}, regrouped {}; touches accepted {}, refused {} (ground 8 {}, ground 9 {}, ground 30 {}, \
+             ground 31 {}); differing {}; controls differing: mirrored with writes {} of {}, a and b exchanged {} of {}",
             mirrored.pairs,
             regrouped.pairs,
             of(|counts| counts.accepted),
-            of(|counts| counts.unreadable + counts.refused),
+            of(|counts| counts.unreadable + counts.refused + counts.other_role + counts.spent),
             of(|counts| counts.unreadable),
             of(|counts| counts.refused),
+            of(|counts| counts.other_role),
+            of(|counts| counts.spent),
             of(|counts| counts.differing),
             writes.differing,
             writes.pairs,
@@ -274,11 +287,12 @@ impl fmt::Display for Report {
         )?;
         writeln!(
             out,
-            "mirrored: with a value {}, with an entry {}, out of range at start {}, uneven halves {}, both halves touched {}, \
-             one half changed by the other {}",
+            "mirrored: with a value {}, with an entry {}, out of range at start {}, with rows of kind 50 {}, uneven halves {}, \
+             both halves touched {}, one half changed by the other {}",
             mirrored.values,
             mirrored.lists,
             mirrored.fail_whole,
+            mirrored.gated,
             mirrored.uneven,
             mirrored.both_touched,
             mirrored.across,
@@ -287,11 +301,12 @@ impl fmt::Display for Report {
         let chosen = regrouped.chosen;
         writeln!(
             out,
-            "regrouped: with a value {}, with an entry {}, out of range at start {}, touched before the choice a {a} b {b} c {c}, \
-             chosen at start {}, later {} (a {} b {} c {}), touches without a counterpart {}",
+            "regrouped: with a value {}, with an entry {}, out of range at start {}, with rows of kind 50 {}, touched before the \
+             choice a {a} b {b} c {c}, chosen at start {}, later {} (a {} b {} c {}), touches without a counterpart {}",
             regrouped.values,
             regrouped.lists,
             regrouped.fail_whole,
+            regrouped.gated,
             regrouped.at_start,
             regrouped.later,
             chosen[0],

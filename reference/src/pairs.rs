@@ -6,7 +6,10 @@ use crate::event::EVENT;
 use crate::flow::Flow;
 use crate::generate::with_count;
 use crate::grounds::Ground;
+use crate::roles::{self, Role, ROLES};
 use crate::rules::Rules;
+use crate::session;
+use crate::slips::Slip;
 use crate::state::{LastRow, State};
 use crate::syntax::Type;
 use crate::task::{Origin, Side, Task};
@@ -34,6 +37,8 @@ pub enum Chosen {
 pub struct Step {
     /// What is chosen, where three are regrouped.
     pub chosen: Option<Chosen>,
+    /// Whose screen is printed.
+    pub role: Role,
     /// Whether there is a counterpart in the second session.
     pub corresponds: bool,
 }
@@ -46,8 +51,9 @@ pub struct Pair {
     pub arrangement: Arrangement,
     pub reading: Reading,
     pub steps: Vec<Step>,
-    /// Whether the first leaves the range at start (CR 3).
+    /// Whether the first leaves the range at start (CR 3), and whether it has rows of kind 50 (CR 6).
     pub fails_whole: bool,
+    pub gated: bool,
 }
 
 impl Pair {
@@ -68,21 +74,23 @@ impl Pair {
 
     fn of(arrangement: Arrangement, flow: &Flow, sheets: [Vec<u8>; 2], events: &[u8], reading: Reading) -> Self {
         let (mut state, _) = State::start(flow);
-        let mut steps = vec![Step { chosen: chosen_first(&state), corresponds: true }];
+        let mut steps = vec![Step { chosen: chosen_first(&state), role: roles::FIRST, corresponds: true }];
         let mut others = Vec::with_capacity(events.len());
         for event in events.chunks(EVENT) {
             let made = chosen_first(&state).is_some();
             let counterpart = match arrangement {
                 Arrangement::Mirrored { .. } => Some(mirrored_event(event, reading)),
-                Arrangement::Regrouped => counterparts::regrouped(event, made, reading),
+                Arrangement::Regrouped => counterparts::regrouped_event(event, made, reading),
             };
             // A refused event leaves the state as it is.
             let _ = state.handle(event);
-            steps.push(Step { chosen: chosen_first(&state), corresponds: counterpart.is_some() });
+            let role = session::role_after(event, Slip::None);
+            steps.push(Step { chosen: chosen_first(&state), role, corresponds: counterpart.is_some() });
             others.extend(counterpart.unwrap_or_default());
         }
         let fails_whole = state.last_row == LastRow::FailedWhole;
-        Pair { sheets, events: [events.to_vec(), others], arrangement, reading, steps, fails_whole }
+        let gated = flow.rows.iter().any(|row| row.kind == 50);
+        Pair { sheets, events: [events.to_vec(), others], arrangement, reading, steps, fails_whole, gated }
     }
 
     /// What the two sessions read.
@@ -104,7 +112,7 @@ impl Pair {
         let mut others = second.iter();
         for (at, (screen, step)) in first.iter().zip(&self.steps).enumerate() {
             if !step.corresponds {
-                if !screen.refuses(&first[at - 1]) {
+                if !screen.refuses(&first[at - 1], step.role == self.steps[at - 1].role) {
                     return Some(format!("screen {at}: a touch without a counterpart is not refused"));
                 }
                 continue;
@@ -126,7 +134,8 @@ impl Pair {
     }
 
     /// The first step after which this implementation's own states do not correspond: mirrored ones are equal word for
-    /// word; regrouped ones have chosen the same. A sheet that is refused has no state.
+    /// word; regrouped ones have chosen the same, and have the same touches left; and what each role sees corresponds. A
+    /// sheet that is refused has no state.
     pub fn states_differ(&self) -> Option<usize> {
         let [Ok(first), Ok(second)] = self.sheets.each_ref().map(|sheet| Flow::load(sheet, Rules::default())) else {
             return Some(0);
@@ -142,9 +151,15 @@ impl Pair {
             }
             let correspond = match self.arrangement {
                 Arrangement::Mirrored { .. } => words::write(&first, &one) == words::write(&second, &other),
-                Arrangement::Regrouped => chosen_first(&one) == chosen_second(&other),
+                Arrangement::Regrouped => {
+                    chosen_first(&one) == chosen_second(&other)
+                        && one.last_row.task().gates() == other.last_row.task().gates()
+                }
             };
-            (!correspond).then_some(at)
+            let seen = |state: &State, role: i32| Screen::of(&state.look(role as Role));
+            let looks =
+                ROLES.into_iter().all(|role| self.counterpart(&seen(&one, role), step) == Some(seen(&other, role)));
+            (!correspond || !looks).then_some(at)
         })
     }
 }

@@ -51,11 +51,13 @@ impl fmt::Display for Report {
         writeln!(out, "sheets accepted {}, refused {}", sheets.of(0), sheets.total() - sheets.of(0))?;
         writeln!(
             out,
-            "events accepted {}, refused {} (ground 8 {}, ground 9 {})",
+            "events accepted {}, refused {} (ground 8 {}, ground 9 {}, ground 30 {}, ground 31 {})",
             events.of(0),
             events.total() - events.of(0),
             events.of(8),
-            events.of(9)
+            events.of(9),
+            events.of(30),
+            events.of(31)
         )?;
         writeln!(out, "differing {}", self.differing.len())?;
         self.differing.iter().take(5).try_for_each(|told| writeln!(out, "{told}"))

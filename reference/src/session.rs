@@ -1,10 +1,11 @@
 //! The program (01, "A session in full").
 
-use crate::event::{event_bytes, EVENT, LEAF};
+use crate::event::{event_bytes, read_role, EVENT, EVENT_BEFORE, LEAF, ROLE_COLUMNS};
 use crate::field;
 use crate::flow::Flow;
 use crate::grounds::Ground;
 use crate::limits::{LEAVES, LEAVES_BEFORE};
+use crate::roles::{self, Role};
 use crate::rules::Rules;
 use crate::sheet::{LINE, LINES};
 use crate::slips::Slip;
@@ -25,7 +26,7 @@ pub const HEAD_COUNT: Range<usize> = HEAD_LEAVES + LEAVES * LEAF..HEAD_LEAVES + 
 /// Bytes of a head line with its byte 10.
 pub const HEAD: usize = HEAD_COUNT.end + 1;
 
-/// Reads the row count, a sheet and events, and prints a screen after start and each event.
+/// Reads the row count, a sheet and events, and prints a screen after start and each event, in the event's role.
 pub fn run<R: Read>(input: R, mut output: impl Write, rules: Rules) -> io::Result<()> {
     let mut input = BufReader::new(input);
     let flow = match load(&mut input, rules)? {
@@ -37,21 +38,44 @@ pub fn run<R: Read>(input: R, mut output: impl Write, rules: Rules) -> io::Resul
         }
     };
     let (mut state, strides) = State::start(&flow);
-    print(&mut output, Ok(strides), &state.look(), rules.slip)?;
-    let length = if rules.slip == Slip::EventsOf67 { event_bytes(LEAVES_BEFORE) } else { EVENT };
+    let mut role = roles::FIRST;
+    print(&mut output, Ok(strides), &state.look(role), rules.slip)?;
+    let length = match rules.slip {
+        Slip::EventsOfFourLeaves => event_bytes(LEAVES_BEFORE),
+        Slip::EventsWithoutRole => EVENT_BEFORE,
+        _ => EVENT,
+    };
     let mut event = Vec::with_capacity(length);
     loop {
         if input.buffer().is_empty() {
             output.flush()?;
         }
-        // Events are cut every 115 bytes, with no looking for byte 10; a short last one answers 8.
+        // Events are cut every 117 bytes, with no looking for byte 10; a short last one answers 8.
         read_up_to(&mut input, length, &mut event)?;
         if event.is_empty() || (event.len() < length && rules.slip == Slip::ShortEventSkipped) {
             return output.flush();
         }
         let answer = state.handle(&event);
-        print(&mut output, answer, &state.look(), rules.slip)?;
+        role = match rules.slip {
+            Slip::LooksInRoleOne => roles::FIRST,
+            Slip::LooksInRoleOneAfterEight if answer == Err(Ground::Event) => roles::FIRST,
+            Slip::LooksInRoleOneAfterRefusal if answer.is_err() => roles::FIRST,
+            Slip::KeepsRoleAfterEight => role_in(&event, rules.slip).unwrap_or(role),
+            _ => role_after(&event, rules.slip),
+        };
+        print(&mut output, answer, &state.look(role), rules.slip)?;
     }
+}
+
+/// The role that is looked in after these bytes: the event's, and role 1 where it is bad or they are too few (CR 6).
+pub fn role_after(event: &[u8], slip: Slip) -> Role {
+    role_in(event, slip).unwrap_or(roles::FIRST)
+}
+
+/// The role of an event of all 117 bytes, whatever else is wrong with it.
+fn role_in(event: &[u8], slip: Slip) -> Option<Role> {
+    let whole = event.len() == EVENT || slip == Slip::LooksInRoleOfShort;
+    event.get(ROLE_COLUMNS).filter(|_| whole).and_then(|role| read_role(role, slip))
 }
 
 /// The screens that an input gives.
@@ -89,9 +113,9 @@ fn read_up_to(input: &mut impl Read, length: usize, bytes: &mut Vec<u8>) -> io::
     input.take(length as u64).read_to_end(bytes).map(|_| ())
 }
 
-/// Answer (4), strides (4), failing (2), value flag (2), leaves (8 of 12), entry count (4), byte
-/// 10, then the entries.
-fn print(output: &mut impl Write, answer: Result<usize, Ground>, look: &Look, slip: Slip) -> io::Result<()> {
+/// Prints a screen: answer (4), strides (4), failing (2), value flag (2), leaves (8 of 12), entry count (4), byte 10, then
+/// the entries.
+pub fn print(output: &mut impl Write, answer: Result<usize, Ground>, look: &Look, slip: Slip) -> io::Result<()> {
     let (number, strides) = match answer {
         Ok(strides) => (0, strides as i32),
         Err(ground) => (ground.number(), 0),

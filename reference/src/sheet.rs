@@ -3,6 +3,7 @@
 use crate::field::{self, Field};
 use crate::grounds::Ground;
 use crate::kinds::{self, Operand, Sort};
+use crate::roles::{ROLES, TOUCHES};
 use crate::slips::Slip;
 use std::ops::Range;
 
@@ -112,7 +113,7 @@ pub fn write(rows: &[Row]) -> Vec<u8> {
     text
 }
 
-/// Ground 3: kinds, operators, truths and unused operands.
+/// Ground 3: kinds, operators, truths, roles, touches and unused operands.
 pub fn check_listed(rows: &[Row], slip: Slip) -> Result<(), Ground> {
     let all = rows.iter().enumerate().all(|(at, row)| listed(&rows[..at], row, slip));
     all.then_some(()).ok_or(Ground::NotListed)
@@ -130,8 +131,15 @@ fn listed(lower: &[Row], row: &Row, slip: Slip) -> bool {
                 let of_truths = cell_type.is_some_and(|of| of.kind == 2);
                 !of_truths || matches!(operand, 0 | 1) || slip == Slip::CellTruthIgnored
             }
+            Operand::Role => ROLES.contains(&operand) || slip_of_role(slip, operand),
+            Operand::Touches => TOUCHES.contains(&operand) || (slip == Slip::Touches100 && operand == 100),
             _ => true,
         })
+}
+
+/// Whether a slip takes this number for a role.
+fn slip_of_role(slip: Slip, number: i32) -> bool {
+    matches!((slip, number), (Slip::RoleZero, 0) | (Slip::RoleNine, 9))
 }
 
 /// Ground 4: operands are lower rows of the sort asked. Gives the rows' sorts.

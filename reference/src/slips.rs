@@ -60,6 +60,10 @@ slips! {
     Marks17: "17 marks are read",
     Marks15: "16 marks get 6",
     PickIsMark: "a 48 counts as a mark",
+    GateIsMark: "a 50 counts as a mark",
+    RoleZero: "a 50 may be for role 0",
+    RoleNine: "a 50 may be for role 9",
+    Touches100: "a 50 may have 100 touches",
 
     // Evaluation
     RightOperandFirst: "the right operand of operators and pairs is evaluated before the left",
@@ -93,6 +97,8 @@ slips! {
     RightSideFailsInOldStore: "a right side is asked in the store before evaluating it",
     ViewFails: "a shown value fails",
     FailingByTheList: "the failing flag is told by the empty list",
+    SpentFails: "a 50 without a touch left fails",
+    SpentHasNoValue: "a 50 without a touch left has no value",
 
     // Striding
     KeepsFailedWrites: "the writes of a step that failed are kept",
@@ -112,6 +118,7 @@ slips! {
     StridesRightToo: "the right of a 47 is strided though the left has a value",
     ChoosesRight: "a 47 takes the right where both have a value",
     RightNeverChosen: "a 47 never takes the right",
+    TouchesAnew: "a stride gives a 50 all its touches anew",
 
     // Handling
     ContinueNormalises: "Continue normalises B",
@@ -139,6 +146,19 @@ slips! {
     BlankUnusedLeafRefused: "a blank in an unused leaf of a value gets 9",
     LastLeafDropped: "an editor takes leaf 8 and keeps 0",
 
+    // Roles and touches
+    NoTouchUsed: "an accepted event uses no touch",
+    OutermostTouchUsed: "an accepted event uses a touch of the outermost 50 alone",
+    InnermostTouchUsed: "an accepted event uses a touch of the innermost 50 alone",
+    RefusedTouchUsed: "an event that gets 30 or 31 uses the touches",
+    RefusedStepTaken: "an event that gets 30 or 31 is taken all the same",
+    OutermostGateAsked: "the outermost 50 alone is asked for role and touches",
+    InnermostGateAsked: "the innermost 50 alone is asked for role and touches",
+    TouchesAskedFirst: "31 comes before 30",
+    RoleAskedFirst: "30 comes before 9 where the last row is a 50",
+    ContinueAsksA: "Continue asks the 50 in front of A of its 44, too",
+    PickUsesTouch: "Left and Right use a touch of the 50 that their branch is",
+
     // The list
     ContinueShownUntried: "Continue is offered because a value stands, without trying the right side",
     LeftShownThoughFailing: "Left and Right are offered though the branch fails",
@@ -150,6 +170,9 @@ slips! {
     BlankWritten: "an unused leaf kind is written blank",
     LastKindNotShown: "the kind of leaf 8 is shown as 0",
     EntriesOf27: "an entry has four leaf kinds",
+    ListForAnyone: "the list is that of every role",
+    SpentListed: "a 50 without a touch left is listed",
+    InnermostGateLists: "the list asks the innermost 50 alone",
 
     // Events and the session
     EventByteTenUnread: "an event may end in any byte",
@@ -162,8 +185,18 @@ slips! {
     LeafAtContinueIsNine: "a leaf not 0 at Continue, Left or Right gets 9",
     UnfittingLeafIsEight: "a leaf that does not fit its editor gets 8",
     ShortEventSkipped: "a short last event is not answered",
-    EventsOf67: "events are cut every 67 bytes, and have four leaves",
-    EventOf67Read: "a last event of 67 bytes is read as one whose leaves 5 to 8 are 0",
+    EventsOfFourLeaves: "events are cut every 69 bytes, and have four leaves",
+    EventOfFourLeavesRead: "a last event of 69 bytes is read as one whose leaves 5 to 8 are 0",
+    EventsWithoutRole: "events are cut every 115 bytes, and are of role 1",
+    EventWithoutRoleRead: "a last event of 115 bytes is read as one of role 1",
+    RoleZeroRead: "an event may be of role 0",
+    RoleNineRead: "an event may be of role 9",
+    BlankRoleIsOne: "an event's blank role is 1",
+    LooksInRoleOne: "the session looks in role 1 after each event",
+    LooksInRoleOneAfterEight: "the session looks in role 1 after an event that gets 8",
+    LooksInRoleOneAfterRefusal: "the session looks in role 1 after an event that is refused",
+    LooksInRoleOfShort: "the session looks in the role of an event cut short",
+    KeepsRoleAfterEight: "the session keeps its role after a bad role and a short event",
     LastLeafUnread: "leaf 8 of an event is not read, and is 0",
     HeadOf64: "a head line has four leaves",
 }

@@ -5,6 +5,8 @@ use crate::evaluate::Whole;
 use crate::event::{Action, Entry, Event};
 use crate::flow::Flow;
 use crate::grounds::Ground;
+use crate::handle::Derived;
+use crate::roles::{Role, Who};
 use crate::rules::Rules;
 use crate::slips::Slip;
 use crate::task::{Store, Task};
@@ -66,9 +68,15 @@ impl<'f> State<'f> {
         (state, strides)
     }
 
-    pub fn look(&self) -> Look {
+    /// What may be touched now, by a role or by anyone.
+    pub fn entries(&self, who: Who) -> Vec<Entry> {
+        self.rules.inputs(&Binders::NONE, &self.store, self.last_row.task(), who)
+    }
+
+    /// What is seen by a role (CR 6): the value and the failing flag are the same for all.
+    pub fn look(&self, role: Role) -> Look {
         let task = self.last_row.task();
-        let entries = self.rules.inputs(&Binders::NONE, &self.store, task);
+        let entries = self.entries(Who::Is(role));
         // CR 1: a screen without an entry need not fail.
         let failing = match self.rules.slip {
             Slip::FailingByTheList => entries.is_empty(),
@@ -82,16 +90,31 @@ impl<'f> State<'f> {
     pub fn handle(&mut self, event: &[u8]) -> Result<usize, Ground> {
         let rules = self.rules;
         let event = Event::read(event, rules.slip).ok_or(Ground::Event)?;
-        let inside = self.take(event).ok_or_else(|| self.refusal(event))?;
+        let before = self.clone();
+        let derived = self.take(event).ok_or_else(|| self.refusal(event))?;
+        if let Err(ground) = rules.verdict(event.role, &derived.passed) {
+            self.undo(before);
+            return Err(ground);
+        }
         if rules.slip == Slip::ResultNotNormalised {
             return Ok(1);
         }
         let strides = self.normalise();
-        Ok(if rules.slip == Slip::LeftStridesCounted { strides + inside } else { strides })
+        Ok(if rules.slip == Slip::LeftStridesCounted { strides + derived.strides } else { strides })
     }
 
-    /// Handles an event, before normalising; see [`Rules::handle`].
-    pub fn take(&mut self, event: Event) -> Option<usize> {
+    /// Goes back to the state before a step that the role may not take.
+    fn undo(&mut self, before: State<'f>) {
+        let after = std::mem::replace(self, before);
+        match (self.rules.slip, &mut self.last_row) {
+            (Slip::RefusedTouchUsed, LastRow::Task(task)) => task.take_touches(after.last_row.task()),
+            (Slip::RefusedStepTaken, _) => *self = after,
+            _ => {}
+        }
+    }
+
+    /// Handles an event, before normalising, whatever its role; see [`Rules::handle`].
+    pub fn take(&mut self, event: Event) -> Option<Derived> {
         let rules = self.rules;
         self.run(|store, task| rules.handle(&Binders::NONE, store, task, event))
     }
@@ -126,9 +149,10 @@ impl<'f> State<'f> {
     /// The ground where no rule derives a step.
     fn refusal(&self, event: Event) -> Ground {
         let is_editor = |entry: &Entry| entry.action == Action::Value && entry.path == event.path;
-        if self.rules.slip == Slip::UnfittingLeafIsEight && self.look().entries.iter().any(is_editor) {
-            return Ground::Event;
+        match (self.rules.slip, self.last_row.task()) {
+            (Slip::UnfittingLeafIsEight, _) if self.entries(Who::Anyone).iter().any(is_editor) => Ground::Event,
+            (Slip::RoleAskedFirst, Task::Gate(gate, ..)) if gate.role != event.role => Ground::Role,
+            _ => Ground::Handling,
         }
-        Ground::Handling
     }
 }

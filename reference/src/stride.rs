@@ -68,6 +68,12 @@ impl Rules {
                 }
                 moved || chosen.is_some()
             }
+            Task::Gate(gate, left, task) => {
+                if self.slip == Slip::TouchesAnew {
+                    *left = gate.touches;
+                }
+                self.stride(env, store, task)
+            }
             Task::Became(origin, task) => self.stride(&origin.within(env), store, task),
             Task::Filled(_) | Task::Empty(_) | Task::Shared(_) | Task::Fail | Task::Pick(..) | Task::View(_) => false,
         }

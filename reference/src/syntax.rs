@@ -1,6 +1,7 @@
 //! Types, plain expressions and tasks as trees: what the rows of an accepted sheet say.
 
 use crate::operators::Operator;
+use crate::roles::Gate;
 use std::rc::Rc;
 
 #[derive(Clone, Debug, PartialEq, Eq)]
@@ -66,7 +67,7 @@ pub enum Going {
     AtContinue,
 }
 
-/// Task expressions, kinds 40 to 49, and 25 and 31 where they are tasks.
+/// Task expressions, kinds 40 to 50, and 25 and 31 where they are tasks.
 #[derive(Clone, Debug, PartialEq, Eq)]
 pub enum Code {
     Filled(Plain),
@@ -81,6 +82,8 @@ pub enum Code {
     Pick(Box<Code>, Box<Code>),
     /// 49, a shown value (CR 1).
     View(Plain),
+    /// 50, a task for a role (CR 6).
+    Gate(Gate, Box<Code>),
     Condition(Plain, Box<Code>, Box<Code>),
     Bind(Plain, Box<Code>),
 }
@@ -91,6 +94,7 @@ impl Code {
         match self {
             Code::Empty(_) | Code::Shared(_) | Code::Fail(_) => false,
             Code::Filled(a) | Code::View(a) => a.asks(outward),
+            Code::Gate(_, a) => a.asks(outward),
             Code::Both(a, b) | Code::Choice(a, b) | Code::Pick(a, b) => a.asks(outward) || b.asks(outward),
             Code::Condition(a, b, c) => a.asks(outward) || b.asks(outward) || c.asks(outward),
             Code::Step(_, a, b) => a.asks(outward) || b.asks(outward + 1),

@@ -1,6 +1,7 @@
 //! Running tasks and the store (01, "A task of a row is"; the paper's Fig. 8).
 
 use crate::binders::Binders;
+use crate::roles::{Gate, Passed};
 use crate::syntax::{Cell, Code, Going, Type};
 use crate::value::Value;
 
@@ -28,9 +29,63 @@ pub enum Task<'c> {
     Pick(&'c Code, &'c Code),
     /// 49: its content is of its own, and nothing changes it (CR 1).
     View(Value),
+    /// 50, with the touches that it has left (CR 6). In all but handling and the list it hands on to its task.
+    Gate(Gate, i32, Box<Task<'c>>),
     /// What a step, choice, condition or binding became. It hands value, failing, striding,
     /// entries and handling on to that task, and has no mark of its own.
     Became(Origin, Box<Task<'c>>),
+}
+
+impl Task<'_> {
+    /// Its rows of kind 50 that are live, in order.
+    pub fn gates(&self) -> Vec<Passed> {
+        match self {
+            Task::Gate(gate, left, task) => {
+                let own = Passed { role: gate.role, left: *left };
+                [vec![own], task.gates()].concat()
+            }
+            Task::Step(_, task, _) | Task::Became(_, task) => task.gates(),
+            Task::Both(left, right) | Task::Choice(left, right) => [left.gates(), right.gates()].concat(),
+            Task::Filled(_) | Task::Empty(_) | Task::Shared(_) | Task::Fail | Task::Pick(..) | Task::View(_) => {
+                Vec::new()
+            }
+        }
+    }
+
+    /// Other touches left in its rows of kind 50 that are live, each by its own.
+    pub fn change_touches(&mut self, to: &mut impl FnMut(Gate) -> i32) {
+        match self {
+            Task::Gate(gate, left, task) => {
+                *left = to(*gate);
+                task.change_touches(to);
+            }
+            Task::Step(_, task, _) | Task::Became(_, task) => task.change_touches(to),
+            Task::Both(left, right) | Task::Choice(left, right) => {
+                left.change_touches(to);
+                right.change_touches(to);
+            }
+            Task::Filled(_) | Task::Empty(_) | Task::Shared(_) | Task::Fail | Task::Pick(..) | Task::View(_) => {}
+        }
+    }
+
+    /// The touches left of `other`, as far as the two are alike: what slips about touches are made with.
+    pub fn take_touches(&mut self, other: &Task) {
+        match (self, other) {
+            (Task::Gate(_, left, task), Task::Gate(_, of_other, other)) => {
+                *left = *of_other;
+                task.take_touches(other);
+            }
+            (Task::Step(_, task, _), Task::Step(_, other, _)) | (Task::Became(_, task), Task::Became(_, other)) => {
+                task.take_touches(other);
+            }
+            (Task::Both(left, right), Task::Both(left_of_other, right_of_other))
+            | (Task::Choice(left, right), Task::Choice(left_of_other, right_of_other)) => {
+                left.take_touches(left_of_other);
+                right.take_touches(right_of_other);
+            }
+            _ => {}
+        }
+    }
 }
 
 /// What a task became from.

@@ -2,6 +2,7 @@
 //! sort asked, so each row below the last stands once in the tree.
 
 use crate::operators::Operator;
+use crate::roles::{Gate, Role};
 use crate::sheet::Row;
 use crate::syntax::{Cell, Code, Going, Plain, Type};
 
@@ -86,6 +87,7 @@ impl<'r> Trees<'r> {
             47 => Code::Choice(part(a), part(b)),
             48 => Code::Pick(part(a), part(b)),
             49 => Code::View(self.plain(a)),
+            50 => Code::Gate(Gate { role: a as Role, touches: c }, part(b)),
             kind => unreachable!("kind {kind} is no task row, by ground 4"),
         }
     }

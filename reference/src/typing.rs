@@ -62,6 +62,7 @@ impl Typing<'_> {
             }
             Code::Both(left, right) => self.pair(self.task(context, left)?, self.task(context, right)?),
             Code::Choice(left, right) | Code::Pick(left, right) => self.same(context, left, right),
+            Code::Gate(_, task) => self.task(context, task),
             Code::Condition(condition, then, otherwise) => {
                 let fits = self.plain(context, condition)? == Type::Truth;
                 self.same(context, then, otherwise).filter(|_| fits)

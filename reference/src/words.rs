@@ -3,6 +3,7 @@
 use crate::binders::Binders;
 use crate::flow::Flow;
 use crate::limits::LEAVES;
+use crate::roles::Gate;
 use crate::sheet::Row;
 use crate::slips::Slip;
 use crate::state::{LastRow, State};
@@ -97,6 +98,11 @@ impl Writer<'_> {
         let [a, b, c] = parts(row);
         match (row.kind, task) {
             (40, Task::Filled(content)) | (49, Task::View(content)) => self.put(at, 1, Some(content)),
+            // CR 6: the touches left.
+            (50, Task::Gate(_, left, task)) => {
+                self.put(at, 1, Some(&Value::Number(*left)));
+                self.task(b, task);
+            }
             (41, Task::Filled(content)) => self.put(at, 2, Some(content)),
             (41, Task::Empty(_)) | (42, Task::Shared(_)) | (45, Task::Fail) | (48, Task::Pick(..)) => {
                 self.put(at, 1, None);
@@ -216,6 +222,7 @@ impl Reader<'_> {
                 let of = self.typing.plain(context, content)?;
                 Task::View(self.value(at, &of)?)
             }
+            (Code::Gate(gate, task), 1) => Task::Gate(*gate, self.touches(at, *gate)?, self.part(b, task, context)?),
             (Code::Condition(_, then, otherwise), tag) => {
                 let (side, at_part, code) = sided(tag, (b, then), (c, otherwise))?;
                 let decided = Task::Became(Origin::Decided(side), self.part(at_part, code, context)?);
@@ -240,6 +247,12 @@ impl Reader<'_> {
         let leaves: Leaves = words[LEAF..REST].try_into().ok()?;
         let fits = words[SHAPE] == shape(of) && zero(&words[REST..]);
         fits.then(|| Value::of_leaves(of, &leaves.map(Some), Slip::None)).flatten()
+    }
+
+    /// The touches left that stand in row `at`, a number from 0 to those that it began with.
+    fn touches(&self, at: usize, gate: Gate) -> Option<i32> {
+        let left = self.value(at, &Type::Number)?.number();
+        (0..=gate.touches).contains(&left).then_some(left)
     }
 
     /// The task, if row `at` holds a tag and no value.

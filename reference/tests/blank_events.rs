@@ -5,11 +5,12 @@ mod common;
 
 use common::*;
 use reference::blank_edges::{all_blank, each_set_blank, each_width};
-use reference::event::{self, leaf_columns, Event, ACTION, EVENT, PATH};
+use reference::event::{self, leaf_columns, Event, ACTION_COLUMNS, EVENT, PATH_COLUMNS, ROLE_COLUMNS};
 use reference::flow::Flow;
 use reference::generate::{self, touches};
 use reference::limits::LEAVES;
 use reference::random::Random;
+use reference::roles::Who;
 use reference::rules::Rules;
 use reference::session;
 use reference::sheet::{self, Row};
@@ -42,9 +43,9 @@ fn the_session_of_01_with_blanks() {
         "   9  45           0                        \n",
         "  10  25           4           8           9\n",
         "  11  43           1          10            \n",
-        "                 1          12                                                                                    \n",
-        "                 1           4                                                                                    \n",
-        "                 2                                                                                                \n",
+        " 1                 1          12                                                                                    \n",
+        " 1                 1           4                                                                                    \n",
+        " 1                 2                                                                                                \n",
     );
     assert!(input.as_bytes()[5..].starts_with(&all_blank(&printed().0)));
     let output = session::screens(input.as_bytes(), Rules::default());
@@ -57,7 +58,8 @@ fn events_as_they_are_read() {
     let event = event::write("", 1, [0; LEAVES]);
     let read = |bytes: &[u8]| Event::read(bytes, Slip::None).map(|event| (event.path.to_vec(), event.leaves));
     assert_eq!(read(&event), Some((vec![], [Some(0); LEAVES])));
-    assert_eq!(read(&with_blank(&event, 0..PATH)), Some((vec![], [Some(0); LEAVES])));
+    assert_eq!(read(&with_blank(&event, PATH_COLUMNS)), Some((vec![], [Some(0); LEAVES])));
+    assert_eq!(read(&with_blank(&event, ROLE_COLUMNS)), None);
     for leaf in 0..LEAVES {
         let mut leaves = [Some(0); LEAVES];
         leaves[leaf] = None;
@@ -119,21 +121,22 @@ fn each_leaf_at_each_button() {
     }
 }
 
-/// A blank action is 8; a blank path is the empty one, and leads nowhere else.
+/// A blank role and a blank action are 8; a blank path is the empty one, and leads nowhere else.
 #[test]
-fn blank_actions_and_paths() {
+fn blank_roles_actions_and_paths() {
     let alone = sheet_of(&[[3, 0, 0, 0], [41, 0, 0, 0]]).text();
     let both = sheet_of(&[[3, 0, 0, 0], [41, 0, 0, 0], [41, 0, 0, 0], [46, 1, 2, 0]]).text();
     let event = value("", 5);
-    let without_path = with_blank(&event, 0..PATH);
-    let without_action = with_blank(&event, PATH..PATH + ACTION);
+    let without_path = with_blank(&event, PATH_COLUMNS);
+    let without_action = with_blank(&event, ACTION_COLUMNS);
+    let without_role = with_blank(&event, ROLE_COLUMNS);
     let blank = with_blank(&event, 0..EVENT - 1);
     assert_eq!(
-        answers_after_start(&alone, &[event.clone(), without_path.clone(), without_action, blank]),
-        [0, 0, 8, 8]
+        answers_after_start(&alone, &[event.clone(), without_path.clone(), without_action, without_role, blank]),
+        [0, 0, 8, 8, 8]
     );
     assert_eq!(
-        answers_after_start(&both, &[event, without_path, with_blank(&value("2", 5), 0..PATH), value("2", 5)]),
+        answers_after_start(&both, &[event, without_path, with_blank(&value("2", 5), PATH_COLUMNS), value("2", 5)]),
         [9, 9, 9, 0]
     );
 }
@@ -148,14 +151,14 @@ fn blank_events_are_handled_as_0() {
         let flow = Flow::of_rows(generate::accepted(random), Rules::default()).expect("accepted");
         let (mut state, _) = State::start(&flow);
         for _ in 0..6 {
-            let entries = state.look().entries;
-            let event = touches::event(random, &entries);
+            let event = touches::event(random, &state);
             let Some(read) = Event::read(&event, Slip::None) else { continue };
+            let entries = state.entries(Who::Anyone);
             let editor = entries.iter().find(|entry| entry.path == read.path && entry.action == read.action);
             let kinds = editor.map_or([0; LEAVES], |entry| entry.kinds);
             let mut other = event.clone();
             if read.path.is_empty() {
-                exchange(&mut other[..PATH]);
+                exchange(&mut other[PATH_COLUMNS]);
             }
             (0..LEAVES).filter(|&leaf| kinds[leaf] == 0).for_each(|leaf| exchange(&mut other[leaf_columns(leaf)]));
             let mut after = state.clone();

@@ -76,7 +76,7 @@ fn each_operand_of_each_kind() {
             counts[usize::from(is_used)] += 1;
         }
     }
-    assert_eq!(counts, [44, 37]);
+    assert_eq!(counts, [44, 40]);
     // A of 41 names row 0.
     let empty = sheet_of(&[[3, 0, 0, 0], [41, 0, 0, 0]]).text();
     assert_eq!((loads(&empty), loads(&blanked(&empty, 1, &COLUMNS[2]))), (0, 2));
@@ -94,7 +94,7 @@ fn blank_operands_load_as_0() {
             // Another kind or operand in some row.
             let place = random.below(rows.len());
             match random.below(3) {
-                0 => rows[place].kind = random.between(40, 49),
+                0 => rows[place].kind = random.between(40, 50),
                 1 => rows[place].operands[0] = random.between(-1, place as i32),
                 _ => rows[place].operands[random.below(3)] = random.word(),
             }

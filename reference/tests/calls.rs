@@ -9,9 +9,11 @@ use reference::event::{self, ENTRY, EVENT, LEAF};
 use reference::generate::{self, states};
 use reference::limits::LEAVES;
 use reference::random::Random;
+use reference::roles::{Role, Who, FIRST};
 use reference::rules::Rules;
 use reference::session;
 use reference::sheet::{Row, LINE};
+use reference::slips::Slip;
 use reference::words::{self, STATE_ROW};
 
 const SEED: u64 = 1;
@@ -32,9 +34,9 @@ fn start(rows: &[i32], state: &[i32]) -> (u32, u32, Vec<i32>) {
     (number, strides, after)
 }
 
-fn look(rows: &[i32], state: &[i32], value: &[i32], list: &[u8]) -> (Looked, Vec<i32>, Vec<u8>) {
+fn look(rows: &[i32], state: &[i32], role: Role, value: &[i32], list: &[u8]) -> (Looked, Vec<i32>, Vec<u8>) {
     let (mut value_after, mut list_after) = (value.to_vec(), list.to_vec());
-    let looked = calls::look(rows, state, &mut value_after, &mut list_after);
+    let looked = calls::look(rows, state, role, &mut value_after, &mut list_after);
     let refused = Looked { number: looked.number, ..Looked::default() };
     assert!(looked.number == 0 || (looked == refused && value_after == value && list_after == list));
     // Bytes after the filled part keep their content.
@@ -49,9 +51,9 @@ fn handle(rows: &[i32], state: &[i32], event: &[u8]) -> (u32, u32, Vec<i32>) {
     (number, strides, after)
 }
 
-/// The screen of a state, as the session prints it. A list of 35 bytes a row is long enough.
-fn screen(rows: &[i32], state: &[i32], number: u32, strides: u32) -> Vec<u8> {
-    let (looked, value, list) = look(rows, state, &[9; LEAVES], &vec![b'#'; rows.len() / ROW * ENTRY]);
+/// The screen of a state in a role, as the session prints it. A list of 35 bytes a row is long enough.
+fn screen(rows: &[i32], state: &[i32], role: Role, number: u32, strides: u32) -> Vec<u8> {
+    let (looked, value, list) = look(rows, state, role, &[9; LEAVES], &vec![b'#'; rows.len() / ROW * ENTRY]);
     assert_eq!(looked.number, 0);
     assert!(looked.valued || value == [0; LEAVES]);
     let leaves: String = value.iter().map(|leaf| format!("{leaf:>LEAF$}")).collect();
@@ -71,11 +73,11 @@ fn screens_by_calls(sheet: &[u8], events: &[u8]) -> Vec<u8> {
     }
     let (number, strides, mut state) = start(&rows, &vec![-1; rows.len() / ROW * STATE_ROW]);
     assert_eq!(number, 0);
-    let mut screens = screen(&rows, &state, number, strides);
+    let mut screens = screen(&rows, &state, FIRST, number, strides);
     for event in events.chunks(EVENT) {
         let (number, strides, after) = handle(&rows, &state, event);
         state = after;
-        screens.extend(screen(&rows, &state, number, strides));
+        screens.extend(screen(&rows, &state, session::role_after(event, Slip::None), number, strides));
     }
     screens
 }
@@ -198,17 +200,29 @@ fn start_20_then_21() {
     assert_eq!(start(&rows, &unrested()), (0, 1, state));
 }
 
+/// 20 to 23, then 8 for a role that there is not, then 24.
 #[test]
-fn look_20_to_24() {
+fn look_20_to_23_then_8_24() {
     let (rows, state) = started();
+    let in_role = |rows: &[i32], state: &[i32], role: Role, value: usize, list: usize| {
+        look(rows, state, role, &vec![7; value], &vec![b'#'; list]).0.number
+    };
     let number = |rows: &[i32], state: &[i32], value: usize, list: usize| {
-        look(rows, state, &vec![7; value], &vec![b'#'; list]).0.number
+        let number = in_role(rows, state, FIRST, value, list);
+        for bad in [0, 9, 10, 256, 257, 1 << 31, Role::MAX] {
+            let expected = if matches!(number, 0 | 24) { 8 } else { number };
+            assert_eq!(in_role(rows, state, bad, value, list), expected, "role {bad}");
+        }
+        for other in 2..=8 {
+            assert_eq!(in_role(rows, state, other, value, list), number, "role {other}");
+        }
+        number
     };
     let mut no_state = state.clone();
     no_state[79] = 1;
     let no_rest = unrested();
     let entry = b"               0 1 3 0 0 0 0 0 0 0\n";
-    let (looked, value, list) = look(&rows, &state, &[7; LEAVES], &[b'#'; ENTRY + 3]);
+    let (looked, value, list) = look(&rows, &state, 8, &[7; LEAVES], &[b'#'; ENTRY + 3]);
     assert_eq!(looked, Looked { number: 0, valued: false, fails: false, bytes: ENTRY });
     assert_eq!((&value[..], &list[..]), (&[0; LEAVES][..], &[&entry[..], b"###"].concat()[..]));
     assert_eq!(number(&rows, &state, LEAVES, ENTRY), 0);
@@ -238,7 +252,7 @@ fn look_20_to_24() {
 fn look_at_a_quiet_flow() {
     let quiet = |rows: [i32; 8]| {
         let (_, _, state) = start(&rows, &[7; 32]);
-        let (looked, value, _) = look(&rows, &state, &[7; LEAVES], &[]);
+        let (looked, value, _) = look(&rows, &state, FIRST, &[7; LEAVES], &[]);
         (looked, value[0])
     };
     let fail = Looked { number: 0, valued: false, fails: true, bytes: 0 };
@@ -291,10 +305,10 @@ fn ground_23_at_any_state() {
         let number = if changed { 23 } else { 0 };
         counts[usize::from(changed)] += 1;
         let list = vec![b'#'; rows.len() / ROW * ENTRY];
-        assert_eq!(look(&rows, &words::write(&flow, &state), &[7; LEAVES], &list).0.number, number);
+        assert_eq!(look(&rows, &words::write(&flow, &state), FIRST, &[7; LEAVES], &list).0.number, number);
         let rest = words::write(&flow, &after);
-        assert_eq!(look(&rows, &rest, &[7; LEAVES], &list).0.number, 0);
-        for entry in &after.look().entries {
+        assert_eq!(look(&rows, &rest, FIRST, &[7; LEAVES], &list).0.number, 0);
+        for entry in &after.entries(Who::Is(FIRST)) {
             let path = String::from_utf8_lossy(&entry.path);
             let event = event::write(&path, entry.action.number(), [0; LEAVES]);
             let (number, strides, moved) = handle(&rows, &rest, &event);

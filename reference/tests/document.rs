@@ -215,7 +215,7 @@ fn row_counts_that_get_1() {
     }
 }
 
-/// Bytes after the counted lines are events, cut every 115 bytes; a short last one answers 8.
+/// Bytes after the counted lines are events, cut every 117 bytes; a short last one answers 8.
 #[test]
 fn events_are_cut_by_length() {
     let sheet = long(3).text();

@@ -1,10 +1,10 @@
 //! Eight leaves (CR 4) in sheets and sessions: types and expressions of 8 leaves and of 9, an editor of 8 mixed leaves, its
-//! value passed on and taken apart, and events of 67, 114 and 115 bytes. Lent memory is in `wide_memory.rs`.
+//! value passed on and taken apart, and events of four leaves and of a byte too few. Lent memory is in `wide_memory.rs`.
 
 mod common;
 
 use common::*;
-use reference::event::{self, event_bytes, leaf_columns, with_four_leaves, ENTRY, EVENT};
+use reference::event::{self, event_bytes, leaf_columns, with_four_leaves, without_role, ENTRY, EVENT, EVENT_BEFORE};
 use reference::leaf_edges::{self, fitting, mixed, Nesting, Rows, NESTINGS};
 use reference::limits::{ENCLOSING, LEAVES, LEAVES_BEFORE};
 use reference::rules::Rules;
@@ -25,11 +25,11 @@ fn answers(screens: &[Screen]) -> Vec<i32> {
     screens.iter().map(|screen| screen.answer).collect()
 }
 
-/// The figures of the request, which every width is reckoned to.
+/// The figures of the request, which every width is reckoned to; CR 6 puts two columns in front of an event.
 #[test]
 fn the_figures() {
-    assert_eq!((LEAVES, EVENT, ENTRY, HEAD), (8, 115, 35, 112 + 1));
-    assert_eq!(event_bytes(LEAVES_BEFORE), 67);
+    assert_eq!((LEAVES, EVENT, ENTRY, HEAD), (8, 117, 35, 112 + 1));
+    assert_eq!((EVENT_BEFORE, event_bytes(LEAVES_BEFORE)), (115, 2 + 67));
     let line = session::screens(&input(&printed().text(), &[]), Rules::default());
     assert_eq!(line.iter().position(|&byte| byte == b'\n'), Some(112));
     assert_eq!(line.len(), HEAD + ENTRY);
@@ -166,22 +166,25 @@ fn the_eighth_leaf_at_narrower_editors() {
     }
 }
 
-/// Events are cut every 115 bytes. One of 67, as it was, gets 8, and so does one of 114; one of 115 is read.
+/// Events are cut every 117 bytes. One of four leaves gets 8, with a role and without, as it was, and so does one of 116.
 #[test]
 fn lengths_of_events() {
     let mut sheet = numbers();
     sheet.empty();
-    let (whole, old) = (value("", 12), with_four_leaves(&value("", 12)));
-    assert_eq!((old.len(), old[66]), (67, b'\n'));
+    let (whole, narrow) = (value("", 12), with_four_leaves(&value("", 12)));
+    let old = without_role(&narrow);
+    assert_eq!((narrow.len(), old.len(), old[66]), (69, 67, b'\n'));
     let of = |events: &[u8]| answers(&screens(&sheet, &[events.to_vec()]));
     assert_eq!(of(&whole), [0, 0]);
-    assert_eq!(of(&old), [0, 8]);
-    assert_eq!(of(&whole[..114]), [0, 8]);
-    assert_eq!(of(&[&whole[..], &old].concat()), [0, 0, 8]);
-    // Two old ones are one event and a short one, neither of which can be read.
-    assert_eq!(of(&old.repeat(2)), [0, 8, 8]);
+    assert_eq!(of(&whole[..116]), [0, 8]);
+    for short in [narrow, old] {
+        assert_eq!(of(&short), [0, 8]);
+        assert_eq!(of(&[&whole[..], &short].concat()), [0, 0, 8]);
+        // Two of them are one event and a short one, neither of which can be read.
+        assert_eq!(of(&short.repeat(2)), [0, 8, 8]);
+    }
     let text = String::from_utf8(whole).expect("text");
-    assert_eq!(text, format!("               0 1          12{}\n", "           0".repeat(7)));
+    assert_eq!(text, format!(" 1               0 1          12{}\n", "           0".repeat(7)));
 }
 
 /// The edges are told apart by their names, are among those that programs are compared on, and catch every slip about
@@ -203,8 +206,8 @@ fn edges_of_leaves() {
         Slip::BlankUnusedLeafRefused,
         Slip::LastKindNotShown,
         Slip::EntriesOf27,
-        Slip::EventsOf67,
-        Slip::EventOf67Read,
+        Slip::EventsOfFourLeaves,
+        Slip::EventOfFourLeavesRead,
         Slip::LastLeafUnread,
         Slip::HeadOf64,
     ];

@@ -1,5 +1,5 @@
 //! Grounds 8 and 9: events that cannot be read, and events that nothing takes. Blanks are in
-//! `blank_events.rs`.
+//! `blank_events.rs`, grounds 30 and 31 in `roles.rs`.
 
 mod common;
 
@@ -21,20 +21,24 @@ fn grounds_8_and_9() {
         assert_eq!(answer(event::write("", action, [0; LEAVES])), 8);
     }
     for (at, byte) in [
-        (15, b'\t'),
-        (16, b'0'),
-        (16, b'+'),
-        (17, b' '),
-        (29, b'x'),
+        (0, b'0'),
+        (0, b'1'),
+        (1, b' '),
+        (1, b'9'),
+        (17, b'\t'),
+        (18, b'0'),
+        (18, b'+'),
+        (19, b' '),
+        (31, b'x'),
         (EVENT - 1, b' '),
         (EVENT - 1, b'\r'),
-        (28, b'0'),
-        (28, b'+'),
-        (28, b'5'),
+        (30, b'0'),
+        (30, b'+'),
+        (30, b'5'),
     ] {
         let mut event = value("", 5);
         event[at] = byte;
-        let readable = at == 28 && byte == b'5';
+        let readable = at == 30 && byte == b'5';
         assert_eq!(answer(event), if readable { 0 } else { 8 }, "byte {byte} at {at}");
     }
     for action in 2..=4 {

@@ -10,6 +10,7 @@ use reference::generate::{self, states};
 use reference::lent::{self, Lent};
 use reference::limits::LEAVES;
 use reference::random::Random;
+use reference::roles::Role;
 use reference::rules::{Asking, Rules};
 use reference::sheet::LINES;
 use reference::slips::Slip;
@@ -31,7 +32,7 @@ fn each_number_is_hit_in_each_call() {
         }
     }
     let numbers: [&[usize]; 4] =
-        [&[0, 1, 2, 3, 4, 5, 6, 7, 21], &[0, 20, 21], &[0, 20, 21, 22, 23, 24], &[0, 8, 9, 20, 21, 22, 23]];
+        [&[0, 1, 2, 3, 4, 5, 6, 7, 21], &[0, 20, 21], &[0, 8, 20, 21, 22, 23, 24], &[0, 8, 9, 20, 21, 22, 23, 30, 31]];
     for ((tally, numbers), call) in tallies.iter().zip(numbers).zip(["load", "start", "look", "handle"]) {
         println!("{call}:{tally}");
         assert_eq!(tally.total(), numbers.iter().map(|&number| tally.of(number)).sum(), "{call}:{tally}");
@@ -61,9 +62,12 @@ fn both_ways_of_asking_agree_at_any_rest() {
         let mut other = words::read(&literal, &words::write(&flow, &state)).expect("read");
         assert_eq!(state.normalise(), other.normalise());
         assert_eq!(words::write(&flow, &state), words::write(&literal, &other));
-        assert_eq!(state.look(), other.look());
+        assert_eq!(
+            (1..=8).map(|role| state.look(role)).collect::<Vec<_>>(),
+            (1..=8).map(|role| other.look(role)).collect::<Vec<_>>()
+        );
         for _ in 0..3 {
-            let event = generate::touches::event(random, &state.look().entries);
+            let event = generate::touches::event(random, &state);
             assert_eq!(state.handle(&event), other.handle(&event));
             assert_eq!(words::write(&flow, &state), words::write(&literal, &other));
         }
@@ -172,11 +176,11 @@ fn is_failed(state: &[i32]) -> bool {
     state.len().checked_sub(STATE_ROW).is_some_and(|last| state[last] == words::WHOLE)
 }
 
-/// The entries of a state, at rest or not.
-fn entries(rows: &[i32], state: &[i32]) -> usize {
+/// The entries of a state, at rest or not, for a role.
+fn entries(rows: &[i32], state: &[i32], role: Role) -> usize {
     let flow = calls::flow_of(rows).expect("accepted");
     let state = words::read(&flow, state).expect("a state");
-    state.look().entries.len()
+    state.look(role).entries.len()
 }
 
 /// 21 by the length of the rows memory alone.
@@ -237,18 +241,18 @@ impl Engine for Fault {
         }
     }
 
-    fn look(&self, rows: &[i32], state: &[i32], value: &mut [i32], list: &mut [u8]) -> Looked {
+    fn look(&self, rows: &[i32], state: &[i32], role: Role, value: &mut [i32], list: &mut [u8]) -> Looked {
         let refused = |number| Looked { number, ..Looked::default() };
         let (value_before, room) = (value.to_vec(), list.len());
-        let mut looked = calls::look(rows, &misread(*self, rows, state), value, list);
+        let mut looked = calls::look(rows, &misread(*self, rows, state), role, value, list);
         let refuse = looked.number != 0;
         match self {
             MemoryBeforeRows if wrong_length(rows, state) => return refused(21),
             ValueMemoryAfterState if looked.number == 21 && !wrong_length(rows, state) => {
-                let after = calls::look(rows, state, &mut [0; LEAVES], &mut [0; ENTRY * LINES]).number;
+                let after = calls::look(rows, state, role, &mut [0; LEAVES], &mut [0; ENTRY * LINES]).number;
                 return refused(if after == 0 { 21 } else { after });
             }
-            ListBeforeRest if looked.number == 23 && room < ENTRY * entries(rows, state) => return refused(24),
+            ListBeforeRest if looked.number == 23 && room < ENTRY * entries(rows, state, role) => return refused(24),
             ValueKeptWithoutValue if !refuse && !looked.valued => value.copy_from_slice(&value_before),
             ValueClearedOnRefusal if refuse => value.fill(0),
             FlagsExchanged => (looked.valued, looked.fails) = (looked.fails, looked.valued),

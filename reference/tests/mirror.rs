@@ -3,7 +3,7 @@
 mod common;
 
 use common::pairs::{answers, corresponding, difference, paths, printed};
-use common::{go_on, left, numbers, padded, read_screens, right, value, Sheet};
+use common::{by, go_on, left, numbers, padded, read_screens, right, value, Screen, Sheet};
 use reference::counterparts::{mirrored_event, mirrored_sheet, Reading};
 use reference::event::{self, EVENT};
 use reference::pair_report::{Of, Report};
@@ -76,7 +76,7 @@ fn refused_touches_have_counterparts() {
     }
     touches.push(vec![b' '; EVENT - 1]);
     touches.last_mut().expect("one").push(b'\n');
-    for length in [1, 15, 16, 17, 67, 114] {
+    for length in [1, 2, 3, 17, 18, 19, 69, 115, 116] {
         let touches = [&touches[..], &[value("1", 5)[..length].to_vec()]].concat();
         let [first, second] = corresponding(&mirrored(&uneven(), &touches));
         assert_eq!(answers(&first), answers(&second));
@@ -84,7 +84,8 @@ fn refused_touches_have_counterparts() {
         assert!([8, 9].iter().all(|ground| answers(&first).contains(ground)));
         assert_eq!(first.last().map(|screen| screen.answer), Some(8));
     }
-    assert_eq!(mirrored_event(b"  1", Reading::AsMeant), b"  2");
+    assert_eq!(mirrored_event(b" 1  1", Reading::AsMeant), b" 1  2");
+    assert_eq!(mirrored_event(b" 1", Reading::AsMeant), b" 1");
     assert_eq!(mirrored_event(b"", Reading::AsMeant), b"");
 }
 
@@ -155,6 +156,37 @@ fn mirrored_paths_of_16_marks() {
     assert!(paths(&first[0]).contains(&format!("{deepest} 1")));
     assert_eq!(paths(&second[0])[15], "1222222222222222 1");
     assert_eq!(answers(&second), [0, 0, 0]);
+}
+
+/// Rows of kind 50 in the halves (CR 6): answers, each role's list and the touches left correspond.
+#[test]
+fn roles_and_touches() {
+    let mut sheet = numbers();
+    let (one, two) = (sheet.empty(), sheet.empty());
+    let counter = sheet.gate(2, two, 1);
+    let both = sheet.row(46, one, counter, 0);
+    let (filled, then) = (sheet.filled(5), sheet.shown(6));
+    let step = sheet.row(44, filled, then, 0);
+    let customer = sheet.gate(1, step, 2);
+    sheet.row(46, both, customer, 0);
+    let touches = [
+        by(1, value("12", 7)),
+        by(2, value("12", 7)),
+        by(2, value("12", 8)),
+        by(3, value("11", 9)),
+        by(2, go_on("2")),
+        value("2", 4),
+        go_on("2"),
+        go_on("2"),
+        by(9, go_on("2")),
+    ];
+    let [first, second] = corresponding(&mirrored(&sheet, &touches));
+    assert_eq!(answers(&first), [0, 30, 0, 31, 0, 30, 0, 0, 9, 8]);
+    // After 30 the screen is role 1's, then role 2's; after a bad role it is role 1's again.
+    let lists = |screens: &[Screen]| screens.iter().map(paths).collect::<Vec<_>>();
+    assert_eq!(lists(&first)[..3], [vec!["11 1", "2 1", "2 2"], vec!["11 1", "2 1", "2 2"], vec!["11 1"]]);
+    assert_eq!(lists(&second)[..3], [vec!["1 1", "1 2", "21 1"], vec!["1 1", "1 2", "21 1"], vec!["21 1"]]);
+    assert_eq!(second[8].value, Some(padded(&[6, 9, 7])));
 }
 
 /// The pairs that are generated: no writes where none are meant, and a last row as asked.
@@ -231,7 +263,7 @@ fn wrong_readings_are_found() {
     let readings = Reading::WRONG_OF_MIRRORED.map(|reading| (Of::Mirrored, reading));
     let others = Reading::WRONG_OF_REGROUPED.map(|reading| (Of::Regrouped, reading));
     for (of, reading) in readings.into_iter().chain(others) {
-        let found = of.pairs(2, 200, reading).filter(|pair| difference(pair).is_some()).count();
+        let found = of.pairs(2, 400, reading).filter(|pair| difference(pair).is_some()).count();
         assert!(found >= 10, "{reading:?} is found by {found} pairs");
     }
     for reading in Reading::WRONG_OF_MIRRORED {

@@ -4,6 +4,7 @@ mod common;
 
 use common::read_screens;
 use reference::calls::{self, ROW};
+use reference::roles::{Role, FIRST};
 use reference::rules::Rules;
 use reference::session;
 use reference::sheet::LINE;
@@ -53,8 +54,9 @@ fn each_example_gives_its_numbers() {
 fn each_number_has_examples() {
     let examples = examples();
     let mut sections: Vec<u32> = examples.iter().filter_map(|example| example.section).collect();
+    sections.sort_unstable();
     sections.dedup();
-    assert_eq!(sections, (1..=9).chain(20..=24).collect::<Vec<_>>());
+    assert_eq!(sections, (1..=9).chain(20..=24).chain(30..=31).collect::<Vec<_>>());
     for number in sections {
         let mut of_number = examples.iter().filter(|example| example.section == Some(number));
         assert!(of_number.clone().any(|example| example.gives.contains(&number)), "{number}");
@@ -72,12 +74,13 @@ fn answers(input: &str) -> Vec<u32> {
     read_screens(&screens).iter().map(|screen| screen.answer as u32).collect()
 }
 
-/// What a `call` lends.
+/// What a `call` lends; a look is in role 1 where its block names none.
 #[derive(Default)]
 struct Lent {
     call: String,
     rows: Vec<i32>,
     state: Vec<i32>,
+    role: Option<Role>,
     value: Vec<i32>,
     list: Vec<u8>,
     sheet: String,
@@ -94,6 +97,7 @@ impl Lent {
                 "call" => lent.call = content.to_string(),
                 "rows" => lent.rows.extend(words(content)),
                 "state" => lent.state.extend(words(content)),
+                "role" => lent.role = Some(content.parse().expect("a role")),
                 "value" => lent.value = vec![7; content.parse().expect("a length")],
                 "list" => lent.list = vec![b'#'; content.parse().expect("a length")],
                 "sheet" => lent.sheet += &format!("{content}\n"),
@@ -108,7 +112,10 @@ impl Lent {
         match &self.call[..] {
             "load" => calls::load(self.sheet.as_bytes(), &mut self.rows),
             "start" => calls::start(&self.rows, &mut self.state).0,
-            "look" => calls::look(&self.rows, &self.state, &mut self.value, &mut self.list).number,
+            "look" => {
+                let role = self.role.unwrap_or(FIRST);
+                calls::look(&self.rows, &self.state, role, &mut self.value, &mut self.list).number
+            }
             "handle" => calls::handle(&self.rows, &mut self.state, self.event.as_bytes()).0,
             other => panic!("no such call: {other}"),
         }

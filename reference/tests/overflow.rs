@@ -9,6 +9,7 @@ use reference::event::{ENTRY, EVENT};
 use reference::flow::Flow;
 use reference::limits::LEAVES;
 use reference::overflow_edges::{self, Form, Place, Rows, BEYOND, IDLE, PLACES, PLAINS, TASKS};
+use reference::roles::FIRST;
 use reference::rules::Rules;
 use reference::state::{LastRow, State};
 use reference::value::{Leaves, Value};
@@ -307,7 +308,7 @@ fn failed_start() -> (Vec<i32>, Vec<i32>) {
 
 fn look(rows: &[i32], state: &[i32], list: usize) -> (Looked, Leaves) {
     let mut value = [9; LEAVES];
-    (calls::look(rows, state, &mut value, &mut vec![b'#'; list]), value)
+    (calls::look(rows, state, FIRST, &mut value, &mut vec![b'#'; list]), value)
 }
 
 /// Number and strides; a refusal keeps the state.
@@ -356,7 +357,7 @@ fn the_order_of_grounds_at_a_failed_start() {
     }
     assert_eq!(look(&bad_rows, &longer, 0).0.number, 20);
     assert_eq!(look(&rows, &longer, 0).0.number, 21);
-    assert_eq!(calls::look(&rows, &no_state, &mut [9; 3], &mut []).number, 21);
+    assert_eq!(calls::look(&rows, &no_state, FIRST, &mut [9; 3], &mut []).number, 21);
     assert_eq!(look(&rows, &no_state, 0).0.number, 22);
 }
 

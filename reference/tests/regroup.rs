@@ -3,8 +3,8 @@
 mod common;
 
 use common::pairs::{answers, corresponding, difference, paths};
-use common::{go_on, input, left, loads, numbers, padded, right, value, Sheet};
-use reference::counterparts::{regrouped, rotated, rotated_back, Reading};
+use common::{by, go_on, input, left, loads, numbers, padded, right, value, Sheet};
+use reference::counterparts::{regrouped_event, rotated, rotated_back, Reading};
 use reference::event;
 use reference::pairs::{Chosen, Pair};
 use reference::rules::Rules;
@@ -186,6 +186,39 @@ fn cells_that_moved_and_writes() {
     assert_eq!(one.iter().map(|screen| screen.leaf()).collect::<Vec<_>>(), [None, Some(7), Some(8), Some(9)]);
 }
 
+/// Rows of kind 50 in the parts (CR 6): answers, each role's list and the touches left correspond, before the choice and after.
+#[test]
+fn roles_and_touches() {
+    let gated = |role: i32, touches: i32| {
+        move |sheet: &mut Sheet| {
+            let task = in_parts(sheet);
+            sheet.gate(role, task, touches)
+        }
+    };
+    let (a, b, c) = (gated(1, 0), gated(2, 4), gated(3, 2));
+    let touches = [
+        value("111", 1),
+        by(2, value("111", 1)),
+        by(2, value("121", 1)),
+        by(3, value("21", 2)),
+        by(3, value("22", 3)),
+        by(3, left("2")),
+        by(2, value("122", 3)),
+        by(2, left("12")),
+        by(2, value("12", 4)),
+        by(2, value("", 5)),
+        by(1, value("", 5)),
+    ];
+    let pair = pair([&a, &b, &c], &touches);
+    let [one, other] = corresponding(&pair);
+    assert_eq!(answers(&one), [0, 31, 30, 0, 0, 0, 31, 0, 0, 0, 31, 30]);
+    // Role 1 sees nothing, role 2 sees b, and role 3 has no touch left for c.
+    assert_eq!([&one[0], &one[2], &one[4], &one[5]].map(|screen| paths(screen).len()), [0, 2, 2, 0]);
+    assert_eq!((paths(&one[3]), paths(&other[3])), (words(&["121 1", "122 1"]), words(&["211 1", "212 1"])));
+    assert_eq!(chosen(&pair)[8..10], [None, Some(Chosen::B)]);
+    assert_eq!((one[9].leaf(), paths(&other[9])), (Some(4), vec![]));
+}
+
 /// 14 marks in c: 15 on the one sheet and 16 on the other. One mark more is refused there.
 #[test]
 fn the_16th_mark() {
@@ -288,8 +321,8 @@ fn rotating_is_undone_by_rotating_back() {
     // Columns that are no path stay, whatever is made of them.
     for columns in ["0", "", "3", "1 2", "21 ", "x"] {
         let event = go_on(columns);
-        assert_eq!(regrouped(&event, false, Reading::AsMeant), Some(event));
+        assert_eq!(regrouped_event(&event, false, Reading::AsMeant), Some(event));
     }
-    assert_eq!(regrouped(&right("2"), true, Reading::AsMeant), Some(right("2")));
-    assert_eq!(regrouped(&right("2"), false, Reading::AsMeant), Some(right("22")));
+    assert_eq!(regrouped_event(&right("2"), true, Reading::AsMeant), Some(right("2")));
+    assert_eq!(regrouped_event(&by(7, right("2")), false, Reading::AsMeant), Some(by(7, right("22"))));
 }

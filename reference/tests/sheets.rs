@@ -36,7 +36,7 @@ fn ground_2_fields() {
 
 #[test]
 fn ground_3_kinds_operators_truths_and_unused_operands() {
-    for kind in [-1, 0, 5, 9, 11, 19, 32, 39, 50, 60, 999] {
+    for kind in [-1, 0, 5, 9, 11, 19, 32, 39, 51, 60, 999] {
         assert_eq!(rows(&[[kind, 0, 0, 0], [20, 0, 0, 0], [40, 1, 0, 0]]), 3, "kind {kind}");
     }
     for operator in [-1, 0, 9] {
@@ -52,7 +52,7 @@ fn ground_3_kinds_operators_truths_and_unused_operands() {
     // An operand that the kind does not use must be 0.
     for (kind, places) in USED {
         for place in 1..=3 {
-            let mut row = [kind, if kind == 24 { 1 } else { 0 }, 0, 0];
+            let mut row = [kind, i32::from(matches!(kind, 24 | 50)), 0, 0];
             row[place] = 1;
             let refused = rows(&[row, [20, 0, 0, 0], [40, 1, 0, 0]]) == 3;
             assert_eq!(refused, !places.contains(&place), "kind {kind} place {place}");
@@ -65,7 +65,7 @@ fn ground_4_operands() {
     // Row 0 number, 1 cell, 2 plain, 3 task: each place asks its own sort.
     let lower = [[3, 0, 0, 0], [10, 0, 0, 0], [22, 7, 0, 0], [41, 0, 0, 0]];
     let sorts = ["type", "cell", "plain", "task"];
-    let asks: [(i32, usize, &[&str]); 31] = [
+    let asks: [(i32, usize, &[&str]); 32] = [
         (4, 1, &["type"]),
         (4, 2, &["type"]),
         (10, 1, &["type"]),
@@ -96,6 +96,7 @@ fn ground_4_operands() {
         (48, 1, &["task"]),
         (48, 2, &["task"]),
         (49, 1, &["plain"]),
+        (50, 2, &["task"]),
         (25, 2, &["task"]),
     ];
     for (kind, place, asked) in asks {
@@ -112,6 +113,7 @@ fn ground_4_operands() {
                 30 => [30, 1, 2, 0],
                 31 => [31, 2, 3, 0],
                 41 | 45 => [kind, 0, 0, 0],
+                50 => [50, 1, 3, 1],
                 _ => [kind, 3, 3, 0],
             };
             row[place] = operand as i32;
@@ -119,7 +121,11 @@ fn ground_4_operands() {
             assert_eq!(rows(&sheet) == 4, !asked.contains(&sort), "kind {kind} place {place} {sort}");
         }
         for operand in [4, 5, -1, i32::MAX, i32::MIN] {
-            let mut row = if kind == 24 { [24, 1, 2, 2] } else { [kind, 0, 0, 0] };
+            let mut row = match kind {
+                24 => [24, 1, 2, 2],
+                50 => [50, 1, 3, 1],
+                _ => [kind, 0, 0, 0],
+            };
             row[place] = operand;
             assert_eq!(rows(&[&lower[..], &[row]].concat()), 4, "kind {kind} place {place} names {operand}");
         }
@@ -144,6 +150,8 @@ fn ground_5_naming() {
     assert_eq!(rows(&[[22, 1, 0, 0], [22, 1, 0, 0], [26, 0, 1, 0]]), 5);
     assert_eq!(rows(&[[20, 0, 0, 0], [40, 0, 0, 0], [3, 0, 0, 0]]), 5);
     assert_eq!(rows(&[[20, 0, 0, 0], [49, 0, 0, 0]]), 0);
+    assert_eq!(rows(&[[3, 0, 0, 0], [41, 0, 0, 0], [50, 1, 1, 1]]), 0);
+    assert_eq!(rows(&[[3, 0, 0, 0], [41, 0, 0, 0], [50, 1, 1, 1], [50, 1, 1, 1]]), 5);
     // A plain 25 or 31 as the last row passes 5 and gets 7, unless 6 comes first.
     assert_eq!(rows(&[[21, 1, 0, 0], [20, 0, 0, 0], [20, 0, 0, 0], [25, 0, 1, 2]]), 7);
     assert_eq!(rows(&[[20, 0, 0, 0], [20, 0, 0, 0], [31, 0, 1, 0]]), 7);

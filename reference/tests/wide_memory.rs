@@ -1,4 +1,4 @@
-//! Eight leaves (CR 4) in lent memory: value memory of 8 words, list memory of 35 bytes an entry, events of 115 bytes, eight
+//! Eight leaves (CR 4) in lent memory: value memory of 8 words, list memory of 35 bytes an entry, events of 117 bytes, eight
 //! leaves in a row of a state; states that were parked before, which are opened as they are; and wrong engines that kept
 //! a figure of before.
 
@@ -7,10 +7,11 @@ mod common;
 use common::*;
 use reference::calls::{self, Looked, ROW};
 use reference::engine::{Answers, Engine, Reference};
-use reference::event::{self, entry_bytes, event_bytes, with_four_leaves, Event, ENTRY, EVENT, LEAF};
+use reference::event::{self, entry_bytes, event_bytes, with_four_leaves, without_role, Event, ENTRY, EVENT, LEAF};
 use reference::leaf_edges::{fitting, mixed, Nesting, Rows, NESTINGS};
 use reference::lent::{self, Lent};
 use reference::limits::{LEAVES, LEAVES_BEFORE};
+use reference::roles::{Role, FIRST};
 use reference::slips::Slip;
 use reference::value::Leaves;
 use reference::words::{self, STATE_ROW};
@@ -27,7 +28,7 @@ fn editor(leaves: usize, nesting: Nesting) -> (Vec<i32>, Vec<i32>) {
 
 fn look(rows: &[i32], state: &[i32], value: usize, list: usize) -> (Looked, Vec<i32>) {
     let mut value = vec![9; value];
-    let looked = calls::look(rows, state, &mut value, &mut vec![b'#'; list]);
+    let looked = calls::look(rows, state, FIRST, &mut value, &mut vec![b'#'; list]);
     (looked, value)
 }
 
@@ -48,7 +49,7 @@ fn lengths_of_value_and_list() {
     assert_eq!(look(&rows, &state, 8, 35).0, Looked { number: 0, valued: false, fails: false, bytes: 35 });
 }
 
-/// 8 for every length of an event but 115 bytes, 67 among them.
+/// 8 for every length of an event but 117 bytes, those of four leaves and of no role among them.
 #[test]
 fn lengths_of_an_event() {
     let (rows, state) = editor(1, Nesting::Even);
@@ -56,9 +57,10 @@ fn lengths_of_an_event() {
     let handled = |event: &[u8]| calls::handle(&rows, &mut state.clone(), event).0;
     for bytes in 0..EVENT {
         assert_eq!(handled(&whole[..bytes]), 8, "{bytes} bytes");
-        assert_eq!(handled(&[&whole[..bytes], b"\n"].concat()), if bytes == 114 { 0 } else { 8 }, "{bytes} columns");
+        assert_eq!(handled(&[&whole[..bytes], b"\n"].concat()), if bytes == 116 { 0 } else { 8 }, "{bytes} columns");
     }
     assert_eq!(handled(&with_four_leaves(&whole)), 8);
+    assert_eq!((handled(&without_role(&whole)), handled(&without_role(&with_four_leaves(&whole)))), (8, 8));
     assert_eq!((handled(&whole), handled(&whole.repeat(2))), (0, 8));
 }
 
@@ -183,8 +185,8 @@ enum Kept {
     ValueOf4Words,
     /// Ground 24 is asked by 27 bytes an entry.
     ListOf27Bytes,
-    /// An event of 67 bytes is read.
-    EventOf67Bytes,
+    /// An event of four leaves is read.
+    EventOfFourLeaves,
     /// Leaf 8 of a row is not written into a state.
     LeafDropped,
     /// Leaf 8 of a row is not read from a state.
@@ -195,7 +197,7 @@ enum Kept {
 
 use Kept::*;
 
-const KEPT: [Kept; 6] = [ValueOf4Words, ListOf27Bytes, EventOf67Bytes, LeafDropped, LeafUnread, StateOfFourLeaves];
+const KEPT: [Kept; 6] = [ValueOf4Words, ListOf27Bytes, EventOfFourLeaves, LeafDropped, LeafUnread, StateOfFourLeaves];
 
 impl Kept {
     /// The state as this engine has it.
@@ -227,35 +229,35 @@ impl Engine for Kept {
         answer
     }
 
-    fn look(&self, rows: &[i32], state: &[i32], value: &mut [i32], list: &mut [u8]) -> Looked {
+    fn look(&self, rows: &[i32], state: &[i32], role: Role, value: &mut [i32], list: &mut [u8]) -> Looked {
         let state = &self.misread(state, LeafUnread);
         let before = value.to_vec();
         if *self == ValueOf4Words && value.len() == LEAVES_BEFORE {
             let mut wide = [0; LEAVES];
-            let looked = calls::look(rows, state, &mut wide, list);
+            let looked = calls::look(rows, state, role, &mut wide, list);
             if looked.number == 0 {
                 value.copy_from_slice(&wide[..LEAVES_BEFORE]);
             }
             return looked;
         }
-        let looked = calls::look(rows, state, value, list);
+        let looked = calls::look(rows, state, role, value, list);
         if looked.number == 0 && self.refuses(state) {
             value.copy_from_slice(&before);
             return Looked { number: 22, ..Looked::default() };
         }
         if *self == ListOf27Bytes && looked.number == 24 {
             let mut long = vec![0; rows.len() / ROW * ENTRY];
-            let needed = calls::look(rows, state, &mut [0; LEAVES], &mut long).bytes / ENTRY;
+            let needed = calls::look(rows, state, role, &mut [0; LEAVES], &mut long).bytes / ENTRY;
             if list.len() >= needed * entry_bytes(LEAVES_BEFORE) {
                 list.copy_from_slice(&long[..list.len()]);
-                return calls::look(rows, state, value, &mut long);
+                return calls::look(rows, state, role, value, &mut long);
             }
         }
         looked
     }
 
     fn handle(&self, rows: &[i32], state: &mut [i32], event: &[u8]) -> (u32, u32) {
-        let old = *self == EventOf67Bytes && event.len() == event_bytes(LEAVES_BEFORE) && event.ends_with(b"\n");
+        let old = *self == EventOfFourLeaves && event.len() == event_bytes(LEAVES_BEFORE) && event.ends_with(b"\n");
         let leaves = format!("{:>LEAF$}", 0).repeat(LEAVES - LEAVES_BEFORE);
         let event = match old {
             true => &[&event[..event.len() - 1], leaves.as_bytes(), b"\n"].concat()[..],

@@ -59,7 +59,9 @@ fn lines() -> Vec<Line> {
     let taken = "| 43, 44 | a value of A's type and a task of B under it | 2 | that value | B |";
     let chosen = "| 47 | the left, the right | 2, 3 | | A, B |";
     let picked = "| 48 | a side and its task | 2, 3 | | A, B |";
+    let gated = "| 50 | touches left, and a task of B | 1 | the touches left, a number | B |";
     let decided = "| 25 | a side and its task | 2, 3 | | B, C |";
+    let gate = [NUMBER, EMPTY, [50, 2, 1, 3]];
     // P12's sum, beside a cell.
     let beyond = [NUMBER, [10, 0, 6, 0], [22, i32::MAX, 0, 0], [22, 1, 0, 0], [24, 1, 2, 3], [40, 4, 0, 0]];
     let in_cells = [number(2, 1, -7), (3, 1, 2, padded(&[1])), bare(4, 1)];
@@ -82,6 +84,8 @@ fn lines() -> Vec<Line> {
         line(picked, &two(48), &[left("")], &[bare(1, 1), bare(3, 2)]),
         line(picked, &two(48), &[right("")], &[bare(2, 1), bare(3, 3)]),
         line("| 49 | shown | 1 | its content | |", &pair(49), &[], &[(3, 1, 60, padded(&[5, -6]))]),
+        line(gated, &gate, &[], &[bare(1, 1), number(2, 1, 3)]),
+        line(gated, &gate, &[by(2, value("", 6))], &[number(1, 2, 6), number(2, 1, 2)]),
         line(decided, &either(1), &[], &[bare(2, 1), bare(4, 2)]),
         line(decided, &either(0), &[], &[bare(3, 1), bare(4, 3)]),
         line(
@@ -214,7 +218,7 @@ fn reads_as_another(flow: &Flow, words: &[i32], changed: &[i32]) -> bool {
     if let Some(state) = &read {
         assert_eq!(words::write(flow, state), changed);
         assert_eq!(words::read(flow, words).as_ref() == Some(state), words == changed);
-        let value = state.look().value;
+        let value = state.look(1).value;
         assert!(value.is_none_or(|value| value.type_of() == flow.own_type));
     }
     read.is_some()

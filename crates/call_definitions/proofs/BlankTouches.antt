@@ -31,7 +31,7 @@ use Rattle.formats.specs.Lists.{entryAt, CoversAt}
 use Rattle.formats.proofs.CoversRead.{event-of, says-of, readable, leaves-long}
 use Rattle.formats.proofs.BlankEvents.{leafBytes, BlankedEvent, BlankedTouch, both-unread, both-say, says-blanked, path-blank, leaf-spaces}
 use Rattle.call_definitions.specs.Memory.{CallAnswer}
-use Rattle.call_definitions.specs.Answers.{Shut, shut-20, shut-21, shut-22, shut-23, HandleAnswers, handle-shut, handle-8, handle-9, handle-0}
+use Rattle.call_definitions.specs.Answers.{Shut, shut-20, shut-21, shut-22, shut-23, HandleAnswers, handle-shut, handle-8, handle-9, handle-30, handle-31, handle-0}
 use Rattle.call_definitions.specs.Calls.{opened, handleIn, handleCall}
 use Rattle.call_definitions.specs.Touches.{Stands}
 use Rattle.call_definitions.proofs.HandleAnswered.{handle-derived, handle-only}
@@ -43,42 +43,42 @@ same-answer rows ws e f h = ap (λ o. handleIn rows ws o (opened rows ws true)) 
 
 same-touch : (e f : List ℕ) → eventSays f ≡ eventSays e → eventOf f ≡ eventOf e
 unfolding eventOf
-same-touch e f h = ap (λ o. bind o λ t. some (t .0, actionOf (t .1) (t .2))) h
+same-touch e f h = ap (λ o. bind o λ t. some (t .0, t .1, actionOf (t .2) (t .3))) h
 
 module _ {e f : List ℕ} (b : BlankedEvent e f) where
   -- what the event with the zeros says, by what the other says
-  filled : {p : Path} {a : Act} {ms : List Given} → eventSays f ≡ some (p, a, ms) → (ls : List Given) × (eventSays e ≡ some (p, a, ls)) × Blanked ls ms
-  filled {p} {a} {ms} h = by (says-blanked b) refl h
+  filled : {r : ℕ} {p : Path} {a : Act} {ms : List Given} → eventSays f ≡ some (r, p, a, ms) → (ls : List Given) × (eventSays e ≡ some (r, p, a, ls)) × Blanked ls ms
+  filled {r} {p} {a} {ms} h = by (says-blanked b) refl h
     where
-      by : {o q : Option (Path × Act × List Given)} → BlankedTouch o q → eventSays e ≡ o → q ≡ some (p, a, ms) → (ls : List Given) × (eventSays e ≡ some (p, a, ls)) × Blanked ls ms
+      by : {o q : Option (ℕ × Path × Act × List Given)} → BlankedTouch o q → eventSays e ≡ o → q ≡ some (r, p, a, ms) → (ls : List Given) × (eventSays e ≡ some (r, p, a, ls)) × Blanked ls ms
       by both-unread g k = no-some k
       by (both-say {ls = ls} {ms = ns} d) g k =
           let t = some-is k in
-          (ls, g ∙ ap (λ u. some (u .0, u .1, ls)) t, subst (Blanked ls) (ap (λ u. u .2) t) d)
+          (ls, g ∙ ap (λ u. some (u .0, u .1, u .2, ls)) t, subst (Blanked ls) (ap (λ u. u .3) t) d)
 
   -- and the other way round
-  emptied : {p : Path} {a : Act} {ls : List Given} → eventSays e ≡ some (p, a, ls) → (ms : List Given) × (eventSays f ≡ some (p, a, ms)) × Blanked ls ms
-  emptied {p} {a} {ls} h = by (says-blanked b) refl h
+  emptied : {r : ℕ} {p : Path} {a : Act} {ls : List Given} → eventSays e ≡ some (r, p, a, ls) → (ms : List Given) × (eventSays f ≡ some (r, p, a, ms)) × Blanked ls ms
+  emptied {r} {p} {a} {ls} h = by (says-blanked b) refl h
     where
-      by : {o q : Option (Path × Act × List Given)} → BlankedTouch o q → eventSays f ≡ q → o ≡ some (p, a, ls) → (ms : List Given) × (eventSays f ≡ some (p, a, ms)) × Blanked ls ms
+      by : {o q : Option (ℕ × Path × Act × List Given)} → BlankedTouch o q → eventSays f ≡ q → o ≡ some (r, p, a, ls) → (ms : List Given) × (eventSays f ≡ some (r, p, a, ms)) × Blanked ls ms
       by both-unread g k = no-some k
       by (both-say {ls = ns} {ms = ms} d) g k =
           let t = some-is k in
-          (ms, g ∙ ap (λ u. some (u .0, u .1, ms)) t, subst (λ ls. Blanked ls ms) (ap (λ u. u .2) t) d)
+          (ms, g ∙ ap (λ u. some (u .0, u .1, u .2, ms)) t, subst (λ ls. Blanked ls ms) (ap (λ u. u .3) t) d)
 
   blanked-action : (a : Act) {ls ms : List Given} → Blanked ls ms → BlankedAction (actionOf a ls) (actionOf a ms)
   unfolding actionOf
   blanked-action giving d = in-leaves d
   blanked-action (pressing x) d = in-none
 
-  action-filled : {p : Path} {y : Action} → eventOf f ≡ some (p, y) → (x : Action) × (eventOf e ≡ some (p, x)) × BlankedAction x y
+  action-filled : {r : ℕ} {p : Path} {y : Action} → eventOf f ≡ some (r, p, y) → (x : Action) × (eventOf e ≡ some (r, p, x)) × BlankedAction x y
   action-filled h =
       let (a, ms, g, q) = says-of f h in
       let (ls, k, d) = filled g in
       (actionOf a ls, event-of e k, subst (BlankedAction (actionOf a ls)) q (blanked-action a d))
 
   -- a button takes no leaf
-  pub blank-button : (rows ws : List ℤ) {p : Path} {x : Button} {ls : List Given} → eventSays e ≡ some (p, pressing x, ls) → handleCall rows ws f ≡ handleCall rows ws e
+  pub blank-button : (rows ws : List ℤ) {r : ℕ} {p : Path} {x : Button} {ls : List Given} → eventSays e ≡ some (r, p, pressing x, ls) → handleCall rows ws f ≡ handleCall rows ws e
   unfolding actionOf
   blank-button rows ws h = let (ms, g, d) = emptied h in same-answer rows ws e f (event-of f g ∙ sym (event-of e h))
 
@@ -90,7 +90,7 @@ module _ {e f : List ℕ} (b : BlankedEvent e f) where
   pub blank-unread : (rows ws : List ℤ) → eventSays e ≡ none → handleCall rows ws f ≡ handleCall rows ws e
   blank-unread rows ws h = same-answer rows ws e f (same-touch e f (by (says-blanked b) refl h ∙ sym h))
     where
-      by : {o q : Option (Path × Act × List Given)} → BlankedTouch o q → eventSays f ≡ q → o ≡ none → eventSays f ≡ none
+      by : {o q : Option (ℕ × Path × Act × List Given)} → BlankedTouch o q → eventSays f ≡ q → o ≡ none → eventSays f ≡ none
       by both-unread g k = g
       by (both-say d) g k = no-some (sym k)
 
@@ -109,18 +109,24 @@ module _ {e f : List ℕ} (b : BlankedEvent e f) where
         by (handle-shut d) n = absurd (shut-number d n)
         by (handle-8 a r k) n = absurd (omega (arith, n))
         by (handle-9 a r k m) n = absurd (omega (arith, n))
-        by (handle-0 a r k t d) n = let (x, q, m) = action-filled k in sym (handle-only rows ws e wr ww (handle-0 a r q (handles-filled t m) d))
+        by (handle-30 a r k t m) n = absurd (omega (arith, n))
+        by (handle-31 a r k t m l) n = absurd (omega (arith, n))
+        by (handle-0 a r k t y d) n = let (x, q, m) = action-filled k in sym (handle-only rows ws e wr ww (handle-0 a r q (handles-filled t m) y d))
+
+    in-role : (f : List ℕ) {r role : ℕ} {p : Path} {x : Action} → r ≡ role → eventOf f ≡ some (r, p, x) → eventOf f ≡ some (role, p, x)
+    in-role f {p = p} {x = x} q h = h ∙ ap (λ r. some (r, p, x)) q
 
     -- a blank where the entry's kind is 0
-    pub blank-unused : {c : Code} {Σ : List Ty} {τ : Ty} (z : Stands rows ws c Σ τ) (i : ℕ) (k : CoversAt (z .shown) (z .count) i e)
+    pub blank-unused : {c : Code} {Σ : List Ty} {τ : Ty} (z : Stands rows ws c Σ τ) (i role : ℕ) (k : CoversAt (z .shown role) (z .count role) i e) → k .1 .role ≡ role
         → ((j : ℕ) → j < maxLeaves → leafBytes f j ≡ replicate wordColumns space → getD (k .1 .kinds) j noLeaf ≡ noLeaf)
         → handleCall rows ws f ≡ handleCall rows ws e
-    blank-unused z i (l, k) h =
+    blank-unused z i role (l, k) r h =
         let (ms, g, d) = emptied (k .event-says) in
         let short : length ms ≡ maxLeaves = leaves-long f (readable f g) in
         let m = meets-blanked (k .meets) d (λ j n. h j (leaf-there ms j short n) (leaf-spaces f g j (leaf-there ms j short n) n)) in
-        let c : CoversBytes (entryAt (z .shown) i) f = record { path = k .path; act = k .act; kinds = k .kinds; leaves = ms; entry-says = k .entry-says; event-says = g; meets = m } in
-        blank-handles (z .accepted-iff-covered f .1 (i, (l, c)))
+        let c : CoversBytes (entryAt (z .shown role) i) f = record { role = k .role; path = k .path; act = k .act; kinds = k .kinds; leaves = ms; entry-says = k .entry-says; event-says = g; meets = m } in
+        let o = in-role f r (event-of f g) in
+        blank-handles (z .accepted-iff-covered f role (k .path) (actionOf (k .act) ms) o .1 (i, (l, c)))
       where
         leaf-there : (ms : List Given) (j : ℕ) → length ms ≡ maxLeaves → getD ms j (some (pos 0)) ≡ none → j < maxLeaves
         leaf-there ms j s n = cases (leb maxLeaves j)

@@ -102,7 +102,7 @@ module _ {rows : List ℤ} {c : Code} {Σ : List Ty} {τ : Ty} (a : AcceptedFlow
     -- lent memory gives the writing back
     pub state-own : ownOf n (stateOf rows c t s) ≡ encode rs n c t s
     unfolding stateOf
-    state-own = own-lent n (encode rs n c t s) writing-length (encode-bits rs n c t s (cells-small (a .flow .cells)) k h)
+    state-own = own-lent n (encode rs n c t s) writing-length (encode-bits rs n c t s (own-bits rows (loads-words (a .loads))) (a .flow .code) (cells-small (a .flow .cells)) k h)
 
     -- ground 22 does not hold
     pub decodes : decodedFrom (stateOf rows c t s) ≡ some (t, s)

@@ -4,7 +4,7 @@
 -- equation with, and no other (proofs/LoadAnswered, StartAnswered, LookAnswered, HandleAnswered). Rests on Memory and on the calculus'
 -- relations.
 use mathlib.Core.Path.{_≡_}
-use mathlib.Core.Bool.{Bool}
+use mathlib.Core.Bool.{Bool, true, false}
 use mathlib.Core.Option.{none, some}
 use mathlib.Core.List.{List, [], _++_}
 use Prim.Native.Nat.{ℕ, suc, _*_, _<_, _≤_}
@@ -18,6 +18,7 @@ use Rattle.tophat.specs.Normalising.{Normalises}
 use Rattle.tophat.specs.Handling.{Action, Handles}
 use Rattle.tophat.specs.Showing.{Entry}
 use Rattle.formats.specs.Lines.{lineBytes, linesSay}
+use Rattle.tophat.specs.Roles.{IsRole, Gate, otherRole, noTouch, ofRole, touchesLeft, is, admits}
 use Rattle.formats.specs.Touches.{entryBytes, eventOf}
 use Rattle.formats.specs.Lists.{listText}
 use Rattle.rows.specs.GroundNumbers.{notSized, notRead, eventNotRead, notHandled, notAccepted, wrongMemory, notState, notAtRest, listTooShort}
@@ -27,7 +28,7 @@ use Rattle.rows.specs.Trees.{Flow}
 use Rattle.rows.specs.Ground.{WellFormed, Small, RowsGround}
 use Rattle.state.specs.Layout.{stateWords}
 use Rattle.call_definitions.specs.Memory.{stateOf, failedOf, CallAnswer, refusal, LookAnswer, lookRefusal, flag, valueMemory, hasOne}
-use Rattle.call_definitions.specs.States.{FlowState, taskState, failedState, AtRest, valueIn, FailsIn, ShowsIn, RefusesIn}
+use Rattle.call_definitions.specs.States.{FlowState, taskState, failedState, AtRest, valueIn, FailsIn, ShowsIn, RefusesIn, PassesIn}
 
 -- ---- load: 1, 21, 2 to 7
 
@@ -117,16 +118,20 @@ pub data Shut (rows ws : List ℤ) (Fits : Type 0) : ℕ → Type 0 where
       → AcceptedFlow rows c Σ τ → Fits → Writes rows ws c Σ τ z → (AtRest z → ⊥)
       → Shut rows ws Fits notAtRest
 
-pub data LookAnswers (rows ws values : List ℤ) (list : List ℕ) : LookAnswer → Type 0 where
-  look-shut : {g : ℕ} → Shut rows ws (length values ≡ maxLeaves) g → LookAnswers rows ws values list (lookRefusal g values list)
+-- 20 to 23, 8, 24
+pub data LookAnswers (rows ws : List ℤ) (role : ℕ) (values : List ℤ) (list : List ℕ) : LookAnswer → Type 0 where
+  look-shut : {g : ℕ} → Shut rows ws (length values ≡ maxLeaves) g → LookAnswers rows ws role values list (lookRefusal g values list)
+  -- CR 6: "Look gives 8 for a role outside 1 to 8, after 23 and before 24"
+  look-8 : {c : Code} {Σ : List Ty} {τ : Ty} → AcceptedFlow rows c Σ τ → IsRest rows ws c Σ τ
+      → length values ≡ maxLeaves → (IsRole role → ⊥) → LookAnswers rows ws role values list (lookRefusal eventNotRead values list)
   look-24 : {c : Code} {Σ : List Ty} {τ : Ty} {es : List Entry} → AcceptedFlow rows c Σ τ → (r : IsRest rows ws c Σ τ)
-      → length values ≡ maxLeaves → ShowsIn (r .state) es → length list < length es * entryBytes
-      → LookAnswers rows ws values list (lookRefusal listTooShort values list)
+      → length values ≡ maxLeaves → IsRole role → ShowsIn (is role) (r .state) es → length list < length es * entryBytes
+      → LookAnswers rows ws role values list (lookRefusal listTooShort values list)
   -- 01: "Bytes after it keep their content"
   look-0 : {c : Code} {Σ : List Ty} {τ : Ty} {es : List Entry} {x : Bool} → AcceptedFlow rows c Σ τ → (r : IsRest rows ws c Σ τ)
-      → length values ≡ maxLeaves → ShowsIn (r .state) es → length es * entryBytes ≤ length list
+      → length values ≡ maxLeaves → IsRole role → ShowsIn (is role) (r .state) es → length es * entryBytes ≤ length list
       → FailsIn (r .state) x
-      → LookAnswers rows ws values list (record {
+      → LookAnswers rows ws role values list (record {
         number = 0;
         hasValue = hasOne (valueIn (r .state));
         fails = flag x;
@@ -135,17 +140,22 @@ pub data LookAnswers (rows ws values : List ℤ) (list : List ℕ) : LookAnswer 
         list = listText es ++ drop (length (listText es)) list;
       })
 
--- 20 to 23, 8, 9
+-- 20 to 23, 8, 9, 30, 31
 pub data HandleAnswers (rows ws : List ℤ) (event : List ℕ) : CallAnswer → Type 0 where
   handle-shut : {g : ℕ} → Shut rows ws (Unit {0}) g → HandleAnswers rows ws event (refusal g ws)
   handle-8 : {c : Code} {Σ : List Ty} {τ : Ty}
       → AcceptedFlow rows c Σ τ → IsRest rows ws c Σ τ → eventOf event ≡ none → HandleAnswers rows ws event (refusal eventNotRead ws)
-  -- no handling rule derives a step
-  handle-9 : {c : Code} {Σ : List Ty} {τ : Ty} {p : Path} {x : Action} → AcceptedFlow rows c Σ τ → (r : IsRest rows ws c Σ τ)
-      → eventOf event ≡ some (p, x) → RefusesIn (r .state) p x → HandleAnswers rows ws event (refusal notHandled ws)
+  -- no handling rule derives a step, roles and touches aside
+  handle-9 : {c : Code} {Σ : List Ty} {τ : Ty} {role : ℕ} {p : Path} {x : Action} → AcceptedFlow rows c Σ τ → (r : IsRest rows ws c Σ τ)
+      → eventOf event ≡ some (role, p, x) → RefusesIn (r .state) p x → HandleAnswers rows ws event (refusal notHandled ws)
+  -- CR 6: "30 if a rule derives a step but a row passed has another role, 31 if only the touches are spent"
+  handle-30 : {c : Code} {Σ : List Ty} {τ : Ty} {role : ℕ} {p : Path} {x : Action} {gs : List Gate} → AcceptedFlow rows c Σ τ → (r : IsRest rows ws c Σ τ)
+      → eventOf event ≡ some (role, p, x) → PassesIn (r .state) p x gs → ofRole role gs ≡ false → HandleAnswers rows ws event (refusal otherRole ws)
+  handle-31 : {c : Code} {Σ : List Ty} {τ : Ty} {role : ℕ} {p : Path} {x : Action} {gs : List Gate} → AcceptedFlow rows c Σ τ → (r : IsRest rows ws c Σ τ)
+      → eventOf event ≡ some (role, p, x) → PassesIn (r .state) p x gs → ofRole role gs ≡ true → touchesLeft gs ≡ false → HandleAnswers rows ws event (refusal noTouch ws)
   -- 01: "Then the result is normalised"
-  handle-0 : {c : Code} {Σ : List Ty} {τ : Ty} {p : Path} {x : Action} {n : ℕ}
-      → AcceptedFlow rows c Σ τ → (r : IsRest rows ws c Σ τ) → eventOf event ≡ some (p, x)
+  handle-0 : {c : Code} {Σ : List Ty} {τ : Ty} {role : ℕ} {p : Path} {x : Action} {gs : List Gate} {n : ℕ}
+      → AcceptedFlow rows c Σ τ → (r : IsRest rows ws c Σ τ) → eventOf event ≡ some (role, p, x)
       → {t₁ t₂ : TaskOf (r .state .code)} {s₁ s₂ : Store}
-      → Handles (r .state .code) [] (r .state .store) (r .state .task) p x t₁ s₁ → Normalises (r .state .code) [] s₁ t₁ t₂ s₂ n
+      → Handles (r .state .code) [] (r .state .store) (r .state .task) p x t₁ s₁ gs → admits (is role) gs ≡ true → Normalises (r .state .code) [] s₁ t₁ t₂ s₂ n
       → HandleAnswers rows ws event (record { number = 0; strides = n; state = stateOf rows (r .state .code) t₂ s₂ })

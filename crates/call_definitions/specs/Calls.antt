@@ -14,8 +14,9 @@ use Rattle.tophat.specs.Handling.{Action}
 use Rattle.tophat.proofs.ComputeTyping.{inferTask}
 use Rattle.tophat.proofs.ComputeEvaluation.{overflowsTask}
 use Rattle.tophat.proofs.ComputeNormalising.{failing, normalise, settle, stride}
-use Rattle.tophat.proofs.ComputeHandling.{handle}
+use Rattle.tophat.proofs.ComputeHandling.{Taken, handle}
 use Rattle.tophat.proofs.ComputeEntries.{entries}
+use Rattle.tophat.specs.Roles.{isRole, verdict, is}
 use Rattle.formats.specs.Touches.{entryBytes, eventOf}
 use Rattle.formats.specs.Lists.{listText}
 use Rattle.rows.specs.GroundNumbers.{eventNotRead, notHandled, notAccepted, wrongMemory, notState, notAtRest, listTooShort}
@@ -90,19 +91,22 @@ opened rows ws fits =
 
 -- ---- handle
 
--- ground 9: no handling rule derives a step
-unfoldable pub handled : List ℤ → List ℤ → (c : Code) → Option (TaskOf c × Store) → CallAnswer
-handled rows ws c none = refusal notHandled ws
-handled rows ws c (some r) =
-    let (t, s, n) = normalise c [] (r .1) (r .0) in
+unfoldable pub settled : List ℤ → (c : Code) → TaskOf c → Store → CallAnswer
+settled rows c t₁ s₁ =
+    let (t, s, n) = normalise c [] s₁ t₁ in
     record { number = 0; strides = n; state = stateOf rows c t s }
 
--- ground 8: the event cannot be read
-unfoldable pub handleRead : List ℤ → List ℤ → FlowState → Option (Path × Action) → CallAnswer
-handleRead rows ws z none = refusal eventNotRead ws
-handleRead rows ws z (some e) = handled rows ws (z .code) (handle (z .code) [] (z .store) (z .task) (e .0) (e .1))
+-- ground 9: no handling rule derives a step; then 30 and 31, by the rows of kind 50 that it passes (CR 6)
+unfoldable pub handled : List ℤ → List ℤ → (c : Code) → ℕ → Option (Taken (TaskOf c)) → CallAnswer
+handled rows ws c role none = refusal notHandled ws
+handled rows ws c role (some r) = cond (eqb (verdict role (r .2)) 0) (settled rows c (r .0) (r .1)) (refusal (verdict role (r .2)) ws)
 
-unfoldable pub handleIn : List ℤ → List ℤ → Option (Path × Action) → Opened → CallAnswer
+-- ground 8: the event cannot be read
+unfoldable pub handleRead : List ℤ → List ℤ → FlowState → Option (ℕ × Path × Action) → CallAnswer
+handleRead rows ws z none = refusal eventNotRead ws
+handleRead rows ws z (some e) = handled rows ws (z .code) (e .0) (handle (z .code) [] (z .store) (z .task) (e .1) (e .2))
+
+unfoldable pub handleIn : List ℤ → List ℤ → Option (ℕ × Path × Action) → Opened → CallAnswer
 handleIn rows ws e (refusedBy g) = refusal g ws
 handleIn rows ws e (restOf z) = handleRead rows ws z e
 
@@ -112,10 +116,9 @@ handleCall rows ws event = handleIn rows ws (eventOf event) (opened rows ws true
 -- ---- look
 
 -- ground 24: list memory under 35 bytes an entry (CR 4)
-unfoldable pub lookIn : List ℤ → List ℕ → Opened → LookAnswer
-lookIn values list (refusedBy g) = lookRefusal g values list
-lookIn values list (restOf z) =
-    let es = entries (z .code) [] (z .store) (z .task) in
+unfoldable pub lookRest : ℕ → List ℤ → List ℕ → FlowState → LookAnswer
+lookRest role values list z =
+    let es = entries (is role) (z .code) [] (z .store) (z .task) in
     cond (leb (length es * entryBytes) (length list))
     (record {
       number = 0;
@@ -127,5 +130,10 @@ lookIn values list (restOf z) =
     })
     (lookRefusal listTooShort values list)
 
-unfoldable pub lookCall : List ℤ → List ℤ → List ℤ → List ℕ → LookAnswer
-lookCall rows ws values list = lookIn values list (opened rows ws (eqb (length values) maxLeaves))
+-- CR 6: "Look gives 8 for a role outside 1 to 8, after 23 and before 24"
+unfoldable pub lookIn : ℕ → List ℤ → List ℕ → Opened → LookAnswer
+lookIn role values list (refusedBy g) = lookRefusal g values list
+lookIn role values list (restOf z) = cond (isRole role) (lookRest role values list z) (lookRefusal eventNotRead values list)
+
+unfoldable pub lookCall : List ℤ → List ℤ → ℕ → List ℤ → List ℕ → LookAnswer
+lookCall rows ws role values list = lookIn role values list (opened rows ws (eqb (length values) maxLeaves))

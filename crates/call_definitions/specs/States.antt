@@ -9,7 +9,8 @@ use Rattle.tophat.specs.Syntax.{Ty, Code, fail, TaskOf, failed, Val, Store}
 use Rattle.tophat.specs.Typing.{TaskType, ValueTypes}
 use Rattle.tophat.specs.Normalising.{value, Fails, Normalises}
 use Rattle.tophat.specs.Quiet.{Quiet}
-use Rattle.tophat.specs.Handling.{Action}
+use Rattle.tophat.specs.Roles.{Gate, Who, anyone}
+use Rattle.tophat.specs.Handling.{Action, Handles}
 use Rattle.tophat.specs.Showing.{Entry, Shows}
 use Rattle.tophat.specs.Runs.{Accepts, Refuses}
 
@@ -42,11 +43,17 @@ FailsIn z x = Fails (z .code) [] (z .store) (z .task) x
 abbrev pub QuietIn : FlowState → Type 0
 QuietIn z = Quiet (z .code) [] (z .store) (z .task)
 
-abbrev pub ShowsIn : FlowState → List Entry → Type 0
-ShowsIn z es = Shows (z .code) [] (z .store) (z .task) es
+-- of a role, or of anyone (CR 6)
+abbrev pub ShowsIn : Who → FlowState → List Entry → Type 0
+ShowsIn w z es = Shows w (z .code) [] (z .store) (z .task) es
 
-abbrev pub AcceptsIn : FlowState → Path → Action → Type 0
-AcceptsIn z p x = Accepts (z .code) (z .task) (z .store) p x
+abbrev pub AcceptsIn : Who → FlowState → Path → Action → Type 0
+AcceptsIn w z p x = Accepts w (z .code) (z .task) (z .store) p x
 
+-- no handling rule derives a step, roles and touches aside
 abbrev pub RefusesIn : FlowState → Path → Action → Type 0
-RefusesIn z p x = Refuses (z .code) (z .task) (z .store) p x
+RefusesIn z p x = Refuses anyone (z .code) (z .task) (z .store) p x
+
+-- one derives a step, which passes these rows of kind 50, outermost first
+abbrev pub PassesIn : FlowState → Path → Action → List Gate → Type 0
+PassesIn z p x gs = (t₁ : TaskOf (z .code)) × (s₁ : Store) × Handles (z .code) [] (z .store) (z .task) p x t₁ s₁ gs

@@ -8,6 +8,7 @@ use lib.ListN.{length}
 use Rattle.decimal.specs.Path.{marksFrom, pathOf}
 use Rattle.tophat.specs.Syntax.{taskRows, Ty, Code, Store, TaskOf}
 use Rattle.tophat.specs.Typing.{TaskType, small-nil}
+use Rattle.tophat.specs.Roles.{Who}
 use Rattle.tophat.specs.Showing.{MarksFit}
 use Rattle.tophat.proofs.ComputeEntries.{entries}
 use Rattle.state.specs.Holds.{Sits, Holds, World}
@@ -21,12 +22,12 @@ pub at-start : AtPath 0 1
 unfolding marksFrom
 at-start = record { unit-is = refl; few = omega arith }
 
-pub entries-whole : {rs ws : List ℕ} {i : ℕ} {env : List ℕ} {list l₁ : List ℕ} {n : ℕ} → EntriesOk rs ws i env 0 (pathOf 0) list l₁ n → (c : Code) → Sits rs 0 i c → MarksFit 0 c
+pub entries-whole : (who : Who) {rs ws : List ℕ} {i : ℕ} {env : List ℕ} {list l₁ : List ℕ} {n : ℕ} → EntriesOk who rs ws i env 0 (pathOf 0) list l₁ n → (c : Code) → Sits rs 0 i c → MarksFit 0 c
     → (Σ : List Ty) (τ : Ty) (s : Store) (t : TaskOf c) → TaskType Σ [] c t τ → World rs ws env 0 Σ [] s [] → Holds rs ws i c t → taskRows c * entryBytes ≤ length list
-    → Listed list l₁ n (listText (entries c [] s t))
+    → Listed list l₁ n (listText (entries who c [] s t))
 unfolding marksFrom
-entries-whole {list = list} {l₁ = l₁} {n = n} f c k m Σ τ s t y w g h =
-    let e = under-none (entries c [] s t) in
-    let l : length (listText (entries c [] s t)) ≤ length list = let b = bytes-most (w .storeSmall) (w .storeTyped) y m in omega (arith, b, h) in
+entries-whole who {list = list} {l₁ = l₁} {n = n} f c k m Σ τ s t y w g h =
+    let e = under-none (entries who c [] s t) in
+    let l : length (listText (entries who c [] s t)) ≤ length list = let b = bytes-most who (w .storeSmall) (w .storeTyped) y m in omega (arith, b, h) in
     subst (λ es. Listed list l₁ n (listText es)) e
-    (f c k Σ [] τ s [] t y w g (entries-fit (w .storeSmall) (w .storeTyped) 0 [] y small-nil (omega arith) m) (subst (λ es. length (listText es) ≤ length list) (sym e) l))
+    (f c k Σ [] τ s [] t y w g (entries-fit who (w .storeSmall) (w .storeTyped) 0 [] y small-nil (omega arith) m) (subst (λ es. length (listText es) ≤ length list) (sym e) l))

@@ -9,6 +9,7 @@ use native.Mathlib.Omega.{arith}
 use lib.ListN.{getD}
 use Rattle.tophat.specs.Syntax.{maxLeaves, Ty, leaves, Code, enter, Val, vunit, TaskOf, blank, entered, Env, Store}
 use Rattle.tophat.specs.Typing.{ValueType, TaskType, k-blank, k-entered, typeOf}
+use Rattle.tophat.specs.Roles.{Who}
 use Rattle.tophat.specs.Showing.{offers}
 use Rattle.tophat.proofs.ComputeEntries.{entries}
 use Rattle.tophat.proofs.EvaluationAgrees.{look-up}
@@ -28,7 +29,7 @@ use Rattle.entries.specs.Listing.{ContentOk}
 module _ (rs ws : List ℕ) (i : ℕ) where
   -- r is the shape of what the task offers
   abbrev Offered : ℕ → Env → Store → (c : Code) → TaskOf c → Type 0
-  Offered r ρ s c t = (υ : Ty) × (r ≡ asShape υ) × (leaves υ ≤ maxLeaves) × (entries c ρ s t ≡ offers υ)
+  Offered r ρ s c t = (υ : Ty) × (r ≡ asShape υ) × (leaves υ ≤ maxLeaves) × ((who : Who) → entries who c ρ s t ≡ offers υ)
 
   -- word 1 of a row that holds a value is its shape
   shape-at : {j x : ℕ} (v : Val) → Row ws j (x ∷ valueWords v) → at ws j 1 ≡ asShape (typeOf v)
@@ -41,7 +42,7 @@ module _ (rs ws : List ℕ) (i : ℕ) where
   pub content-filled : (r : ℕ) → OfKind rs i (taskK editK) → r ≡ at ws i 1 → ContentOk rs ws i r
   unfolding entries
   content-filled r q e d c z env Σ Γ τ s ρ t y w g =
-      on-filled rs ws d i Σ Γ (λ c t τ. Offered r ρ s c t) q (λ x v τ z row y k. (typeOf v, e ∙ shape-at v row, small-value k (type-leaves y (w .storeSmall) (w .bindersSmall)), refl)) c z τ t y g
+      on-filled rs ws d i Σ Γ (λ c t τ. Offered r ρ s c t) q (λ x v τ z row y k. (typeOf v, e ∙ shape-at v row, small-value k (type-leaves y (w .storeSmall) (w .bindersSmall)), λ who. refl)) c z τ t y g
 
   pub content-entered : (a r : ℕ) (binders : List ℕ) (n : ℕ) → OfKind rs i (taskK enterK) → a ≡ opA rs i → r ≡ typing.typeOf rs binders n a → ContentOk rs ws i r
   unfolding entries
@@ -52,7 +53,7 @@ module _ (rs ws : List ℕ) (i : ℕ) where
       small (entered v) (k-entered l k) = l
 
       by : (υ : Ty) → Sits rs d i (enter υ) → (t : TaskOf (enter υ)) → TaskType Σ Γ (enter υ) t τ → Offered r ρ s (enter υ) t
-      by υ z t y = (υ, e ∙ ap (typing.typeOf rs binders n) ea ∙ type-shape (z .1) (small t y) binders n, small t y, refl)
+      by υ z t y = (υ, e ∙ ap (typing.typeOf rs binders n) ea ∙ type-shape (z .1) (small t y) binders n, small t y, λ who. refl)
 
   pub content-shared : (a r : ℕ) → OfKind rs i (taskK updateK) → a ≡ opA rs i → r ≡ at ws a 1 → ContentOk rs ws i r
   unfolding entries
@@ -60,7 +61,7 @@ module _ (rs ws : List ℕ) (i : ℕ) where
       on-shared rs ws d i Σ Γ (λ c t τ. Offered r ρ s c t) q
       (λ k τ z row y.
       let v = getD s k vunit in
-      (typeOf v, e ∙ ap (λ a. at ws a 1) (ea ∙ z .1) ∙ shape-at v (w .stores .cells k (z .2)), small-value (look-up (w .storeTyped) y .1) (at-leaves y (w .storeSmall)), refl))
+      (typeOf v, e ∙ ap (λ a. at ws a 1) (ea ∙ z .1) ∙ shape-at v (w .stores .cells k (z .2)), small-value (look-up (w .storeTyped) y .1) (at-leaves y (w .storeSmall)), λ who. refl))
       c z τ t y g
 
 -- of the kinds 40, 41 and 42 the last

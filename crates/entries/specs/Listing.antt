@@ -1,19 +1,23 @@
 -- What the functions of this crate ensure: the bytes of a task's entries stand at the front of the list that was lent, and bytes
 -- after them are as they were. Rests on crate formats' lists, and on crate state's contracts.
 use mathlib.Core.Path.{_≡_}
-use mathlib.Core.Bool.{Bool}
+use mathlib.Core.Bool.{Bool, false, not}
 use mathlib.Core.List.{List, _∷_, _++_}
-use Prim.Native.Nat.{ℕ, _^_, _<_, _≤_}
+use Prim.Native.Nat.{ℕ, zero, suc, _^_, _<_, _≤_}
 use lib.ListN.{length, drop, getD}
 use Rattle.decimal.specs.Path.{Path, maxMarks, pathOf}
 use Rattle.tophat.specs.Syntax.{maxLeaves, Ty, leaves, Code, next, TaskOf, before, Env, Store}
 use Rattle.tophat.specs.Typing.{CodeType, TaskType}
 use Rattle.tophat.specs.Normalising.{value}
+use Rattle.tophat.specs.Roles.{Who, anyone, is, opens}
 use Rattle.tophat.specs.Handling.{continue}
 use Rattle.tophat.specs.Showing.{offers, buttonIf}
 use Rattle.tophat.proofs.ComputeNormalising.{rightFails}
 use Rattle.tophat.proofs.ComputeEntries.{continueIf, entries}
+use Rattle.rows.specs.Kinds.{taskK, gateK}
+use Rattle.rows.specs.Rows.{OfKind, opA}
 use Rattle.shape.specs.Shape.{asShape}
+use Rattle.state.specs.Layout.{at}
 use Rattle.state.specs.Holds.{Sits, Holds, World}
 use Rattle.formats.specs.Lists.{listText, under, Fits}
 
@@ -45,13 +49,25 @@ pub record AtPath (path unit : ℕ) : Type 0 where
 abbrev pub OneDigit : List ℕ → Type 0
 OneDigit ks = (i : ℕ) → getD ks i 0 < 10
 
+-- ---- who looks (CR 6)
+
+-- a role by its number, and anyone by 0
+unfoldable pub whoOf : ℕ → Who
+whoOf zero = anyone
+whoOf (suc n) = is (suc n)
+
+-- r tells whether row i is of kind 50 and shows them nothing
+pub record ShutOk (rs ws : List ℕ) (i n : ℕ) (r : Bool) : Type 0 where
+  pub other : (OfKind rs i (taskK gateK) → ⊥) → r ≡ false
+  pub gate : OfKind rs i (taskK gateK) → r ≡ not (opens (whoOf n) (opA rs i, at ws i 2))
+
 -- ---- tasks
 
 module _ (rs ws : List ℕ) (i : ℕ) where
   -- r is the shape of the type that the editor at the row offers
   abbrev pub ContentOk : ℕ → Type 0
   ContentOk r = (d : ℕ) (c : Code) → Sits rs d i c → (env : List ℕ) (Σ Γ : List Ty) (τ : Ty) (s : Store) (ρ : Env) (t : TaskOf c) → TaskType Σ Γ c t τ → World rs ws env d Σ Γ s ρ → Holds rs ws i c t
-      → (υ : Ty) × (r ≡ asShape υ) × (leaves υ ≤ maxLeaves) × (entries c ρ s t ≡ offers υ)
+      → (υ : Ty) × (r ≡ asShape υ) × (leaves υ ≤ maxLeaves) × ((who : Who) → entries who c ρ s t ≡ offers υ)
 
   module _ (env : List ℕ) (d : ℕ) where
     -- r tells whether the step at the row shows Continue
@@ -59,11 +75,13 @@ module _ (rs ws : List ℕ) (i : ℕ) where
     GoesOnOk r = (a b : Code) → Sits rs d i (next a b) → (Σ Γ : List Ty) (τ υ : Ty) (s : Store) (ρ : Env) (t : TaskOf a) → TaskType Σ Γ a t τ → CodeType Σ (τ ∷ Γ) b υ → World rs ws env d Σ Γ s ρ
         → Holds rs ws i (next a b) (before t) → buttonIf r continue ≡ continueIf (value a t s) (λ v. rightFails b (v ∷ ρ) s)
 
-    module _ (p : Path) (list list₁ : List ℕ) (n : ℕ) where
-      abbrev pub EntriesAt : Code → Type 0
-      EntriesAt c = (Σ Γ : List Ty) (τ : Ty) (s : Store) (ρ : Env) (t : TaskOf c) → TaskType Σ Γ c t τ → World rs ws env d Σ Γ s ρ → Holds rs ws i c t → Fits (length p) (entries c ρ s t)
-          → Lists list list₁ n (listText (under p (entries c ρ s t)))
+-- ---- what they are shown
 
-      -- the entries of the task at the row, with p in front
-      abbrev pub EntriesOk : Type 0
-      EntriesOk = (c : Code) → Sits rs d i c → EntriesAt c
+module _ (who : Who) (rs ws : List ℕ) (i : ℕ) (env : List ℕ) (d : ℕ) (p : Path) (list list₁ : List ℕ) (n : ℕ) where
+  abbrev pub EntriesAt : Code → Type 0
+  EntriesAt c = (Σ Γ : List Ty) (τ : Ty) (s : Store) (ρ : Env) (t : TaskOf c) → TaskType Σ Γ c t τ → World rs ws env d Σ Γ s ρ → Holds rs ws i c t → Fits (length p) (entries who c ρ s t)
+      → Lists list list₁ n (listText (under p (entries who c ρ s t)))
+
+  -- the entries of the task at the row, with p in front
+  abbrev pub EntriesOk : Type 0
+  EntriesOk = (c : Code) → Sits rs d i c → EntriesAt c

@@ -5,9 +5,9 @@ use decimal::field::ACTION_COLUMNS;
 use decimal::field::NEWLINE;
 use decimal::path;
 use decimal::path::PATH_COLUMNS;
-use formats::ACTION_AT;
+use formats::ENTRY_ACTION_AT;
 use formats::ENTRY_BYTES;
-use formats::LEAVES_AT;
+use formats::ENTRY_KINDS_AT;
 use formats::write_numbers;
 use normalising::attempt;
 use normalising::tried;
@@ -16,6 +16,7 @@ use rows::MAX_MARKS;
 use rows::MAX_ROWS;
 use rows::ROWS_WORDS;
 use rows::get;
+use rows::kinds::GATE;
 use rows::operand;
 use running::enclose;
 use running::handed_on;
@@ -24,6 +25,7 @@ use shape::leaf_kinds;
 use state::ENV_WORDS;
 use state::STATE_SIZE;
 use state::read;
+use state::read_touches;
 use tophat::CONTINUE;
 use tophat::GIVE;
 use tophat::LEFT;
@@ -35,12 +37,13 @@ ghost use mathlib.Core.List.{List, []};
 ghost use Prim.Native.Nat.{ℕ, _<_, _≤_};
 ghost use lib.ListN.{length};
 ghost use Rattle.decimal.specs.Path.{maxMarks, pathOf};
-ghost use Rattle.rows.specs.Kinds.{eitherK, ifK, taskK, editK, updateK, xorK};
-ghost use Rattle.rows.specs.Rows.{OfKind, FromKind, UpToKind};
+ghost use Rattle.rows.specs.Kinds.{eitherK, ifK, taskK, editK, updateK, xorK, viewK};
+ghost use Rattle.tophat.specs.Roles.{Who};
+ghost use Rattle.rows.specs.Rows.{maxRows, OfKind, FromKind, UpToKind};
 ghost use Rattle.state.specs.Contracts.{Fine};
 ghost use Rattle.running.specs.Hands.{Unhanded};
 ghost use Rattle.formats.specs.Lists.{noKinds, numbersEntry};
-ghost use Rattle.entries.specs.Listing.{Wrote, AtPath, OneDigit, ContentOk, GoesOnOk, EntriesOk};
+ghost use Rattle.entries.specs.Listing.{Wrote, AtPath, OneDigit, ContentOk, GoesOnOk, whoOf, ShutOk, EntriesOk};
 
 // How many bytes of entries a task shows at most.
 pub const LIST_BYTES: usize = MAX_ROWS * ENTRY_BYTES;
@@ -60,8 +63,8 @@ fn write_entry(list: &mut [u8], marks: u32, action: u32, kinds: [u32; MAX_LEAVES
         return 0;
     }
     path::write(list, 0, marks);
-    field::write(list, ACTION_AT, ACTION_COLUMNS, action);
-    write_numbers(list, LEAVES_AT, ACTION_COLUMNS, kinds);
+    field::write(list, ENTRY_ACTION_AT, ACTION_COLUMNS, action);
+    write_numbers(list, ENTRY_KINDS_AT, ACTION_COLUMNS, kinds);
     list[LAST] = NEWLINE;
     ENTRY_BYTES
 }
@@ -104,7 +107,7 @@ fn offer(
     list: &mut [u8],
 ) -> usize
     requires { ⌜ Fine (now rows) row 0 × FromKind (now rows) row (taskK editK) × UpToKind (now rows) row (taskK updateK) × (length (pathOf marks) ≤ maxMarks) ⌝ }
-    ensures { λ r. ⌜ (r ≤ length (now (list .entry))) × ((env : List ℕ) (d : ℕ) → EntriesOk (now (rows .entry)) (now (state .entry)) row env d (pathOf marks) (now (list .entry)) (now (list .exit)) r) ⌝ }
+    ensures { λ r. ⌜ (r ≤ length (now (list .entry))) × ((env : List ℕ) (d : ℕ) → (v : Who) → EntriesOk v (now (rows .entry)) (now (state .entry)) row env d (pathOf marks) (now (list .entry)) (now (list .exit)) r) ⌝ }
 {
     let shape = content(rows, state, row);
     write_entry(list, marks, GIVE, leaf_kinds(shape))
@@ -118,7 +121,7 @@ fn goes_on(
     env: &[u32; ENV_WORDS],
     depth: usize,
 ) -> bool
-    requires { ⌜ Fine (now rows) row depth × FromKind (now rows) row (eitherK ifK) ⌝ }
+    requires { ⌜ Fine (now rows) row depth × FromKind (now rows) row (eitherK ifK) × UpToKind (now rows) row (taskK viewK) ⌝ }
     ensures { λ r. ⌜ GoesOnOk (now (rows .entry)) (now (state .entry)) row (now (env .entry)) depth r ⌝ }
 {
     let found = value(rows, state, operand(rows, row, 1));
@@ -140,7 +143,7 @@ fn choice(
     list: &mut [u8],
 ) -> usize
     requires { ⌜ Fine (now rows) row depth × OfKind (now rows) row (taskK xorK) × Unhanded (now rows) (now state) row × (length (pathOf marks) ≤ maxMarks) ⌝ }
-    ensures { λ r. ⌜ (r ≤ length (now (list .entry))) × EntriesOk (now (rows .entry)) (now (state .entry)) row (now (env .entry)) depth (pathOf marks) (now (list .entry)) (now (list .exit)) r ⌝ }
+    ensures { λ r. ⌜ (r ≤ length (now (list .entry))) × ((v : Who) → EntriesOk v (now (rows .entry)) (now (state .entry)) row (now (env .entry)) depth (pathOf marks) (now (list .entry)) (now (list .exit)) r) ⌝ }
 {
     let left = tried(rows, state, operand(rows, row, 1), env, depth);
     let right = tried(rows, state, operand(rows, row, 2), env, depth);
@@ -148,36 +151,57 @@ fn choice(
     n + button(&mut list[n..], marks, RIGHT, !right)
 }
 
-// The entries of the task at the row, each with the path of these marks in front, from the front of the list on; how many bytes they
-// are. What one mark more adds to the path is `unit`.
+// Whether the row is of kind 50 and shows them nothing: its role is another's, or it has no touch left (CR 6). 0 is anyone.
+fn shut(rows: &[u32; ROWS_WORDS], state: &[u32; STATE_SIZE], row: usize, who: u32) -> bool
+    requires { ⌜ row < maxRows ⌝ }
+    ensures { λ r. ⌜ ShutOk (now (rows .entry)) (now (state .entry)) row who r ⌝ }
+{
+    if get(rows, row, 0) != GATE {
+        return false;
+    }
+    if who == 0 {
+        return false;
+    }
+    if get(rows, row, 1) != who {
+        return true;
+    }
+    read_touches(state, row) == 0
+}
+
+// The entries that the task at the row shows a role, or anyone (0), each with the path of these marks in front, from the front of the list on;
+// how many bytes they are. What one mark more adds to the path is `unit`.
 pub fn entries(
     rows: &[u32; ROWS_WORDS],
     state: &[u32; STATE_SIZE],
     row: usize,
     env: &[u32; ENV_WORDS],
     depth: usize,
+    who: u32,
     marks: u32,
     unit: u32,
     list: &mut [u8],
 ) -> usize
     requires { ⌜ Fine (now rows) row depth × AtPath marks unit ⌝ }
-    ensures { λ r. ⌜ (r ≤ length (now (list .entry))) × EntriesOk (now (rows .entry)) (now (state .entry)) row (now (env .entry)) depth (pathOf marks) (now (list .entry)) (now (list .exit)) r ⌝ }
+    ensures { λ r. ⌜ (r ≤ length (now (list .entry))) × EntriesOk (whoOf who) (now (rows .entry)) (now (state .entry)) row (now (env .entry)) depth (pathOf marks) (now (list .entry)) (now (list .exit)) r ⌝ }
 {
     let part = handed_on(rows, state, row);
     if part != 0 {
+        if shut(rows, state, row, who) {
+            return 0;
+        }
         let mut inner = *env;
         let under = enclose(rows, state, row, &mut inner, depth);
         let a = operand(rows, row, part);
-        return entries(rows, state, a, &inner, under, marks, unit, list);
+        return entries(rows, state, a, &inner, under, who, marks, unit, list);
     }
     let kind = get(rows, row, 0);
     let a = operand(rows, row, 1);
     let b = operand(rows, row, 2);
     match kind {
         40..=42 => offer(rows, state, row, marks, list),
-        43 => entries(rows, state, a, env, depth, marks, unit, list),
+        43 => entries(rows, state, a, env, depth, who, marks, unit, list),
         44 => {
-            let n = entries(rows, state, a, env, depth, marks, unit, list);
+            let n = entries(rows, state, a, env, depth, who, marks, unit, list);
             let enabled = goes_on(rows, state, row, env, depth);
             n + button(&mut list[n..], marks, CONTINUE, enabled)
         }
@@ -186,8 +210,19 @@ pub fn entries(
                 return 0;
             }
             let two = 2 * unit;
-            let n = entries(rows, state, a, env, depth, marks + unit, two, list);
-            n + entries(rows, state, b, env, depth, marks + two, two, &mut list[n..])
+            let n = entries(rows, state, a, env, depth, who, marks + unit, two, list);
+            n
+                + entries(
+                    rows,
+                    state,
+                    b,
+                    env,
+                    depth,
+                    who,
+                    marks + two,
+                    two,
+                    &mut list[n..],
+                )
         }
         48 => choice(rows, state, row, env, depth, marks, list),
         _ => 0,

@@ -18,7 +18,7 @@ use Rattle.tophat.proofs.ComputeEvaluation.{isTrue, firstPart, secondPart, bran
 use Rattle.tophat.proofs.EvaluationAgrees.{look-up, eval-good}
 use Rattle.tophat.proofs.Leaves.{type-of}
 use Rattle.tophat.proofs.TypeLeaves.{at-leaves, type-leaves}
-use Rattle.rows.specs.Kinds.{plainK, eunitK, etruthK, enumberK, ebinderK, eopK, epairK, efstK, esndK, ederefK, eassignK, eitherK, ifK, letK, numberOf}
+use Rattle.rows.specs.Kinds.{plainK, eunitK, etruthK, enumberK, ebinderK, eopK, epairK, efstK, esndK, ederefK, eassignK, eitherK, ifK, letK, taskK, viewK, numberOf}
 use Rattle.rows.specs.Rows.{word, opA, opB, opC, OfKind, FromKind, UpToKind}
 use Rattle.rows.specs.Enclosing.{maxBinders}
 use Rattle.rows.specs.Trees.{operatorOf}
@@ -47,14 +47,14 @@ module _ {rs : List ℕ} {i d t : ℕ} (f : (i ≡ t) × Fine rs i d) (k a : ℕ
   call : a < i → Call
   call h = (omega (arith, f .0), fine-at (f .1) a d (omega arith) (f .1 .room))
 
-  pub call-a : a ≡ word rs i 1 → numberOf (eitherK ifK) ≤ k → Call
-  call-a z h = call (low-a (f .1) k a e z h)
+  pub call-a : a ≡ word rs i 1 → numberOf (eitherK ifK) ≤ k → k ≤ numberOf (taskK viewK) → Call
+  call-a z h u = call (low-a (f .1) k a e z h u)
 
   pub call-b : a ≡ word rs i 2 → numberOf (plainK eopK) ≤ k → Call
   call-b z h = call (low-b (f .1) k a e z h)
 
-  pub call-c : a ≡ word rs i 3 → numberOf (plainK eopK) ≤ k → Call
-  call-c z h = call (low-c (f .1) k a e z h)
+  pub call-c : a ≡ word rs i 3 → numberOf (plainK eopK) ≤ k → k ≤ numberOf (taskK viewK) → Call
+  call-c z h u = call (low-c (f .1) k a e z h u)
 
 -- ---- what a typed expression leaves to the next: a value of its type, and a world
 

@@ -26,9 +26,10 @@ use Rattle.tophat.specs.Syntax.{maxLeaves}
 use Rattle.tophat.specs.Leaves.{Given}
 use Rattle.tophat.specs.Handling.{Act, giving, pressing, actNumber, actTable, Action, give, press, continue, left, right}
 use Rattle.formats.specs.declared.Leaves.{Leaves}
-use Rattle.formats.specs.Records.{total, isRecord, fieldsAt, numberSaid, each, leafBits, isBlank, leavesRead}
-use Rattle.formats.specs.Touches.{eventColumns, eventBytes, numbered, touchIn, leafSaid, isNothing, allNothing, allowed, eventSays, actionOf, eventOf}
+use Rattle.formats.specs.Records.{total, isRecord, fieldsAt, numberSaid, each, leafBits, isBlank, roleRead, leavesRead}
+use Rattle.formats.specs.Touches.{roleColumns, eventColumns, eventBytes, eventRole, numbered, touchIn, leafSaid, isNothing, allNothing, allowed, eventSays, actionOf, eventOf}
 use Rattle.formats.proofs.Records.{fields-words, GivenWords, no-leaves, blank-leaf, number-leaf, leaves-words}
+use Rattle.formats.proofs.Roles.{no-role-read, a-role-read}
 use Rattle.handle.specs.Events as engine
 use Rattle.handle.specs.Events.{giveNumber, continueNumber, leftNumber, rightNumber, ZeroBlanks, leavesBy}
 use Rattle.flow.specs.declared.event.EventReading.{EventReading}
@@ -181,56 +182,81 @@ zero-blanks ls o e = subst (λ ls. ZeroBlanks (ls .words) (ls .blank)) (sym e) (
 
 -- ---- a path, an action and leaves that were read
 
-pub says-unread : (r : EventReading) (o : Option (Path × Action)) → r .readable ≡ false → o ≡ none → Says r o
+pub says-unread : (r : EventReading) (o : Option (ℕ × Path × Action)) → r .readable ≡ false → o ≡ none → Says r o
 says-unread r o e q = subst (Says r) (sym q) e
 
-module _ (p a : ℕ) (ls : Leaves) where
-  pub leaves-unread : (r : EventReading) → r .readable ≡ false → not (ls .readable) ≡ true → Says r (touchOf p a ls)
+module _ (k p a : ℕ) (ls : Leaves) where
+  abbrev touch : Option (ℕ × Path × Action)
+  touch = touchOf k p a ls
+
+  pub leaves-unread : (r : EventReading) → r .readable ≡ false → not (ls .readable) ≡ true → Says r touch
   unfolding touchOf
-  leaves-unread r e h = says-unread r (touchOf p a ls) e (let k = not-true (ls .readable) h in rw k)
+  leaves-unread r e h = says-unread r touch e (let k = not-true (ls .readable) h in rw k)
 
-  module _ (f : not (ls .readable) ≡ false) (b : Bool) (k : KnownOk a (leavesBy (ls .words) (ls .blank)) b) where
-    pub action-unknown : (r : EventReading) → r .readable ≡ false → not b ≡ true → Says r (touchOf p a ls)
+  module _ (f : not (ls .readable) ≡ false) (b : Bool) (h : KnownOk a (leavesBy (ls .words) (ls .blank)) b) where
+    pub action-unknown : (r : EventReading) → r .readable ≡ false → not b ≡ true → Says r touch
     unfolding touchOf bind
-    action-unknown r e h = says-unread r (touchOf p a ls) e (let g = not-false (ls .readable) f in let q = k .no (not-true b h) in rw (g, q))
+    action-unknown r e n = says-unread r touch e (let g = not-false (ls .readable) f in let q = h .no (not-true b n) in rw (g, q))
 
-    pub says-event : ZeroBlanks (ls .words) (ls .blank) → not b ≡ false → Says (record { readable = true; event = record { path = p; action = a; leaves = ls .words; blank = ls .blank } }) (touchOf p a ls)
+    abbrev event : EventReading
+    event = record { readable = true; event = record { role = k; path = p; action = a; leaves = ls .words; blank = ls .blank } }
+
+    pub says-event : ZeroBlanks (ls .words) (ls .blank) → not b ≡ false → Says event touch
     unfolding touchOf bind
-    says-event z h =
+    says-event z n =
         let g = not-false (ls .readable) f in
-        let (q, l, m) = k .yes (not-false b h) in
-        let o : touchOf p a ls ≡ some (pathOf p, engine.actionBy a (leavesBy (ls .words) (ls .blank))) = rw (g, q) in
-        subst (Says (record { readable = true; event = record { path = p; action = a; leaves = ls .words; blank = ls .blank } })) (sym o) (refl, refl, refl, (l, m, z))
+        let (q, l, m) = h .yes (not-false b n) in
+        let o : touch ≡ some (k, pathOf p, engine.actionBy a (leavesBy (ls .words) (ls .blank))) = rw (g, q) in
+        subst (Says event) (sym o) (refl, refl, refl, refl, (l, m, z))
 
 -- ---- the fields
 
 module _ (s : List ℕ) where
-  pub no-path : path.Unreadable ≡ pathReading (readsPathAt s 0) → fieldsSay s ≡ none
+  -- where the path, the action and the leaves stand
+  abbrev pathAt : ℕ
+  pathAt = roleColumns
+
+  abbrev actAt : ℕ
+  actAt = roleColumns + pathColumns
+
+  abbrev leavesAt : ℕ
+  leavesAt = roleColumns + pathColumns + actionColumns
+
+  pub no-role : (k : ℕ) → k ≡ roleRead (eventRole s) → k ≡ 0 → fieldsSay s ≡ none
   unfolding fieldsSay bind
-  no-path e = let f = no-path-said (readsPathAt s 0) e in rw f
+  no-role k e z = let h = no-role-read (readsAt s 0 roleColumns) k e z in rw h
 
-  module _ (p : ℕ) (e : Marks p ≡ pathReading (readsPathAt s 0)) where
-    pub blank-action : Blank ≡ reading (readsAt s pathColumns actionColumns) → fieldsSay s ≡ none
-    unfolding fieldsSay bind numberSaid
-    blank-action g = let f = path-said (readsPathAt s 0) p e in let h = blank-said (readsAt s pathColumns actionColumns) g in rw (f, h)
+  module _ (k : ℕ) (i : k ≡ roleRead (eventRole s)) (n : k ≡ 0 → ⊥) where
+    role-is : eventRole s ≡ some k
+    role-is = a-role-read (readsAt s 0 roleColumns) k i n .0
 
-    pub no-action : Unreadable ≡ reading (readsAt s pathColumns actionColumns) → fieldsSay s ≡ none
-    unfolding fieldsSay bind numberSaid
-    no-action g = let f = path-said (readsPathAt s 0) p e in let h = nothing-said (readsAt s pathColumns actionColumns) g in rw (f, h)
+    pub no-path : path.Unreadable ≡ pathReading (readsPathAt s pathAt) → fieldsSay s ≡ none
+    unfolding fieldsSay bind
+    no-path e = let r = role-is in let f = no-path-said (readsPathAt s pathAt) e in rw (r, f)
 
-    -- the leaves as they were read
-    pub fields-are : (a : ℕ) → Number a ≡ reading (readsAt s pathColumns actionColumns) → (ls : Leaves) → ls ≡ leavesRead (each leafSaid (fieldsAt s (pathColumns + actionColumns) (replicate maxLeaves wordColumns)))
-        → fieldsSay s ≡ touchOf p a ls
-    unfolding fieldsSay numberSaid bind touchOf leavesRead
-    fields-are a g ls h =
-        let f = path-said (readsPathAt s 0) p e in
-        let k = number-read s pathColumns actionColumns a g .is in
-        let fs = fieldsAt s (pathColumns + actionColumns) (replicate maxLeaves wordColumns) in
-        rw (f, k) (by (each leafSaid fs) (λ ls q. leaves-words (fields-words s (pathColumns + actionColumns) (replicate maxLeaves wordColumns)) q) ∙ ap (touchOf p a) (sym h))
-      where
-        by : (o : Option (List Given)) → ((ls : List Given) → o ≡ some ls → GivenWords ls) → bind o (λ ls. bind (actionAt (toZ w32 a) ls) λ x. some (pathOf p, x)) ≡ touchOf p a (leavesRead o)
-        by none w = refl
-        by (some ls) w = ap (λ ls. bind (actionAt (toZ w32 a) ls) λ x. some (pathOf p, x)) (sym (leaves-back (w ls refl)))
+    module _ (p : ℕ) (e : Marks p ≡ pathReading (readsPathAt s pathAt)) where
+      pub blank-action : Blank ≡ reading (readsAt s actAt actionColumns) → fieldsSay s ≡ none
+      unfolding fieldsSay bind numberSaid
+      blank-action g = let r = role-is in let f = path-said (readsPathAt s pathAt) p e in let h = blank-said (readsAt s actAt actionColumns) g in rw (r, f, h)
+
+      pub no-action : Unreadable ≡ reading (readsAt s actAt actionColumns) → fieldsSay s ≡ none
+      unfolding fieldsSay bind numberSaid
+      no-action g = let r = role-is in let f = path-said (readsPathAt s pathAt) p e in let h = nothing-said (readsAt s actAt actionColumns) g in rw (r, f, h)
+
+      -- the leaves as they were read
+      pub fields-are : (a : ℕ) → Number a ≡ reading (readsAt s actAt actionColumns) → (ls : Leaves) → ls ≡ leavesRead (each leafSaid (fieldsAt s leavesAt (replicate maxLeaves wordColumns)))
+          → fieldsSay s ≡ touchOf k p a ls
+      unfolding fieldsSay numberSaid bind touchOf leavesRead
+      fields-are a g ls h =
+          let r = role-is in
+          let f = path-said (readsPathAt s pathAt) p e in
+          let m = number-read s actAt actionColumns a g .is in
+          let fs = fieldsAt s leavesAt (replicate maxLeaves wordColumns) in
+          rw (r, f, m) (by (each leafSaid fs) (λ ls q. leaves-words (fields-words s leavesAt (replicate maxLeaves wordColumns)) q) ∙ ap (touchOf k p a) (sym h))
+        where
+          by : (o : Option (List Given)) → ((ls : List Given) → o ≡ some ls → GivenWords ls) → bind o (λ ls. bind (actionAt (toZ w32 a) ls) λ x. some (k, pathOf p, x)) ≡ touchOf k p a (leavesRead o)
+          by none w = refl
+          by (some ls) w = ap (λ ls. bind (actionAt (toZ w32 a) ls) λ x. some (k, pathOf p, x)) (sym (leaves-back (w ls refl)))
 
 -- ---- the whole event
 
@@ -238,33 +264,38 @@ module _ (s : List ℕ) where
 abbrev Touch : Type 0
 Touch = Path × Act × List Given
 
-abbrev allow : Touch → Option Touch
-allow t = cond (allowed (t .1) (t .2)) (some t) none
+abbrev Said : Type 0
+Said = ℕ × Path × Act × List Given
 
-abbrev asAction : Touch → Option (Path × Action)
-asAction t = some (t .0, actionOf (t .1) (t .2))
+abbrev allow : ℕ → Touch → Option Said
+allow r t = cond (allowed (t .1) (t .2)) (some (r, t .0, t .1, t .2)) none
 
-abbrev actionIn : Path → Option Act → List Given → Option (Path × Action)
-actionIn q o ls = bind (bind o λ k. cond (allowed k ls) (some (actionOf k ls)) none) λ x. some (q, x)
+abbrev asAction : Said → Option (ℕ × Path × Action)
+asAction t = some (t .0, t .1, actionOf (t .2) (t .3))
 
-same-act : (q : Path) (o : Option Act) (ol : Option (List Given)) → bind (bind (bind {B = Touch} o λ k. bind ol λ ls. some (q, k, ls)) allow) asAction ≡ bind ol (actionIn q o)
+abbrev actionIn : ℕ → Path → Option Act → List Given → Option (ℕ × Path × Action)
+actionIn r q o ls = bind (bind o λ k. cond (allowed k ls) (some (actionOf k ls)) none) λ x. some (r, q, x)
+
+same-act : (r : ℕ) (q : Path) (o : Option Act) (ol : Option (List Given))
+    → bind (bind (bind {B = Touch} o λ k. bind ol λ ls. some (q, k, ls)) (allow r)) asAction ≡ bind ol (actionIn r q o)
 unfolding bind
-same-act q none none = refl
-same-act q none (some ls) = refl
-same-act q (some k) none = refl
-same-act q (some k) (some ls) = by (allowed k ls)
+same-act r q none none = refl
+same-act r q none (some ls) = refl
+same-act r q (some k) none = refl
+same-act r q (some k) (some ls) = by (allowed k ls)
   where
-    by : (b : Bool) → bind {A = Touch} (cond b (some (q, k, ls)) none) asAction ≡ bind {B = Path × Action} (cond b (some (actionOf k ls)) none) λ x. some (q, x)
+    by : (b : Bool) → bind {A = Said} (cond b (some (r, q, k, ls)) none) asAction ≡ bind {B = ℕ × Path × Action} (cond b (some (actionOf k ls)) none) λ x. some (r, q, x)
     by true = refl
     by false = refl
 
-same-touch : (op : Option Path) (on : Option ℤ) (ol : Option (List Given))
-    → bind (bind (bind {B = Touch} op λ q. bind on λ n. bind (numbered actNumber actTable n) λ k. bind ol λ ls. some (q, k, ls)) allow) asAction
-    ≡ bind op λ q. bind on λ n. bind ol (actionIn q (numbered actNumber actTable n))
+same-touch : (or : Option ℕ) (op : Option Path) (on : Option ℤ) (ol : Option (List Given))
+    → bind (bind or λ r. bind (bind {B = Touch} op λ q. bind on λ n. bind (numbered actNumber actTable n) λ k. bind ol λ ls. some (q, k, ls)) (allow r)) asAction
+    ≡ bind or λ r. bind op λ q. bind on λ n. bind ol (actionIn r q (numbered actNumber actTable n))
 unfolding bind
-same-touch none on ol = refl
-same-touch (some q) none ol = refl
-same-touch (some q) (some n) ol = same-act q (numbered actNumber actTable n) ol
+same-touch none op on ol = refl
+same-touch (some r) none on ol = refl
+same-touch (some r) (some q) none ol = refl
+same-touch (some r) (some q) (some n) ol = same-act r q (numbered actNumber actTable n) ol
 
 module _ (s : List ℕ) where
   pub not-long : (length s ≡ eventBytes → ⊥) → eventOf s ≡ none
@@ -281,4 +312,5 @@ module _ (s : List ℕ) where
     unfolding eventOf eventSays isRecord touchIn fieldsSay actionAt bind
     by-fields n =
         let p = eq-eqb (length s) eventBytes l in let e = eq-eqb (getD s (total eventColumns) 0) newline n in
-        rw (p, e) (same-touch (readsPathAt s 0) (numberSaid (readsAt s pathColumns actionColumns)) (each leafSaid (fieldsAt s (pathColumns + actionColumns) (replicate maxLeaves wordColumns))))
+        rw (p, e) (same-touch (eventRole s) (readsPathAt s roleColumns) (numberSaid (readsAt s (roleColumns + pathColumns) actionColumns))
+        (each leafSaid (fieldsAt s (roleColumns + pathColumns + actionColumns) (replicate maxLeaves wordColumns))))

@@ -3,7 +3,7 @@ use mathlib.Core.Path.{_≡_, refl, sym, ap, ap₂, subst, _∙_}
 use mathlib.Core.Bool.{Bool, true, false}
 use mathlib.Core.Option.{Option, none, some}
 use mathlib.Core.List.{List, [], _∷_, _++_, map, append-nil}
-use Prim.Native.Nat.{ℕ, suc, _+_, _*_, _-_, _≤_, _<_}
+use Prim.Native.Nat.{ℕ, zero, suc, _+_, _*_, _-_, _≤_, _<_}
 use native.Mathlib.Numerals.{add-one}
 use native.Mathlib.Nat.{le-of-lt}
 use native.Mathlib.Omega.{arith}
@@ -26,23 +26,24 @@ use Rattle.tophat.proofs.ComputeNormalising.{failing}
 use Rattle.tophat.proofs.ComputeEntries.{entries}
 use Rattle.tophat.proofs.EntriesQuiet.{failing-empty}
 use Rattle.tophat.proofs.Preservation.{OptionType, o-some, value-type}
-use Rattle.rows.specs.GroundNumbers.{listTooShort}
+use Rattle.rows.specs.GroundNumbers.{eventNotRead, listTooShort}
 use Rattle.rows.specs.Rows.{maxRows}
 use Rattle.value.specs.declared.Found.{Found}
 use Rattle.value.specs.Values.{asValue, noValue}
 use Rattle.value.specs.Found.{asFound}
 use Rattle.value.proofs.Meaning.{leaves-back}
 use Rattle.state.specs.Contracts.{Fine, ValueOk}
+use Rattle.tophat.specs.Roles.{isRole, is}
 use Rattle.formats.specs.Touches.{entryBytes}
 use Rattle.formats.specs.Lists.{listText}
 use Rattle.formats.proofs.EntriesFit.{entries-bytes}
-use Rattle.entries.specs.Listing.{Listed, EntriesOk}
+use Rattle.entries.specs.Listing.{whoOf, Listed, EntriesOk}
 use Rattle.entries.proofs.Bounds.{entries-whole}
 use Rattle.flow.specs.declared.look.Looked.{Looked}
 use Rattle.flow.specs.declared.open.Opening.{Opening}
-use Rattle.call_definitions.specs.Memory.{lookRefusal, flag, valueMemory, hasOne}
+use Rattle.call_definitions.specs.Memory.{LookAnswer, lookRefusal, flag, valueMemory, hasOne}
 use Rattle.call_definitions.specs.States.{FlowState, taskState}
-use Rattle.call_definitions.specs.Calls.{Opened, refusedBy, restOf, opened, lookIn, lookCall}
+use Rattle.call_definitions.specs.Calls.{Opened, refusedBy, restOf, opened, lookRest, lookIn, lookCall}
 use Rattle.call_definitions.proofs.LookAnswered.{looking}
 use Rattle.flow.specs.Opens.{Ready, OpensTo, to-task, to-failed, Opens, OpenOk}
 use Rattle.flow.specs.Looks.{Filled, FailsOk, ShowOk, ShowFailedOk, LookOk}
@@ -69,6 +70,12 @@ laid-all from to e =
 
 -- ---- an opened rest
 
+-- whom a role's number stands for
+who-role : (role : ℕ) → isRole role ≡ true → whoOf role ≡ is role
+unfolding isRole whoOf
+who-role zero h = apart h refl
+who-role (suc n) h = refl
+
 -- a refusal
 abbrev shut : ℕ → Looked
 shut g = record { number = g; valued = 0; fails = 0; bytes = 0 }
@@ -76,35 +83,35 @@ shut g = record { number = g; valued = 0; fails = 0; bytes = 0 }
 refused-filled : (g : ℕ) (vs : List ℤ) (list : List ℕ) → Filled (lookRefusal g vs list) (shut g) vs list
 refused-filled g vs list = record { number = refl; hasValue = refl; fails = refl; bytes = refl; value = refl; list = refl }
 
-module _ (own words env work work₁ : List ℕ) (n bytes : ℕ) (room : length work ≡ maxRows * entryBytes) (f : EntriesOk own words (n - 1) env 0 (pathOf 0) work work₁ bytes) where
-  module _ {rows ws : List ℤ} {c : Code} {t : TaskOf c} {s : Store} (x : Ready rows ws own words n c t s) where
+module _ (role : ℕ) (own words env work work₁ : List ℕ) (n bytes : ℕ) (room : length work ≡ maxRows * entryBytes) (f : EntriesOk (whoOf role) own words (n - 1) env 0 (pathOf 0) work work₁ bytes) where
+  module _ {rows ws : List ℤ} {c : Code} {t : TaskOf c} {s : Store} (x : Ready rows ws own words n c t s) (i : isRole role ≡ true) where
     abbrev text : List ℕ
-    text = listText (entries c [] s t)
+    text = listText (entries (is role) c [] s t)
 
     listed : Listed work work₁ bytes text
     listed =
         let v = ready-writing x in
         let k = few-tasks (x .site) in
-        entries-whole f c (sits (x .site)) (marks (x .site)) (x .cells) (x .type) s t (x .writes .typed) (around (x .site) (v .stores) (x .writes .stored)) (v .holds) (omega (arith, room, k))
+        entries-whole (is role) (subst (λ w. EntriesOk w own words (n - 1) env 0 (pathOf 0) work work₁ bytes) (who-role role i) f) c (sits (x .site)) (marks (x .site)) (x .cells) (x .type) s t (x .writes .typed) (around (x .site) (v .stores) (x .writes .stored)) (v .holds) (omega (arith, room, k))
 
-    counted : bytes ≡ length (entries c [] s t) * entryBytes
-    counted = listed .count ∙ entries-bytes (small (x .site)) (x .writes .stored) (x .writes .typed) (marks (x .site))
+    counted : bytes ≡ length (entries (is role) c [] s t) * entryBytes
+    counted = listed .count ∙ entries-bytes (is role) (small (x .site)) (x .writes .stored) (x .writes .typed) (marks (x .site))
 
     taken : take bytes work₁ ≡ text
     taken = ap (take bytes) (listed .whole) ∙ take-at text (drop (length text) work) bytes (sym (listed .count))
 
-    refuses : (vs : List ℤ) (list : List ℕ) → length list < bytes → lookIn vs list (restOf (taskState c t s)) ≡ lookRefusal listTooShort vs list
-    unfolding lookIn
+    refuses : (vs : List ℤ) (list : List ℕ) → length list < bytes → lookRest role vs list (taskState c t s) ≡ lookRefusal listTooShort vs list
+    unfolding lookRest
     refuses vs list l =
         let e = counted in
-        let b : leb (length (entries c [] s t) * entryBytes) (length list) ≡ false = lt-leb (length (entries c [] s t) * entryBytes) (length list) (omega (arith, l, e)) in
+        let b : leb (length (entries (is role) c [] s t) * entryBytes) (length list) ≡ false = lt-leb (length (entries (is role) c [] s t) * entryBytes) (length list) (omega (arith, l, e)) in
         rw b refl
 
-    answers : (vs : List ℤ) (list : List ℕ) → bytes ≤ length list → lookIn vs list (restOf (taskState c t s)) ≡ looking (taskState c t s) (entries c [] s t) (failing c [] s t) list
-    unfolding lookIn
+    answers : (vs : List ℤ) (list : List ℕ) → bytes ≤ length list → lookRest role vs list (taskState c t s) ≡ looking (taskState c t s) (entries (is role) c [] s t) (failing c [] s t) list
+    unfolding lookRest
     answers vs list l =
         let e = counted in
-        let b : leb (length (entries c [] s t) * entryBytes) (length list) ≡ true = le-leb (length (entries c [] s t) * entryBytes) (length list) (omega (arith, l, e)) in
+        let b : leb (length (entries (is role) c [] s t) * entryBytes) (length list) ≡ true = le-leb (length (entries (is role) c [] s t) * entryBytes) (length list) (omega (arith, l, e)) in
         rw b refl
 
     -- the failing flag: a task that fails shows no entry
@@ -112,92 +119,110 @@ module _ (own words env work work₁ : List ℕ) (n bytes : ℕ) (room : length 
     fails-is b h = cases (eqb bytes 0)
         (λ y. let v = ready-writing x in h .0 (eqb-true bytes 0 y) c (sits (x .site)) (x .cells) [] (x .type) s [] t (x .writes .typed) (around (x .site) (v .stores) (x .writes .stored)) (v .holds))
         (λ y. h .1 (eqb-false bytes 0 y) ∙ sym (cases (failing c [] s t)
-        (λ u. let z = ap length (failing-empty c [] s t u) in let e = counted in absurd (eqb-false bytes 0 y (omega (arith, z, e))))
+        (λ u. let z = ap length (failing-empty (is role) c [] s t u) in let e = counted in absurd (eqb-false bytes 0 y (omega (arith, z, e))))
         (λ u. u)))
 
   -- ground 24
-  pub show-24 : (vs : List ℤ) (list : List ℕ) → length list < bytes → ShowOk own words n vs list (shut listTooShort) vs list
-  show-24 vs list l rows ws c t s x e = subst (λ a. Filled a (shut listTooShort) vs list) (sym (refuses x vs list l)) (refused-filled listTooShort vs list)
+  pub show-24 : (vs : List ℤ) (list : List ℕ) → length list < bytes → ShowOk own words n role vs list (shut listTooShort) vs list
+  show-24 vs list l rows ws c t s x e i = subst (λ a. Filled a (shut listTooShort) vs list) (sym (refuses x i vs list l)) (refused-filled listTooShort vs list)
 
   module _ (found : Found) (v : ValueOk own words (n - 1) found) (long : length (found .value .leaves) ≡ maxLeaves) where
     pub show-0 : (vs vs₁ : List ℤ) (list list₁ : List ℕ) (has failed : ℕ) (b : Bool) → bytes ≤ length list → FailsOk own words (n - 1) bytes b → failed ≡ flag b → has ≡ flag (found .has)
-        → list₁ ≡ take bytes work₁ ++ drop bytes list → vs₁ ≡ laid (toZ w32) (found .value .leaves) vs → ShowOk own words n vs list (record { number = 0; valued = has; fails = failed; bytes = bytes }) vs₁ list₁
-    show-0 vs vs₁ list list₁ has failed b l fb p q o u rows ws c t s x e =
+        → list₁ ≡ take bytes work₁ ++ drop bytes list → vs₁ ≡ laid (toZ w32) (found .value .leaves) vs → ShowOk own words n role vs list (record { number = 0; valued = has; fails = failed; bytes = bytes }) vs₁ list₁
+    show-0 vs vs₁ list list₁ has failed b l fb p q o u rows ws c t s x e i =
         let w = ready-writing x in
         let d : found ≡ asFound (value c t s) = v 0 c (sits (x .site)) (x .cells) [] (x .type) s t (x .writes .typed) (x .writes .stored) (small (x .site)) small-nil (w .holds) (w .stores) in
-        let y = listed x in
-        subst (λ a. Filled a (record { number = 0; valued = has; fails = failed; bytes = bytes }) vs₁ list₁) (sym (answers x vs list l))
+        let y = listed x i in
+        subst (λ a. Filled a (record { number = 0; valued = has; fails = failed; bytes = bytes }) vs₁ list₁) (sym (answers x i vs list l))
         (record {
           number = refl;
           hasValue = q ∙ ap (λ r. flag (r .has)) d ∙ value-flag (value c t s);
-          fails = p ∙ ap flag (fails-is x b fb);
+          fails = p ∙ ap flag (fails-is x i b fb);
           bytes = y .count;
           value = u ∙ laid-all (found .value .leaves) vs (long ∙ sym e) ∙ ap (λ r. map (toZ w32) (r .value .leaves)) d ∙ value-back (value c t s) (value-type (x .writes .typed) (x .writes .stored));
-          list = o ∙ ap₂ _++_ (taken x) (ap (λ n. drop n list) (y .count));
+          list = o ∙ ap₂ _++_ (taken x i) (ap (λ n. drop n list) (y .count));
         })
 
 -- a last row that failed as a whole
 pub show-failed : (vs vs₁ : List ℤ) → vs₁ ≡ laid (toZ w32) (noValue .leaves) vs → ShowFailedOk vs (record { number = 0; valued = 0; fails = 1; bytes = 0 }) vs₁
-unfolding lookIn entries failing value hasOne listText valueMemory
-show-failed vs vs₁ e τ s list l =
+unfolding lookRest entries failing value hasOne listText valueMemory
+show-failed vs vs₁ e role τ s list l =
     let b : leb (0 * entryBytes) (length list) ≡ true = le-leb (0 * entryBytes) (length list) (omega arith) in
     rw b (record { number = refl; hasValue = refl; fails = refl; bytes = refl; value = e ∙ laid-all (noValue .leaves) vs (sym l); list = refl })
 
 -- ---- what `open` leaves
 
-module _ (rows ws vs : List ℤ) (list own words : List ℕ) (r : Opening) (h : OpenOk rows ws (eqb (length vs) maxLeaves) own words r) where
-  pub fill-shut : (r .number ≡ 0 → ⊥) → Filled (lookCall rows ws vs list) (shut (r .number)) vs list
+module _ (rows ws : List ℤ) (role : ℕ) (vs : List ℤ) (list own words : List ℕ) (r : Opening) (h : OpenOk rows ws (eqb (length vs) maxLeaves) own words r) where
+  pub fill-shut : (r .number ≡ 0 → ⊥) → Filled (lookCall rows ws role vs list) (shut (r .number)) vs list
   unfolding lookCall lookIn
   fill-shut z = by (opened rows ws (eqb (length vs) maxLeaves)) h
     where
-      by : (o : Opened) → Opens rows ws own words r o → Filled (lookIn vs list o) (shut (r .number)) vs list
+      by : (o : Opened) → Opens rows ws own words r o → Filled (lookIn role vs list o) (shut (r .number)) vs list
       by (refusedBy g) x = record { number = x .0; hasValue = refl; fails = refl; bytes = refl; value = refl; list = refl }
       by (restOf q) x = absurd (z (x .0))
 
   pub fill-fine : r .number ≡ 0 → r .failed ≡ false → (1 ≤ r .n) × Fine own (r .n - 1) 0
   fill-fine z n = let f = opened-fine rows ws own words r (opened rows ws (eqb (length vs) maxLeaves)) h z n in (f .0, f .2)
 
-  -- a rest is opened, of a task or of a row that failed
-  by-found : r .number ≡ 0 → {a : Looked} {vs₁ : List ℤ} {list₁ : List ℕ} → ((q : FlowState) → OpensTo rows ws own words r q → length vs ≡ maxLeaves → Filled (lookIn vs list (restOf q)) a vs₁ list₁)
-      → Filled (lookCall rows ws vs list) a vs₁ list₁
+  -- a rest is opened
+  by-rest : r .number ≡ 0 → {a : Looked} {vs₁ : List ℤ} {list₁ : List ℕ} → ((q : FlowState) → OpensTo rows ws own words r q → length vs ≡ maxLeaves → Filled (lookIn role vs list (restOf q)) a vs₁ list₁)
+      → Filled (lookCall rows ws role vs list) a vs₁ list₁
   unfolding lookCall
-  by-found z {a} {vs₁} {list₁} g = by (opened rows ws (eqb (length vs) maxLeaves)) refl h
+  by-rest z {a} {vs₁} {list₁} g = by (opened rows ws (eqb (length vs) maxLeaves)) refl h
     where
-      by : (o : Opened) → opened rows ws (eqb (length vs) maxLeaves) ≡ o → Opens rows ws own words r o → Filled (lookIn vs list o) a vs₁ list₁
+      by : (o : Opened) → opened rows ws (eqb (length vs) maxLeaves) ≡ o → Opens rows ws own words r o → Filled (lookIn role vs list o) a vs₁ list₁
       by (refusedBy k) e x = let p = x .0 in let q = x .1 in absurd (omega (arith, p, q, z))
       by (restOf q) e x = g q (x .1) (eqb-true (length vs) maxLeaves (opened-fits rows ws (eqb (length vs) maxLeaves) e))
 
-  pub fill-ready : r .number ≡ 0 → r .failed ≡ false → (a : Looked) (vs₁ : List ℤ) (list₁ : List ℕ) → ShowOk own words (r .n) vs list a vs₁ list₁ → Filled (lookCall rows ws vs list) a vs₁ list₁
-  fill-ready z n a vs₁ list₁ g = by-found z (λ q f. by f)
-    where
-      by : {q : FlowState} → OpensTo rows ws own words r q → length vs ≡ maxLeaves → Filled (lookIn vs list (restOf q)) a vs₁ list₁
-      by (to-task {c} {t} {s} k y) l = g rows ws c t s y l
-      by (to-failed k) l = apart k n
+  -- ground 8, whatever the rest shows
+  pub fill-8 : r .number ≡ 0 → isRole role ≡ false → Filled (lookCall rows ws role vs list) (shut eventNotRead) vs list
+  unfolding lookIn
+  fill-8 z n = by-rest z (λ q f l. rw n (refused-filled eventNotRead vs list))
 
-  pub fill-failed : r .number ≡ 0 → r .failed ≡ true → (a : Looked) (vs₁ : List ℤ) → ShowFailedOk vs a vs₁ → Filled (lookCall rows ws vs list) a vs₁ list
-  fill-failed z n a vs₁ g = by-found z (λ q f. by f)
-    where
-      by : {q : FlowState} → OpensTo rows ws own words r q → length vs ≡ maxLeaves → Filled (lookIn vs list (restOf q)) a vs₁ list
-      by (to-task k y) l = apart n k
-      by (to-failed {τ} {s} k) l = g τ s list l
+  module _ (z : r .number ≡ 0) (i : isRole role ≡ true) where
+    -- of a task or of a row that failed
+    by-found : {a : Looked} {vs₁ : List ℤ} {list₁ : List ℕ} → ((q : FlowState) → OpensTo rows ws own words r q → length vs ≡ maxLeaves → Filled (lookRest role vs list q) a vs₁ list₁)
+        → Filled (lookCall rows ws role vs list) a vs₁ list₁
+    unfolding lookIn
+    by-found g = by-rest z (λ q f l. rw i (g q f l))
+
+    pub fill-ready : r .failed ≡ false → (a : Looked) (vs₁ : List ℤ) (list₁ : List ℕ) → ShowOk own words (r .n) role vs list a vs₁ list₁ → Filled (lookCall rows ws role vs list) a vs₁ list₁
+    fill-ready n a vs₁ list₁ g = by-found (λ q f. by f)
+      where
+        by : {q : FlowState} → OpensTo rows ws own words r q → length vs ≡ maxLeaves → Filled (lookRest role vs list q) a vs₁ list₁
+        by (to-task {c} {t} {s} k y) l = g rows ws c t s y l i
+        by (to-failed k) l = apart k n
+
+    pub fill-failed : r .failed ≡ true → (a : Looked) (vs₁ : List ℤ) → ShowFailedOk vs a vs₁ → Filled (lookCall rows ws role vs list) a vs₁ list
+    fill-failed n a vs₁ g = by-found (λ q f. by f)
+      where
+        by : {q : FlowState} → OpensTo rows ws own words r q → length vs ≡ maxLeaves → Filled (lookRest role vs list q) a vs₁ list
+        by (to-task k y) l = apart n k
+        by (to-failed {τ} {s} k) l = g role τ s list l
 
 -- the part that is handed back is the front of the list
-pub part-is : (rows ws vs : List ℤ) (list : List ℕ) (a : Looked) (vs₁ : List ℤ) (list₁ : List ℕ) → Filled (lookCall rows ws vs list) a vs₁ list₁
-    → (a .bytes ≤ length list₁) × (take (a .bytes) list₁ ≡ lookCall rows ws vs list .part)
-unfolding lookCall lookIn
-part-is rows ws vs list a vs₁ list₁ h =
+abbrev Front : LookAnswer → Type 0
+Front a = (length (a .part) ≤ length (a .list)) × (take (length (a .part)) (a .list) ≡ a .part)
+
+pub part-is : (rows ws : List ℤ) (role : ℕ) (vs : List ℤ) (list : List ℕ) (a : Looked) (vs₁ : List ℤ) (list₁ : List ℕ) → Filled (lookCall rows ws role vs list) a vs₁ list₁
+    → (a .bytes ≤ length list₁) × (take (a .bytes) list₁ ≡ lookCall rows ws role vs list .part)
+unfolding lookCall lookIn lookRest
+part-is rows ws role vs list a vs₁ list₁ h =
     let o = opened rows ws (eqb (length vs) maxLeaves) in
     let f = front o in
     let e = h .bytes in let p = ap length (h .list) in let q = f .0 in
     (omega (arith, e, p, q), ap₂ take e (h .list) ∙ f .1)
   where
-    front : (o : Opened) → (length (lookIn vs list o .part) ≤ length (lookIn vs list o .list)) × (take (length (lookIn vs list o .part)) (lookIn vs list o .list) ≡ lookIn vs list o .part)
-    front (refusedBy g) = (omega arith, refl)
-    front (restOf z) =
-        let es = entries (z .code) [] (z .store) (z .task) in
+    of-rest : (z : FlowState) → Front (lookRest role vs list z)
+    of-rest z =
+        let es = entries (is role) (z .code) [] (z .store) (z .task) in
         cases (leb (length es * entryBytes) (length list))
         (λ y. let l = length-append (listText es) (drop (length (listText es)) list) in rw y (omega (arith, l), take-at (listText es) (drop (length (listText es)) list) (length (listText es)) refl))
         (λ y. rw y (omega arith, refl))
+
+    front : (o : Opened) → Front (lookIn role vs list o)
+    front (refusedBy g) = (omega arith, refl)
+    front (restOf z) = cases (isRole role) (λ y. rw y (of-rest z)) (λ y. rw y (omega arith, refl))
 
 -- ---- bytes over the front of a list, one by one
 
@@ -214,10 +239,10 @@ put-done from to now i n e h = subst (λ k. now ≡ take k from ++ drop k to) e 
 
 -- ---- the part
 
-pub part-long : (rows ws vs : List ℤ) (list : List ℕ) (a : Looked) (vs₁ : List ℤ) (list₁ : List ℕ) → Filled (lookCall rows ws vs list) a vs₁ list₁ → a .bytes ≡ length (take (a .bytes) list₁)
-part-long rows ws vs list a vs₁ list₁ h = sym (length-take-le (a .bytes) list₁ (part-is rows ws vs list a vs₁ list₁ h .0))
+pub part-long : (rows ws : List ℤ) (role : ℕ) (vs : List ℤ) (list : List ℕ) (a : Looked) (vs₁ : List ℤ) (list₁ : List ℕ) → Filled (lookCall rows ws role vs list) a vs₁ list₁ → a .bytes ≡ length (take (a .bytes) list₁)
+part-long rows ws role vs list a vs₁ list₁ h = sym (length-take-le (a .bytes) list₁ (part-is rows ws role vs list a vs₁ list₁ h .0))
 
-pub look-is : (rows ws vs : List ℤ) (list : List ℕ) (a : Looked) (vs₁ : List ℤ) (list₁ : List ℕ) → Filled (lookCall rows ws vs list) a vs₁ list₁
-    → LookOk (lookCall rows ws vs list) (take (a .bytes) list₁) (a .number) (a .valued) (a .fails) vs₁
-look-is rows ws vs list a vs₁ list₁ h =
-    record { part-is = part-is rows ws vs list a vs₁ list₁ h .1; number-is = h .number; valued-is = h .hasValue; fails-is = h .fails; value-is = h .value }
+pub look-is : (rows ws : List ℤ) (role : ℕ) (vs : List ℤ) (list : List ℕ) (a : Looked) (vs₁ : List ℤ) (list₁ : List ℕ) → Filled (lookCall rows ws role vs list) a vs₁ list₁
+    → LookOk (lookCall rows ws role vs list) (take (a .bytes) list₁) (a .number) (a .valued) (a .fails) vs₁
+look-is rows ws role vs list a vs₁ list₁ h =
+    record { part-is = part-is rows ws role vs list a vs₁ list₁ h .1; number-is = h .number; valued-is = h .hasValue; fails-is = h .fails; value-is = h .value }

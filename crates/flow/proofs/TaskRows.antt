@@ -5,7 +5,7 @@ use mathlib.Core.Option.{Option, none, some}
 use mathlib.Core.List.{List}
 use Prim.Native.Nat.{ℕ, zero, suc, _≤_}
 use native.Mathlib.Omega.{arith}
-use Rattle.tophat.specs.Syntax.{Code, edit, enter, update, then, next, fail, and, or, xor, view, if, let', taskRows}
+use Rattle.tophat.specs.Syntax.{Code, edit, enter, update, then, next, fail, and, or, xor, view, gate, if, let', taskRows}
 use Rattle.rows.specs.ComputeTrees.{codeAt}
 use Rattle.rows.proofs.TreeSum.{sumTo}
 use Rattle.rows.proofs.Totals.{parts, Adds, of, shareAt, total-is}
@@ -28,6 +28,7 @@ adds (and a b) = omega arith
 adds (or a b) = omega arith
 adds (xor a b) = omega arith
 adds (view x) = refl
+adds (gate r n b) = omega arith
 adds (if x a b) = omega arith
 adds (let' x b) = omega arith
 

@@ -1,19 +1,20 @@
 -- What the functions below `look` leave: number, flags, the part's length, value memory and list memory, as the definition has
 -- them. Rests on Calls and Opens.
 use mathlib.Core.Path.{_≡_}
-use mathlib.Core.Bool.{Bool, false}
+use mathlib.Core.Bool.{Bool, true, false}
 use mathlib.Core.List.{List}
 use Prim.Native.Nat.{ℕ, _*_}
 use lib.IntN.{ℤ}
 use lib.ListN.{length, replicate}
 use Rattle.tophat.specs.Syntax.{maxLeaves, Ty, Code, TaskOf, Store}
+use Rattle.tophat.specs.Roles.{isRole}
 use Rattle.rows.specs.Enclosing.{maxBinders}
 use Rattle.state.specs.Holds.{valueLength}
 use Rattle.state.specs.Contracts.{FailingOk}
 use Rattle.flow.specs.declared.look.Looked.{Looked}
 use Rattle.call_definitions.specs.Memory.{LookAnswer}
 use Rattle.call_definitions.specs.States.{taskState, failedState}
-use Rattle.call_definitions.specs.Calls.{restOf, lookIn}
+use Rattle.call_definitions.specs.Calls.{lookRest}
 use Rattle.flow.specs.Opens.{Ready}
 
 pub record Filled (a : LookAnswer) (r : Looked) (vs : List ℤ) (bs : List ℕ) : Type 0 where
@@ -28,14 +29,14 @@ pub record Filled (a : LookAnswer) (r : Looked) (vs : List ℤ) (bs : List ℕ) 
 abbrev pub FailsOk : List ℕ → List ℕ → ℕ → ℕ → Bool → Type 0
 FailsOk own words i bytes r = (bytes ≡ 0 → FailingOk own words i (replicate (maxBinders * valueLength) 0) 0 r) × ((bytes ≡ 0 → ⊥) → r ≡ false)
 
--- what is shown of a rest that is opened
-abbrev pub ShowOk : List ℕ → List ℕ → ℕ → List ℤ → List ℕ → Looked → List ℤ → List ℕ → Type 0
-ShowOk own words n vs list r vs₁ list₁ = (rows ws : List ℤ) (c : Code) (t : TaskOf c) (s : Store) → Ready rows ws own words n c t s → length vs ≡ maxLeaves
-    → Filled (lookIn vs list (restOf (taskState c t s))) r vs₁ list₁
+-- what is shown to a role of a rest that is opened
+abbrev pub ShowOk : List ℕ → List ℕ → ℕ → ℕ → List ℤ → List ℕ → Looked → List ℤ → List ℕ → Type 0
+ShowOk own words n role vs list r vs₁ list₁ = (rows ws : List ℤ) (c : Code) (t : TaskOf c) (s : Store) → Ready rows ws own words n c t s → length vs ≡ maxLeaves → isRole role ≡ true
+    → Filled (lookRest role vs list (taskState c t s)) r vs₁ list₁
 
--- and of a last row that failed as a whole
+-- and of a last row that failed as a whole, to every role
 abbrev pub ShowFailedOk : List ℤ → Looked → List ℤ → Type 0
-ShowFailedOk vs r vs₁ = (τ : Ty) (s : Store) (list : List ℕ) → length vs ≡ maxLeaves → Filled (lookIn vs list (restOf (failedState τ s))) r vs₁ list
+ShowFailedOk vs r vs₁ = (role : ℕ) (τ : Ty) (s : Store) (list : List ℕ) → length vs ≡ maxLeaves → Filled (lookRest role vs list (failedState τ s)) r vs₁ list
 
 -- what `look` answers: the part that it hands back, number and flags, and the value memory at exit
 pub record LookOk (a : LookAnswer) (part : List ℕ) (number valued fails : ℕ) (vs : List ℤ) : Type 0 where

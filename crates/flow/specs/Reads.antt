@@ -15,14 +15,14 @@ use Rattle.tophat.specs.Leaves.{Given}
 use Rattle.tophat.specs.Handling.{actNumber, actTable, Action}
 use Rattle.formats.specs.declared.Leaves.{Leaves}
 use Rattle.formats.specs.Records.{fieldsAt, numberSaid, each}
-use Rattle.formats.specs.Touches.{numbered, leafSaid, allowed, actionOf}
+use Rattle.formats.specs.Touches.{roleColumns, eventRole, numbered, leafSaid, allowed, actionOf}
 use Rattle.handle.specs.Events.{giveNumber, rightNumber, KnownEvent, leavesBy, actionBy, eventPath, eventAction}
 use Rattle.flow.specs.declared.event.EventReading.{EventReading}
 
 -- what a reading says of an event; it is one that the engine takes
-abbrev pub Says : EventReading → Option (Path × Action) → Type 0
+abbrev pub Says : EventReading → Option (ℕ × Path × Action) → Type 0
 Says r none = r .readable ≡ false
-Says r (some q) = (r .readable ≡ true) × (eventPath (r .event) ≡ q .0) × (eventAction (r .event) ≡ q .1) × KnownEvent (r .event)
+Says r (some q) = (r .readable ≡ true) × (r .event .role ≡ q .0) × (eventPath (r .event) ≡ q .1) × (eventAction (r .event) ≡ q .2) × KnownEvent (r .event)
 
 -- the action of a number, with leaves that it can have
 unfoldable pub actionAt : ℤ → List Given → Option Action
@@ -33,15 +33,16 @@ pub record KnownOk (a : ℕ) (ls : List Given) (r : Bool) : Type 0 where
   pub yes : r ≡ true → (actionAt (toZ w32 a) ls ≡ some (actionBy a ls)) × (giveNumber ≤ a) × (a ≤ rightNumber)
   pub no : r ≡ false → actionAt (toZ w32 a) ls ≡ none
 
--- what a path's number, an action's bits and leaves that were read come to
-unfoldable pub touchOf : ℕ → ℕ → Leaves → Option (Path × Action)
-touchOf p a ls = cond (ls .readable) (bind (actionAt (toZ w32 a) (leavesBy (ls .words) (ls .blank))) λ x. some (pathOf p, x)) none
+-- what a role, a path's number, an action's bits and leaves that were read come to
+unfoldable pub touchOf : ℕ → ℕ → ℕ → Leaves → Option (ℕ × Path × Action)
+touchOf r p a ls = cond (ls .readable) (bind (actionAt (toZ w32 a) (leavesBy (ls .words) (ls .blank))) λ x. some (r, pathOf p, x)) none
 
 -- what the fields of an event's bytes say
-unfoldable pub fieldsSay : List ℕ → Option (Path × Action)
+unfoldable pub fieldsSay : List ℕ → Option (ℕ × Path × Action)
 fieldsSay s =
-    bind (readsPathAt s 0) λ p.
-    bind (numberSaid (readsAt s pathColumns actionColumns)) λ n.
-    bind (each leafSaid (fieldsAt s (pathColumns + actionColumns) (replicate maxLeaves wordColumns))) λ ls.
+    bind (eventRole s) λ r.
+    bind (readsPathAt s roleColumns) λ p.
+    bind (numberSaid (readsAt s (roleColumns + pathColumns) actionColumns)) λ n.
+    bind (each leafSaid (fieldsAt s (roleColumns + pathColumns + actionColumns) (replicate maxLeaves wordColumns))) λ ls.
     bind (actionAt n ls) λ x.
-    some (p, x)
+    some (r, p, x)

@@ -2,6 +2,7 @@
 use mathlib.Core.Bool.{true}
 use mathlib.Core.Option.{Option}
 use mathlib.Core.List.{List}
+use Prim.Native.Nat.{ℕ}
 use lib.IntN.{ℤ}
 use Rattle.decimal.specs.Path.{Path}
 use Rattle.tophat.specs.Handling.{Action}
@@ -13,4 +14,4 @@ use Rattle.flow.specs.Starts.{Answered}
 use Rattle.flow.specs.Reads.{Says}
 
 abbrev pub TakeOk : List ℤ → List ℤ → EventReading → Answer → List ℤ → Type 0
-TakeOk rows ws e r out = (o : Option (Path × Action)) → Says e o → Answered (handleIn rows ws o (opened rows ws true)) r out × Bounded rows (r .strides)
+TakeOk rows ws e r out = (o : Option (ℕ × Path × Action)) → Says e o → Answered (handleIn rows ws o (opened rows ws true)) r out × Bounded rows (r .strides)

@@ -1,4 +1,4 @@
-// An event's bytes, read (01, "Touches and what is shown"; ground 8).
+// An event's bytes, read (01, "Touches and what is shown"; CR 6; ground 8).
 use decimal::field;
 use decimal::field::ACTION_COLUMNS;
 use decimal::field::NEWLINE;
@@ -6,11 +6,13 @@ use decimal::field::Reading;
 use decimal::field::WORD_COLUMNS;
 use decimal::path;
 use decimal::path::PathReading;
-use formats::ACTION_AT;
+use formats::EVENT_ACTION_AT;
 use formats::EVENT_BYTES;
-use formats::LEAVES_AT;
+use formats::EVENT_LEAVES_AT;
+use formats::EVENT_PATH_AT;
 use formats::Leaves;
 use formats::read_leaves;
+use formats::read_role;
 use handle::Event;
 use tophat::CONTINUE;
 use tophat::GIVE;
@@ -63,6 +65,7 @@ fn unread() -> EventReading
     EventReading {
         readable: false,
         event: Event {
+            role: 0,
             path: 0,
             action: GIVE,
             leaves: [0u32; MAX_LEAVES],
@@ -71,10 +74,10 @@ fn unread() -> EventReading
     }
 }
 
-// The event of a path, an action and leaves.
-fn event_of(path: u32, action: u32, leaves: Leaves) -> EventReading
+// The event of a role, a path, an action and leaves.
+fn event_of(role: u32, path: u32, action: u32, leaves: Leaves) -> EventReading
     requires { ⌜ ZeroBlanks (leaves .words) (leaves .blank) ⌝ }
-    ensures { λ r. ⌜ Says r (touchOf path action leaves) ⌝ }
+    ensures { λ r. ⌜ Says r (touchOf role path action leaves) ⌝ }
 {
     let words = leaves.words;
     let blank = leaves.blank;
@@ -87,6 +90,7 @@ fn event_of(path: u32, action: u32, leaves: Leaves) -> EventReading
     EventReading {
         readable: true,
         event: Event {
+            role: role,
             path: path,
             action: action,
             leaves: words,
@@ -99,14 +103,18 @@ fn event_of(path: u32, action: u32, leaves: Leaves) -> EventReading
 fn read_fields(s: &[u8]) -> EventReading
     ensures { λ r. ⌜ Says r (fieldsSay (now (s .entry))) ⌝ }
 {
-    let PathReading::Marks(path) = path::read(s, 0) else {
+    let role = read_role(s);
+    if role == 0 {
+        return unread();
+    }
+    let PathReading::Marks(path) = path::read(s, EVENT_PATH_AT) else {
         return unread();
     };
-    let reading = field::read(s, ACTION_AT, ACTION_COLUMNS);
+    let reading = field::read(s, EVENT_ACTION_AT, ACTION_COLUMNS);
     match reading {
         Reading::Number(action) => {
-            let leaves = read_leaves(s, LEAVES_AT, WORD_COLUMNS);
-            return event_of(path, action, leaves);
+            let leaves = read_leaves(s, EVENT_LEAVES_AT, WORD_COLUMNS);
+            return event_of(role, path, action, leaves);
         }
         Reading::Blank => unread(),
         Reading::Unreadable => unread(),

@@ -4,7 +4,9 @@ use entries::LIST_BYTES;
 use entries::entries;
 use normalising::failing;
 use rows::ROWS_WORDS;
+use rows::grounds::EVENT_NOT_READ;
 use rows::grounds::LIST_TOO_SHORT;
+use rows::is_role;
 use state::ENV_WORDS;
 use state::STATE_SIZE;
 use tophat::MAX_LEAVES;
@@ -72,20 +74,21 @@ fn fails(own: &[u32; ROWS_WORDS], words: &[u32; STATE_SIZE], row: usize, bytes: 
     failing(own, words, row, &none, 0)
 }
 
-// What the rest shows, where the list has room for it.
+// What the rest shows to the role, where the list has room for it.
 fn show(
     own: &[u32; ROWS_WORDS],
     words: &[u32; STATE_SIZE],
     n: usize,
+    role: u32,
     work: &mut [u8; LIST_BYTES],
     value: &mut [i32],
     list: &mut [u8],
 ) -> Looked
     requires { ⌜ (1 ≤ n) × Fine (now own) (n - 1) 0 ⌝ }
-    ensures { λ r. ⌜ ShowOk (now (own .entry)) (now (words .entry)) n (now (value .entry)) (now (list .entry)) r (now (value .exit)) (now (list .exit)) ⌝ }
+    ensures { λ r. ⌜ ShowOk (now (own .entry)) (now (words .entry)) n role (now (value .entry)) (now (list .entry)) r (now (value .exit)) (now (list .exit)) ⌝ }
 {
     let none = [0u32; ENV_WORDS];
-    let bytes = entries(own, words, n - 1, &none, 0, 0, 1, work);
+    let bytes = entries(own, words, n - 1, &none, 0, role, 0, 1, work);
     if list.len() < bytes {
         return Looked {
             number: LIST_TOO_SHORT,
@@ -120,9 +123,9 @@ fn show_failed(value: &mut [i32]) -> Looked
     }
 }
 
-// Looks, and states all of the list at exit.
-pub fn fill(rows: &[i32], state: &[i32], value: &mut [i32], list: &mut [u8]) -> Looked
-    ensures { λ r. ⌜ Filled (lookCall (now (rows .entry)) (now (state .entry)) (now (value .entry)) (now (list .entry))) r (now (value .exit)) (now (list .exit)) ⌝ }
+// Looks in a role, and states all of the list at exit. A role outside 1 to 8 is 8 (CR 6).
+pub fn fill(rows: &[i32], state: &[i32], role: u32, value: &mut [i32], list: &mut [u8]) -> Looked
+    ensures { λ r. ⌜ Filled (lookCall (now (rows .entry)) (now (state .entry)) role (now (value .entry)) (now (list .entry))) r (now (value .exit)) (now (list .exit)) ⌝ }
 {
     let mut own = [0u32; ROWS_WORDS];
     let mut words = [0u32; STATE_SIZE];
@@ -136,26 +139,35 @@ pub fn fill(rows: &[i32], state: &[i32], value: &mut [i32], list: &mut [u8]) -> 
             bytes: 0,
         };
     }
+    if !is_role(role) {
+        return Looked {
+            number: EVENT_NOT_READ,
+            valued: 0,
+            fails: 0,
+            bytes: 0,
+        };
+    }
     if rest.failed {
         return show_failed(value);
     }
     let mut work = [0u8; LIST_BYTES];
-    show(&own, &words, rest.n, &mut work, value, list)
+    show(&own, &words, rest.n, role, &mut work, value, list)
 }
 
-// Looks, and hands back the part of the list that was written.
+// Looks in a role, and hands back the part of the list that was written.
 pub fn look<'a>(
     rows: &[i32],
     state: &[i32],
+    role: u32,
     value: &mut [i32],
     number: &mut u32,
     valued: &mut u32,
     fails: &mut u32,
     list: &'a mut [u8],
 ) -> &'a mut [u8]
-    ensures { λ r. ⌜ LookOk (lookCall (now (rows .entry)) (now (state .entry)) (now (value .entry)) (now (list .entry))) (now r) (now (number .exit)) (now (valued .exit)) (now (fails .exit)) (now (value .exit)) ⌝ }
+    ensures { λ r. ⌜ LookOk (lookCall (now (rows .entry)) (now (state .entry)) role (now (value .entry)) (now (list .entry))) (now r) (now (number .exit)) (now (valued .exit)) (now (fails .exit)) (now (value .exit)) ⌝ }
 {
-    let seen = fill(rows, state, value, list);
+    let seen = fill(rows, state, role, value, list);
     let n = seen.bytes;
     *number = seen.number;
     *valued = seen.valued;

@@ -43,8 +43,9 @@ pub fn take(rows: &[i32], state: &mut [i32], e: EventReading) -> Answer
     }
     let none = [0u32; ENV_WORDS];
     let last = opening.n - 1;
-    if !handle(&own, &mut words, last, &none, 0, e.event) {
-        return refused(NOT_HANDLED);
+    let number = handle(&own, &mut words, last, &none, 0, e.event);
+    if number != 0 {
+        return refused(number);
     }
     let strides = normalise(&own, &mut words, last, &none, 0);
     state_out(&words, opening.n, state);

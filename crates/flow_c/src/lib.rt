@@ -33,26 +33,27 @@ pub extern "C" fn nannyjiffy_start(rows: &[i32], state: &mut [i32], strides: &mu
     started.number
 }
 
-// Looks at a rest: 0, or the first ground of 20 to 24. `bytes` is the length of the part that 01 hands back, the front of the
-// list; the contract has the whole list.
+// Looks at a rest in a role: 0, or the first ground of 20 to 23, 8 for a role outside 1 to 8 (CR 6), and 24. `bytes` is the
+// length of the part that 01 hands back, the front of the list; the contract has the whole list.
 #[no_mangle]
 pub extern "C" fn nannyjiffy_look(
     rows: &[i32],
     state: &[i32],
+    role: u32,
     value: &mut [i32],
     list: &mut [u8],
     valued: &mut u32,
     fails: &mut u32,
     bytes: &mut usize,
 ) -> u32
-    ensures { λ r. ⌜ r ≡ lookCall (now (rows .entry)) (now (state .entry)) (now (value .entry)) (now (list .entry)) .number ⌝ }
-    ensures { λ _. ⌜ now (valued .exit) ≡ lookCall (now (rows .entry)) (now (state .entry)) (now (value .entry)) (now (list .entry)) .hasValue ⌝ }
-    ensures { λ _. ⌜ now (fails .exit) ≡ lookCall (now (rows .entry)) (now (state .entry)) (now (value .entry)) (now (list .entry)) .fails ⌝ }
-    ensures { λ _. ⌜ now (bytes .exit) ≡ length (lookCall (now (rows .entry)) (now (state .entry)) (now (value .entry)) (now (list .entry)) .part) ⌝ }
-    ensures { λ _. ⌜ now (value .exit) ≡ lookCall (now (rows .entry)) (now (state .entry)) (now (value .entry)) (now (list .entry)) .value ⌝ }
-    ensures { λ _. ⌜ now (list .exit) ≡ lookCall (now (rows .entry)) (now (state .entry)) (now (value .entry)) (now (list .entry)) .list ⌝ }
+    ensures { λ r. ⌜ r ≡ lookCall (now (rows .entry)) (now (state .entry)) role (now (value .entry)) (now (list .entry)) .number ⌝ }
+    ensures { λ _. ⌜ now (valued .exit) ≡ lookCall (now (rows .entry)) (now (state .entry)) role (now (value .entry)) (now (list .entry)) .hasValue ⌝ }
+    ensures { λ _. ⌜ now (fails .exit) ≡ lookCall (now (rows .entry)) (now (state .entry)) role (now (value .entry)) (now (list .entry)) .fails ⌝ }
+    ensures { λ _. ⌜ now (bytes .exit) ≡ length (lookCall (now (rows .entry)) (now (state .entry)) role (now (value .entry)) (now (list .entry)) .part) ⌝ }
+    ensures { λ _. ⌜ now (value .exit) ≡ lookCall (now (rows .entry)) (now (state .entry)) role (now (value .entry)) (now (list .entry)) .value ⌝ }
+    ensures { λ _. ⌜ now (list .exit) ≡ lookCall (now (rows .entry)) (now (state .entry)) role (now (value .entry)) (now (list .entry)) .list ⌝ }
 {
-    let seen = look::fill(rows, state, value, list);
+    let seen = look::fill(rows, state, role, value, list);
     *valued = seen.valued;
     *fails = seen.fails;
     *bytes = seen.bytes;

@@ -1,5 +1,5 @@
 -- Blanks in events (CR 2), in bytes: an event in which any zeros among its leaves, and a 0 that is its path, are left blank says the same
--- path and action, and leaves of which these zeros are blank. Rests on Records and the calculus' blanked leaves.
+-- role, path and action, and leaves of which these zeros are blank. Rests on Records and the calculus' blanked leaves.
 use mathlib.Core.Path.{_≡_, refl, sym, ap, ap₂, subst, _∙_}
 use mathlib.Core.Bool.{Bool, true, false, _&&_, cond}
 use mathlib.Core.Option.{Option, none, some, bind}
@@ -21,23 +21,26 @@ use Rattle.tophat.specs.Leaves.{Given}
 use Rattle.tophat.specs.Handling.{Act, giving, pressing, actNumber, actTable}
 use Rattle.tophat.proofs.Blanks.{Blanked, all, kept, left-blank}
 use Rattle.formats.specs.Records.{total, recordBytes, isRecord, fieldsAt, numberSaid, each}
-use Rattle.formats.specs.Touches.{eventColumns, numbered, touchIn, leafSaid, isNothing, allNothing, allowed, eventSays}
+use Rattle.formats.specs.Touches.{roleColumns, eventColumns, numbered, touchIn, roleSaid, eventRole, leafSaid, isNothing, allNothing, allowed, eventSays}
 use Rattle.formats.proofs.Each.{each-at}
 use Rattle.formats.proofs.Records.{fields-length}
 use Rattle.formats.proofs.Loops.{field-is}
-use Rattle.formats.proofs.CoversRead.{leafFields, readable}
+use Rattle.formats.proofs.CoversRead.{leavesPlace, leafFields, readable}
 
 -- ---- terms
 
--- the bytes of an event's path, of its action, and of its leaf k
+-- the bytes of an event's role, of its path, of its action, and of its leaf k
+abbrev pub roleBytes : List ℕ → List ℕ
+roleBytes s = slice 0 roleColumns s
+
 abbrev pub pathBytes : List ℕ → List ℕ
-pathBytes s = slice 0 pathColumns s
+pathBytes s = slice roleColumns (roleColumns + pathColumns) s
 
 abbrev pub actionBytes : List ℕ → List ℕ
-actionBytes s = slice pathColumns (pathColumns + actionColumns) s
+actionBytes s = slice (roleColumns + pathColumns) leavesPlace s
 
 abbrev pub leafPlace : ℕ → ℕ
-leafPlace k = pathColumns + actionColumns + k * wordColumns
+leafPlace k = leavesPlace + k * wordColumns
 
 abbrev pub leafBytes : List ℕ → ℕ → List ℕ
 leafBytes s k = slice (leafPlace k) (leafPlace k + wordColumns) s
@@ -46,14 +49,15 @@ leafBytes s k = slice (leafPlace k) (leafPlace k + wordColumns) s
 pub record BlankedEvent (e f : List ℕ) : Type 0 where
   pub long : length f ≡ length e
   pub ended : getD f (total eventColumns) 0 ≡ getD e (total eventColumns) 0
+  pub role : roleBytes f ≡ roleBytes e
   pub path : decimal.Blanked (writtenPath []) (pathBytes e) (pathBytes f)
   pub action : actionBytes f ≡ actionBytes e
   pub leaves : (k : ℕ) → k < maxLeaves → decimal.Blanked (written wordColumns (pos 0)) (leafBytes e k) (leafBytes f k)
 
 -- what both say
-pub data BlankedTouch : Option (Path × Act × List Given) → Option (Path × Act × List Given) → Type 0 where
+pub data BlankedTouch : Option (ℕ × Path × Act × List Given) → Option (ℕ × Path × Act × List Given) → Type 0 where
   both-unread : BlankedTouch none none
-  both-say : {p : Path} {a : Act} {ls ms : List Given} → Blanked ls ms → BlankedTouch (some (p, a, ls)) (some (p, a, ms))
+  both-say : {r : ℕ} {p : Path} {a : Act} {ls ms : List Given} → Blanked ls ms → BlankedTouch (some (r, p, a, ls)) (some (r, p, a, ms))
 
 -- ---- the leaves
 
@@ -117,25 +121,31 @@ allowed-blanked (pressing x) b = nothing-blanked b
 -- ---- the event
 
 -- what an event says, by its parts
-abbrev saying : Bool → Option Path → Option ℤ → Option (List Given) → Option (Path × Act × List Given)
-saying r o n x =
-    cond r (bind (bind o λ p. bind n λ z. bind (numbered actNumber actTable z) λ a. bind x λ ls. some (p, a, ls)) λ t. cond (allowed (t .1) (t .2)) (some t) none) none
+abbrev Event : Type 0
+Event = ℕ × Path × Act × List Given
 
-saying-blanked : (r : Bool) (o : Option Path) (n : Option ℤ) {x y : Option (List Given)} → BlankedSaid x y → BlankedTouch (saying r o n x) (saying r o n y)
+abbrev allow : ℕ → Path × Act × List Given → Option Event
+allow k t = cond (allowed (t .1) (t .2)) (some (k, t .0, t .1, t .2)) none
+
+abbrev saying : Bool → Option ℕ → Option Path → Option ℤ → Option (List Given) → Option Event
+saying r i o n x = cond r (bind i λ k. bind (bind o λ p. bind n λ z. bind (numbered actNumber actTable z) λ a. bind x λ ls. some (p, a, ls)) (allow k)) none
+
+saying-blanked : (r : Bool) (i : Option ℕ) (o : Option Path) (n : Option ℤ) {x y : Option (List Given)} → BlankedSaid x y → BlankedTouch (saying r i o n x) (saying r i o n y)
 unfolding bind
-saying-blanked false o n b = both-unread
-saying-blanked true none n b = both-unread
-saying-blanked true (some p) none b = both-unread
-saying-blanked true (some p) (some z) b = by (numbered actNumber actTable z) b
+saying-blanked false i o n b = both-unread
+saying-blanked true none o n b = both-unread
+saying-blanked true (some k) none n b = both-unread
+saying-blanked true (some k) (some p) none b = both-unread
+saying-blanked true (some k) (some p) (some z) b = by (numbered actNumber actTable z) b
   where
-    told : (a : Act) {ls ms : List Given} (r q : Bool) → r ≡ q → Blanked ls ms → BlankedTouch (cond r (some (p, a, ls)) none) (cond q (some (p, a, ms)) none)
+    told : (a : Act) {ls ms : List Given} (r q : Bool) → r ≡ q → Blanked ls ms → BlankedTouch (cond r (some (k, p, a, ls)) none) (cond q (some (k, p, a, ms)) none)
     told a true true e b = both-say b
     told a false false e b = both-unread
     told a true false e b = let z : _≡_ {A = ℕ} 0 1 = cc in absurd (omega arith)
     told a false true e b = let z : _≡_ {A = ℕ} 0 1 = cc in absurd (omega arith)
 
-    by : (k : Option Act) {x y : Option (List Given)} → BlankedSaid x y
-        → BlankedTouch (bind (bind k λ a. bind x λ ls. some (p, a, ls)) λ t. cond (allowed (t .1) (t .2)) (some t) none) (bind (bind k λ a. bind y λ ls. some (p, a, ls)) λ t. cond (allowed (t .1) (t .2)) (some t) none)
+    by : (o : Option Act) {x y : Option (List Given)} → BlankedSaid x y
+        → BlankedTouch (bind (bind o λ a. bind x λ ls. some (p, a, ls)) (allow k)) (bind (bind o λ a. bind y λ ls. some (p, a, ls)) (allow k))
     by none b = both-unread
     by (some a) not-said = both-unread
     by (some a) (both-said {ls} {ms} b) = told a (allowed a ls) (allowed a ms) (allowed-blanked a b) b
@@ -145,36 +155,39 @@ module _ {e f : List ℕ} (b : BlankedEvent e f) where
   unfolding isRecord
   same-record = (λ j. eqb (b .long j) (recordBytes eventColumns) && eqb (b .ended j) newline)
 
-  same-path : readsPathAt f 0 ≡ readsPathAt e 0
+  same-path : readsPathAt f roleColumns ≡ readsPathAt e roleColumns
   unfolding readsPathAt
-  same-path = (λ j. cond (leb (0 + pathColumns) (b .long j)) (blanked-path (b .path) j) none)
+  same-path = (λ j. cond (leb (roleColumns + pathColumns) (b .long j)) (blanked-path (b .path) j) none)
 
   reads-same : (at w : ℕ) → slice at (at + w) f ≡ slice at (at + w) e → readsAt f at w ≡ readsAt e at w
   unfolding readsAt
   reads-same at w g = (λ j. cond (leb (at + w) (b .long j)) (reads (g j)) unreadable)
 
-  same-action : readsAt f pathColumns actionColumns ≡ readsAt e pathColumns actionColumns
-  same-action = reads-same pathColumns actionColumns (b .action)
+  same-role : eventRole f ≡ eventRole e
+  same-role = ap roleSaid (reads-same 0 roleColumns (b .role))
+
+  same-action : readsAt f (roleColumns + pathColumns) actionColumns ≡ readsAt e (roleColumns + pathColumns) actionColumns
+  same-action = reads-same (roleColumns + pathColumns) actionColumns (b .action)
 
   abbrev leavesIn : List ℕ → Option (List Given)
-  leavesIn s = each leafSaid (fieldsAt s (pathColumns + actionColumns) (replicate maxLeaves wordColumns))
+  leavesIn s = each leafSaid (leafFields s)
 
   leaves-blanked : BlankedSaid (leavesIn e) (leavesIn f)
-  leaves-blanked = said-blanked (fields-blanked e f wordColumns maxLeaves (pathColumns + actionColumns) (λ k l. field-blanked e f (leafPlace k) wordColumns (b .long) (blanked-number wordColumns (b .leaves k l))))
+  leaves-blanked = said-blanked (fields-blanked e f wordColumns maxLeaves leavesPlace (λ k l. field-blanked e f (leafPlace k) wordColumns (b .long) (blanked-number wordColumns (b .leaves k l))))
 
-  -- both say the same path and action, and leaves of which zeros are blank; or neither can be read
+  -- both say the same role, path and action, and leaves of which zeros are blank; or neither can be read
   pub says-blanked : BlankedTouch (eventSays e) (eventSays f)
   unfolding eventSays touchIn
   says-blanked = subst (BlankedTouch (eventSays e))
-      (sym (λ j. saying (same-record j) (same-path j) (numberSaid (same-action j)) (leavesIn f)))
-      (saying-blanked (isRecord eventColumns e) (readsPathAt e 0) (numberSaid (readsAt e pathColumns actionColumns)) leaves-blanked)
+      (sym (λ j. saying (same-record j) (same-role j) (same-path j) (numberSaid (same-action j)) (leavesIn f)))
+      (saying-blanked (isRecord eventColumns e) (eventRole e) (readsPathAt e roleColumns) (numberSaid (readsAt e (roleColumns + pathColumns) actionColumns)) leaves-blanked)
 
   -- where only the path is left blank, they say the same
   pub path-blank : ((k : ℕ) → k < maxLeaves → leafBytes f k ≡ leafBytes e k) → eventSays f ≡ eventSays e
   unfolding eventSays touchIn fieldsAt
   path-blank h =
-      let l = fields-same wordColumns maxLeaves (pathColumns + actionColumns) (λ k m. leaf-same k (h k m)) in
-      (λ j. saying (same-record j) (same-path j) (numberSaid (same-action j)) (each leafSaid (l j)))
+      let l = fields-same wordColumns maxLeaves leavesPlace (λ k m. leaf-same k (h k m)) in
+      (λ j. saying (same-record j) (same-role j) (same-path j) (numberSaid (same-action j)) (each leafSaid (l j)))
     where
       leaf-same : (k : ℕ) → leafBytes f k ≡ leafBytes e k → readsAt f (leafPlace k) wordColumns ≡ readsAt e (leafPlace k) wordColumns
       leaf-same k g = reads-same (leafPlace k) wordColumns g
@@ -195,13 +208,13 @@ reads-blank-at s at w h = cases (leb (at + w) (length s))
     e ∙ ap (λ n. replicate n space) {x = length (slice at (at + w) s)} {y = w} (omega (arith, n)))
     (λ y. let g : unreadable ≡ blank = rw y at h in let z : _≡_ {A = ℕ} 0 1 = cc in absurd (omega arith))
 
-pub leaf-spaces : (s : List ℕ) {p : Path} {a : Act} {ls : List Given} → eventSays s ≡ some (p, a, ls) → (j : ℕ) → j < maxLeaves → getD ls j (some (pos 0)) ≡ none → leafBytes s j ≡ replicate wordColumns space
+pub leaf-spaces : (s : List ℕ) {r : ℕ} {p : Path} {a : Act} {ls : List Given} → eventSays s ≡ some (r, p, a, ls) → (j : ℕ) → j < maxLeaves → getD ls j (some (pos 0)) ≡ none → leafBytes s j ≡ replicate wordColumns space
 unfolding leafSaid
 leaf-spaces s {ls = ls} h j l e =
     let r = readable s h in
-    let n = fields-length s (pathColumns + actionColumns) (replicate maxLeaves wordColumns) in
+    let n = fields-length s leavesPlace (replicate maxLeaves wordColumns) in
     let m = each-at leafSaid (leafFields s) (r .leaves) j (omega (arith, n, length-replicate maxLeaves wordColumns, l)) unreadable (some (pos 0)) in
-    reads-blank-at s (leafPlace j) wordColumns (sym (field-is s (pathColumns + actionColumns) j wordColumns l) ∙ by (getD (leafFields s) j unreadable) (m ∙ ap some e))
+    reads-blank-at s (leafPlace j) wordColumns (sym (field-is s leavesPlace j wordColumns l) ∙ by (getD (leafFields s) j unreadable) (m ∙ ap some e))
   where
     by : (f : Field) → leafSaid f ≡ some none → f ≡ blank
     by (number z) q = let a : _≡_ {A = ℕ} 0 1 = cc in absurd (omega arith)

@@ -8,7 +8,7 @@ use Prim.Native.Nat.{ℕ, suc, _+_, _≤_}
 use native.Mathlib.Omega.{arith}
 use lib.Dec.{lit<}
 use lib.IntN.{pos}
-use lib.ListN.{length, replicate, length-replicate, length-map}
+use lib.ListN.{length, replicate, length-replicate}
 use Rattle.word.specs.Word.{eqZ}
 use Rattle.word.proofs.Order.{eqZ-true}
 use Rattle.decimal.specs.Field.{Field, readsAt, actionColumns, wordColumns}
@@ -20,11 +20,13 @@ use Rattle.tophat.specs.Showing.{Offer, fill, button, Entry, Covers, c-fill, c-
 use Rattle.tophat.proofs.Basics.{no-some, some-is, and-left, and-right}
 use Rattle.tophat.proofs.Leaves.{unused-met, met-unused}
 use Rattle.formats.specs.Records.{isRecord, fieldsAt, numberSaid, each}
-use Rattle.formats.specs.Touches.{eventColumns, numbered, touchIn, leafSaid, isNothing, allNothing, allowed, eventSays, actionOf, eventOf, CoversBytes}
+use Rattle.tophat.specs.Roles.{IsRole}
+use Rattle.formats.specs.Touches.{roleColumns, eventColumns, eventRole, numbered, touchIn, leafSaid, isNothing, allNothing, allowed, eventSays, actionOf, eventOf, CoversBytes}
 use Rattle.formats.specs.Lists.{offerAct, offerKinds, entryText}
 use Rattle.formats.proofs.Each.{each-length}
 use Rattle.formats.proofs.Records.{fields-length, GivenWords, no-leaves, blank-leaf, number-leaf}
-use Rattle.formats.proofs.TouchesRead.{leafField, written-leaves, leaves-back, text, text-record, path-said, touch-said}
+use Rattle.formats.proofs.Roles.{said-role}
+use Rattle.formats.proofs.TouchesRead.{written-leaves, event-said}
 use Rattle.formats.proofs.ListsRead.{entry-said}
 
 -- ---- what a readable event says: a leaf for each, and nothing where they carry nothing
@@ -32,41 +34,60 @@ use Rattle.formats.proofs.ListsRead.{entry-said}
 abbrev Touch : Type 0
 Touch = Path × Act × List Given
 
+-- a touch with its role
+abbrev Event : Type 0
+Event = ℕ × Path × Act × List Given
+
+-- where an event's leaves begin
+abbrev pub leavesPlace : ℕ
+leavesPlace = roleColumns + pathColumns + actionColumns
+
 abbrev pub leafFields : List ℕ → List Field
-leafFields s = fieldsAt s (pathColumns + actionColumns) (replicate maxLeaves wordColumns)
+leafFields s = fieldsAt s leavesPlace (replicate maxLeaves wordColumns)
 
-pub record Readable (s : List ℕ) (t : Touch) : Type 0 where
+pub record Readable (s : List ℕ) (t : Event) : Type 0 where
   pub whole : isRecord eventColumns s ≡ true
-  pub leaves : each leafSaid (leafFields s) ≡ some (t .2)
-  pub able : allowed (t .1) (t .2) ≡ true
+  pub role : eventRole s ≡ some (t .0)
+  pub leaves : each leafSaid (leafFields s) ≡ some (t .3)
+  pub able : allowed (t .2) (t .3) ≡ true
 
-touch-leaves : (s : List ℕ) {t : Touch} → touchIn (readsPathAt s 0) leafSaid wordColumns s ≡ some t → each leafSaid (leafFields s) ≡ some (t .2)
+-- the touch in an event's bytes, behind the role
+abbrev touchOf : List ℕ → Option Touch
+touchOf s = touchIn (readsPathAt s roleColumns) leafSaid wordColumns roleColumns s
+
+touch-leaves : (s : List ℕ) {t : Touch} → touchOf s ≡ some t → each leafSaid (leafFields s) ≡ some (t .2)
 unfolding touchIn
 touch-leaves s {t} h =
-    let (p, _, g) = bind-eq-some-iff (readsPathAt s 0) _ .0 h in
-    let (n, _, k) = bind-eq-some-iff (numberSaid (readsAt s pathColumns actionColumns)) _ .0 g in
+    let (p, _, g) = bind-eq-some-iff (readsPathAt s roleColumns) _ .0 h in
+    let (n, _, k) = bind-eq-some-iff (numberSaid (readsAt s (roleColumns + pathColumns) actionColumns)) _ .0 g in
     let (a, _, l) = bind-eq-some-iff (numbered actNumber actTable n) _ .0 k in
     let (ls, e, m) = bind-eq-some-iff (each leafSaid (leafFields s)) _ .0 l in
     let f : (p, a, ls) ≡ t = some-is m in
     e ∙ ap (λ t. some (t .2)) f
 
-pub readable : (s : List ℕ) {t : Touch} → eventSays s ≡ some t → Readable s t
+pub readable : (s : List ℕ) {t : Event} → eventSays s ≡ some t → Readable s t
 unfolding eventSays
 readable s {t} h = by (isRecord eventColumns s) refl h
   where
-    touch : Option Touch
-    touch = touchIn (readsPathAt s 0) leafSaid wordColumns s
+    test : (r : ℕ) (u : Touch) (c : Bool) → isRecord eventColumns s ≡ true → eventRole s ≡ some r → touchOf s ≡ some u → allowed (u .1) (u .2) ≡ c
+        → cond c (some (r, u .0, u .1, u .2)) none ≡ some t → Readable s t
+    test r u true w o e f g = subst (Readable s) (some-is g) (record { whole = w; role = o; leaves = touch-leaves s e; able = f })
+    test r u false w o e f g = no-some g
 
-    test : (u : Touch) (c : Bool) → isRecord eventColumns s ≡ true → touch ≡ some u → allowed (u .1) (u .2) ≡ c → cond c (some u) none ≡ some t → Readable s t
-    test u true w e f g = subst (Readable s) (some-is g) (record { whole = w; leaves = touch-leaves s e; able = f })
-    test u false w e f g = no-some g
-
-    by : (b : Bool) → isRecord eventColumns s ≡ b → cond b (bind touch λ t. cond (allowed (t .1) (t .2)) (some t) none) none ≡ some t → Readable s t
-    by true w k = let (u, e, g) = bind-eq-some-iff touch _ .0 k in test u (allowed (u .1) (u .2)) w e refl g
+    by : (b : Bool) → isRecord eventColumns s ≡ b
+        → cond b (bind (eventRole s) λ r. bind (touchOf s) λ t. cond (allowed (t .1) (t .2)) (some (r, t .0, t .1, t .2)) none) none ≡ some t → Readable s t
+    by true w k =
+        let (r, o, l) = bind-eq-some-iff (eventRole s) _ .0 k in
+        let (u, e, g) = bind-eq-some-iff (touchOf s) _ .0 l in
+        test r u (allowed (u .1) (u .2)) w o e refl g
     by false w k = no-some k
 
-pub leaves-long : (s : List ℕ) {t : Touch} → Readable s t → length (t .2) ≡ maxLeaves
-leaves-long s r = each-length leafSaid (leafFields s) (r .leaves) ∙ fields-length s (pathColumns + actionColumns) (replicate maxLeaves wordColumns) ∙ length-replicate maxLeaves wordColumns
+-- 1 to 8
+pub readable-role : (s : List ℕ) {t : Event} → Readable s t → IsRole (t .0)
+readable-role s r = said-role (readsAt s 0 roleColumns) (r .role)
+
+pub leaves-long : (s : List ℕ) {t : Event} → Readable s t → length (t .3) ≡ maxLeaves
+leaves-long s r = each-length leafSaid (leafFields s) (r .leaves) ∙ fields-length s leavesPlace (replicate maxLeaves wordColumns) ∙ length-replicate maxLeaves wordColumns
 
 -- leaves that are 0 or blank are unused
 nothing-unused : (ls : List Given) → allNothing ls ≡ true → Unused (length ls) ls
@@ -84,16 +105,21 @@ unused-nothing (u-blank u) = unused-nothing u
 
 -- ---- the touch that a readable event says
 
-pub event-of : (s : List ℕ) {p : Path} {a : Act} {ls : List Given} → eventSays s ≡ some (p, a, ls) → eventOf s ≡ some (p, actionOf a ls)
+pub event-of : (s : List ℕ) {r : ℕ} {p : Path} {a : Act} {ls : List Given} → eventSays s ≡ some (r, p, a, ls) → eventOf s ≡ some (r, p, actionOf a ls)
 unfolding eventOf bind
 event-of s h = rw h
 
-pub says-of : (s : List ℕ) {p : Path} {x : Action} → eventOf s ≡ some (p, x) → (a : Act) × (ls : List Given) × (eventSays s ≡ some (p, a, ls)) × (actionOf a ls ≡ x)
+pub says-of : (s : List ℕ) {r : ℕ} {p : Path} {x : Action} → eventOf s ≡ some (r, p, x)
+    → (a : Act) × (ls : List Given) × (eventSays s ≡ some (r, p, a, ls)) × (actionOf a ls ≡ x)
 unfolding eventOf
-says-of s {p} {x} h =
+says-of s h =
     let (t, e, g) = bind-eq-some-iff (eventSays s) _ .0 h in
     let f = some-is g in
-    (t .1, t .2, e ∙ ap (λ q. some (q, t .1, t .2)) (ap (λ r. r .0) f), ap (λ r. r .1) f)
+    (t .2, t .3, e ∙ ap (λ q. some (q .0, q .1, t .2, t .3)) f, ap (λ q. q .2) f)
+
+-- its role is 1 to 8
+pub role-of : (s : List ℕ) {r : ℕ} {p : Path} {x : Action} → eventOf s ≡ some (r, p, x) → IsRole r
+role-of s h = let (a, ls, e, f) = says-of s h in readable-role s (readable s e)
 
 -- by the action it was said with
 given-of : (a : Act) (ls : List Given) {ms : List Given} → actionOf a ls ≡ give ms → (a ≡ giving) × (ls ≡ ms)
@@ -115,26 +141,28 @@ button-met b ls h l = unused-met (subst (λ n. Unused n ls) l (nothing-unused ls
 
 -- an entry that covers the touch covers the bytes that say it
 pub covers-bytes : {e : Entry} {p : Path} {x : Action} → Covers e p x → length (e .0) ≤ maxMarks → length (offerKinds (e .1)) ≡ maxLeaves
-    → (event : List ℕ) → eventOf event ≡ some (p, x) → CoversBytes (entryText e) event
+    → (event : List ℕ) {r : ℕ} → eventOf event ≡ some (r, p, x) → CoversBytes (entryText e) event
 unfolding offerAct offerKinds
-covers-bytes (c-fill {p} {ks} {ls} m) few all event h =
+covers-bytes (c-fill {p} {ks} {ls} m) few all event {r} h =
     let (a, ms, e, f) = says-of event h in
     let (i, j) = given-of a ms f in
     record {
+      role = r;
       path = p;
       act = giving;
       kinds = ks;
       leaves = ls;
       entry-says = entry-said (p, fill ks) few all;
-      event-says = e ∙ (λ k. some (p, i k, j k));
+      event-says = e ∙ (λ k. some (r, p, i k, j k));
       meets = m;
     }
-covers-bytes (c-button {p} {b}) few all event h =
+covers-bytes (c-button {p} {b}) few all event {r} h =
     let (a, ls, e, f) = says-of event h in
     let i = pressed-of a ls f in
-    let g : eventSays event ≡ some (p, pressing b, ls) = e ∙ (λ k. some (p, i k, ls)) in
+    let g : eventSays event ≡ some (r, p, pressing b, ls) = e ∙ (λ k. some (r, p, i k, ls)) in
     let z = readable event g in
     record {
+      role = r;
       path = p;
       act = pressing b;
       kinds = replicate maxLeaves noLeaf;
@@ -150,13 +178,13 @@ unfolding offerAct offerKinds actionOf
 covers-by p (fill ks) ls m = c-fill m
 covers-by p (button b) ls m = c-button
 
-pub bytes-cover : (e : Entry) → length (e .0) ≤ maxMarks → length (offerKinds (e .1)) ≡ maxLeaves → {event : List ℕ} {p : Path} {x : Action}
-    → eventOf event ≡ some (p, x) → CoversBytes (entryText e) event → Covers e p x
-bytes-cover e few all {event} {p} {x} h c =
+pub bytes-cover : (e : Entry) → length (e .0) ≤ maxMarks → length (offerKinds (e .1)) ≡ maxLeaves → {event : List ℕ} {r : ℕ} {p : Path} {x : Action}
+    → eventOf event ≡ some (r, p, x) → CoversBytes (entryText e) event → Covers e p x
+bytes-cover e few all {event} {r} {p} {x} h c =
     let f = some-is (sym (c .entry-says) ∙ entry-said e few all) in
     let g = some-is (sym (event-of event (c .event-says)) ∙ h) in
-    let q : e .0 ≡ p = sym (ap (λ t. t .0) f) ∙ ap (λ t. t .0) g in
-    let y : actionOf (offerAct (e .1)) (c .leaves) ≡ x = ap (λ t. actionOf (t .1) (c .leaves)) (sym f) ∙ ap (λ t. t .1) g in
+    let q : e .0 ≡ p = sym (ap (λ t. t .0) f) ∙ ap (λ t. t .1) g in
+    let y : actionOf (offerAct (e .1)) (c .leaves) ≡ x = ap (λ t. actionOf (t .1) (c .leaves)) (sym f) ∙ ap (λ t. t .2) g in
     let m = subst (λ ks. Meets ks (c .leaves)) (ap (λ t. t .2) f) (c .meets) in
     subst (λ p. Covers e p x) q (subst (λ x. Covers e (e .0) x) y (covers-by (e .0) (e .1) (c .leaves) m))
 
@@ -186,17 +214,10 @@ unfolding offerAct offerKinds allowed
 met-allowed (fill ks) m = refl
 met-allowed (button b) m = unused-nothing (met-unused maxLeaves m)
 
-pub met-said : (e : Entry) → length (e .0) ≤ maxMarks → length (offerKinds (e .1)) ≡ maxLeaves → {ls : List Given} → Meets (offerKinds (e .1)) ls
-    → (event : List ℕ) × (eventSays event ≡ some (e .0, offerAct (e .1), ls))
-unfolding eventSays bind
-met-said e few all {ls} m =
-    let a = offerAct (e .1) in
-    let g = written-leaves (met-words m) in
-    let n : length (map leafField ls) ≡ maxLeaves = length-map ls leafField ∙ met-length m ∙ all in
-    let r = text-record (e .0) few a wordColumns (g .parts) n in
-    let t = touch-said (e .0) few a wordColumns (g .parts) n leafSaid (path-said (e .0) few a wordColumns (g .parts) n) (leaves-back ls) in
-    let l = met-allowed (e .1) m in
-    (text (e .0) few a wordColumns (g .parts) n, rw (r, t, l))
+-- of every role
+pub met-said : (role : ℕ) → IsRole role → (e : Entry) → length (e .0) ≤ maxMarks → length (offerKinds (e .1)) ≡ maxLeaves → {ls : List Given} → Meets (offerKinds (e .1)) ls
+    → (event : List ℕ) × (eventSays event ≡ some (role, e .0, offerAct (e .1), ls))
+met-said role r e few all m = event-said role r (e .0) few (offerAct (e .1)) (written-leaves (met-words m)) (met-length m ∙ all) (met-allowed (e .1) m)
 
 -- and there is one: leaves that are 0 meet every kind
 kinds-met : (ks : List Leaf) → Meets ks (map some (replicate (length ks) (pos 0)))
@@ -206,8 +227,9 @@ kinds-met (unitLeaf ∷ ks) = m-unit (kinds-met ks)
 kinds-met (truthLeaf ∷ ks) = m-false (kinds-met ks)
 kinds-met (numberLeaf ∷ ks) = m-number (lit< tt) (kinds-met ks)
 
-pub covers-some : (e : Entry) → length (e .0) ≤ maxMarks → length (offerKinds (e .1)) ≡ maxLeaves → (event : List ℕ) × CoversBytes (entryText e) event
-covers-some e few all =
+pub covers-some : (role : ℕ) → IsRole role → (e : Entry) → length (e .0) ≤ maxMarks → length (offerKinds (e .1)) ≡ maxLeaves
+    → (event : List ℕ) × (c : CoversBytes (entryText e) event) × (c .role ≡ role)
+covers-some role r e few all =
     let m = kinds-met (offerKinds (e .1)) in
-    let (event, h) = met-said e few all m in
-    (event, record { path = e .0; act = offerAct (e .1); kinds = offerKinds (e .1); leaves = _; entry-says = entry-said e few all; event-says = h; meets = m })
+    let (event, h) = met-said role r e few all m in
+    (event, record { role = role; path = e .0; act = offerAct (e .1); kinds = offerKinds (e .1); leaves = _; entry-says = entry-said e few all; event-says = h; meets = m }, refl)

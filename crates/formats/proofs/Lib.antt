@@ -3,6 +3,8 @@ pub mod Items
 pub mod Each
 pub mod Records
 pub mod Loops
+-- The role of an event (CR 6).
+pub mod Roles
 -- The lines of a sheet.
 pub mod LinesRead
 -- Events and entries: their texts are read back (TouchesRead), lists of them (ListsRead), and entries against events (CoversRead).

@@ -13,6 +13,7 @@ use Rattle.tophat.specs.Leaves.{Given, Leaf, Meets}
 use Rattle.tophat.specs.Handling.{Act, Action}
 use Rattle.tophat.specs.Showing.{Entry, Covers}
 use Rattle.tophat.proofs.Basics.{some-is}
+use Rattle.tophat.specs.Roles.{IsRole}
 use Rattle.formats.specs.Touches.{eventSays, entrySays, eventOf, CoversBytes}
 use Rattle.formats.specs.Lists.{offerAct, offerKinds, listText, entryAt, Entries, CoversAt, Fits, fit-more}
 use Rattle.formats.proofs.ListsRead.{entry-said, list-length, list-at, place-at, at-place}
@@ -37,7 +38,7 @@ module _ {es : List Entry} (fits : Fits 0 es) where
         (e .0, offerAct (e .1), offerKinds (e .1), ap entrySays (list-at fits d) ∙ entry-said e (f .few) (f .all));
   }
 
-  module _ {event : List ℕ} {p : Path} {x : Action} (h : eventOf event ≡ some (p, x)) where
+  module _ {event : List ℕ} {r : ℕ} {p : Path} {x : Action} (h : eventOf event ≡ some (r, p, x)) where
     pub list-covers : {i : ℕ} {e : Entry} → At es i e → Covers e p x → CoversAt (listText es) (length es) i event
     list-covers d c = let f = fit-at fits d in (at-place d, subst (λ s. CoversBytes s event) (sym (list-at fits d)) (covers-bytes c (f .few) (f .all) event h))
 
@@ -47,20 +48,22 @@ module _ {es : List Entry} (fits : Fits 0 es) where
         let f = fit-at fits d in
         (e, d, bytes-cover e (f .few) (f .all) h (subst (λ s. CoversBytes s event) (list-at fits d) c))
 
-  -- what an entry says, with leaves that meet its kinds, some event's bytes say
-  pub list-said : (i : ℕ) → i < length es → {p : Path} {a : Act} {ks : List Leaf} → entrySays (entryAt (listText es) i) ≡ some (p, a, ks)
-      → {ls : List Given} → Meets ks ls → (event : List ℕ) × (eventSays event ≡ some (p, a, ls))
-  list-said i l {p} {a} {ks} h {ls} m =
-      let (e, d) = place-at es i l in
-      let f = fit-at fits d in
-      let q = some-is (sym (entry-said e (f .few) (f .all)) ∙ ap entrySays (sym (list-at fits d)) ∙ h) in
-      let (event, k) = met-said e (f .few) (f .all) (subst (λ ks. Meets ks ls) (sym (ap (λ t. t .2) q)) m) in
-      (event, k ∙ ap (λ t. some (t .0, t .1, ls)) q)
+  module _ (role : ℕ) (r : IsRole role) where
+    -- what an entry says, with leaves that meet its kinds, some bytes of an event of every role say
+    pub list-said : (i : ℕ) → i < length es → {p : Path} {a : Act} {ks : List Leaf} → entrySays (entryAt (listText es) i) ≡ some (p, a, ks)
+        → {ls : List Given} → Meets ks ls → (event : List ℕ) × (eventSays event ≡ some (role, p, a, ls))
+    list-said i l {p} {a} {ks} h {ls} m =
+        let (e, d) = place-at es i l in
+        let f = fit-at fits d in
+        let q = some-is (sym (entry-said e (f .few) (f .all)) ∙ ap entrySays (sym (list-at fits d)) ∙ h) in
+        let (event, k) = met-said role r e (f .few) (f .all) (subst (λ ks. Meets ks ls) (sym (ap (λ t. t .2) q)) m) in
+        (event, k ∙ ap (λ t. some (role, t .0, t .1, ls)) q)
 
-  -- no entry is dead
-  pub list-covers-some : (i : ℕ) → i < length es → (event : List ℕ) × CoversAt (listText es) (length es) i event
-  list-covers-some i l =
-      let (e, d) = place-at es i l in
-      let f = fit-at fits d in
-      let (event, c) = covers-some e (f .few) (f .all) in
-      (event, (l, subst (λ s. CoversBytes s event) (sym (list-at fits d)) c))
+    -- no entry is dead
+    pub list-covers-some : (i : ℕ) → i < length es → (event : List ℕ) × (k : CoversAt (listText es) (length es) i event) × (k .1 .role ≡ role)
+    list-covers-some i l =
+        let (e, d) = place-at es i l in
+        let f = fit-at fits d in
+        let (event, c, q) = covers-some role r e (f .few) (f .all) in
+        let (b, o) = subst (λ s. (c : CoversBytes s event) × (c .role ≡ role)) (sym (list-at fits d)) (c, q) in
+        (event, (l, b), o)

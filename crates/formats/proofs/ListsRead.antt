@@ -20,7 +20,7 @@ use Rattle.formats.specs.Touches.{entryColumns, entryBytes, numbered, to
 use Rattle.formats.specs.Lists.{offerAct, offerKinds, entryText, listText, entryAt, Fits, fit-none, fit-more}
 use Rattle.formats.proofs.Records.{AllFit, fit-none as items-none, fit-more as items-more}
 use Rattle.formats.proofs.Each.{numbers-said}
-use Rattle.formats.proofs.TouchesRead.{leaf-fits, leaves-numbered, fields, Parts, number-parts, text, text-length, text-record, entry-path-said, touch-said, text-of}
+use Rattle.formats.proofs.TouchesRead.{leaf-fits, leaves-numbered, fields, Parts, number-parts, text, text-length, text-record, shown-path-said, touch-said, text-of}
 
 -- ---- one entry
 
@@ -49,13 +49,13 @@ module _ (e : Entry) (few : length (e .0) ≤ maxMarks) (all : length (offerKind
   parts : Parts actionColumns (map number kinds) (itemsText (fields actionColumns kinds))
   parts = number-parts actionColumns kinds (kinds-fit (offerKinds (e .1)))
 
-  text-is : entryText e ≡ text path path-few (offerAct (e .1)) actionColumns parts kinds-all
+  text-is : entryText e ≡ text [] [] refl path path-few (offerAct (e .1)) actionColumns parts kinds-all
   unfolding entryText
   text-is = text-of path (offerAct (e .1)) actionColumns kinds
 
   -- 35 bytes
   pub entry-length : length (entryText e) ≡ entryBytes
-  entry-length = ap length text-is ∙ text-length path path-few (offerAct (e .1)) actionColumns parts kinds-all
+  entry-length = ap length text-is ∙ text-length [] [] refl path path-few (offerAct (e .1)) actionColumns parts kinds-all
 
   -- that say its path, action and leaf kinds
   pub entry-said : entrySays (entryText e) ≡ some (e .0, offerAct (e .1), offerKinds (e .1))
@@ -63,8 +63,8 @@ module _ (e : Entry) (few : length (e .0) ≤ maxMarks) (all : length (offerKind
   entry-said =
       let ks = offerKinds (e .1) in
       let a = offerAct (e .1) in
-      let r = text-record path path-few a actionColumns parts kinds-all in
-      let t = touch-said path path-few a actionColumns parts kinds-all numberSaid (entry-path-said path path-few a actionColumns parts kinds-all) (numbers-said kinds) in
+      let r = text-record [] [] refl path path-few a actionColumns parts kinds-all in
+      let t = touch-said [] [] refl path path-few a actionColumns parts kinds-all numberSaid (shown-path-said [] [] refl path path-few a actionColumns parts kinds-all) (numbers-said kinds) in
       let l : each (numbered leafNumber leafTable) kinds ≡ some ks = ap (each (numbered leafNumber leafTable)) (twice ks) ∙ leaves-numbered ks in
       ap entrySays text-is ∙ rw (r, t, l)
 

@@ -1,5 +1,5 @@
 -- Events and entries are read back: a path, an action and fields of one width have a text that says them, numbers and, in an event,
--- blanks. So every touch has its 115 bytes. Rests on Records.
+-- blanks, whatever fields stand in front. So every touch of every role has its 117 bytes. Rests on Records.
 use mathlib.Core.Path.{_≡_, refl, sym, ap, ap₂, _∙_}
 use mathlib.Core.Bool.{true}
 use mathlib.Core.Option.{Option, none, some, bind}
@@ -9,7 +9,7 @@ use native.Mathlib.Omega.{arith}
 use borrow.Author.Tests.{eq-eqb}
 use lib.Dec.{lit<}
 use lib.IntN.{ℤ, pos}
-use lib.ListN.{length, getD, replicate, length-append}
+use lib.ListN.{length, getD, replicate, length-append, length-map}
 use lib.Seq.{getD-at}
 use Rattle.decimal.specs.Field.{Field, number, blank, unreadable, reads, readsAt, space, actionColumns, wordColumns, newline}
 use Rattle.decimal.specs.Path.{Path, maxMarks, pathColumns, readsPathAt}
@@ -18,8 +18,10 @@ use Rattle.tophat.specs.Syntax.{maxLeaves}
 use Rattle.tophat.specs.Leaves.{Given, Leaf, noLeaf, unitLeaf, truthLeaf, numberLeaf, leafNumber, leafTable}
 use Rattle.tophat.specs.Handling.{continue, left, right, Act, giving, pressing, actNumber, actTable}
 use Rattle.formats.specs.Records.{total, recordBytes, isRecord, fieldsAt, numberSaid, each, pathField, Item, itemText, itemsText}
-use Rattle.formats.specs.Touches.{numbered, touchIn, touchText, leafSaid, unlessBlank, entryPath}
+use Rattle.tophat.specs.Roles.{IsRole}
+use Rattle.formats.specs.Touches.{roleColumns, numbered, touchIn, touchText, roleSaid, eventRole, leafSaid, allowed, eventSays, unlessBlank}
 use Rattle.formats.proofs.Items.{Fits, number-fits, word-fits, item-length, item-reads, item-in, field-in, path-length, path-in, path-shown}
+use Rattle.formats.proofs.Roles.{role-fits, role-said}
 use Rattle.formats.proofs.Records.{AllFit, fit-none, fit-more, GivenWords, no-leaves, blank-leaf, number-leaf}
 
 -- ---- the tables: each element is found by its number
@@ -118,33 +120,56 @@ unless-blank (number z) o n = refl
 unless-blank blank o n = absurd (n refl)
 unless-blank unreadable o n = refl
 
-module _ (p : Path) (few : length p ≤ maxMarks) (a : Act) (w : ℕ) {fs : List Field} {ts : List ℕ} (parts : Parts w fs ts) (all : length fs ≡ maxLeaves) where
+total-append : (vs ws : List ℕ) → total (vs ++ ws) ≡ total vs + total ws
+total-append [] ws = omega arith
+total-append (v ∷ vs) ws = let e = total-append vs ws in omega (arith, e)
+
+-- behind the bytes `pre` of fields of the widths `lead`
+module _ (lead pre : List ℕ) (long : length pre ≡ total lead)
+    (p : Path) (few : length p ≤ maxMarks) (a : Act) (w : ℕ) {fs : List Field} {ts : List ℕ} (parts : Parts w fs ts) (all : length fs ≡ maxLeaves) where
   -- the columns of the record
   abbrev columns : List ℕ
-  columns = pathColumns ∷ actionColumns ∷ replicate maxLeaves w
+  columns = lead ++ pathColumns ∷ actionColumns ∷ replicate maxLeaves w
+
+  -- where the path begins
+  abbrev at : ℕ
+  at = total lead
 
   abbrev action : Item
   action = (actionColumns, pos (actNumber a))
 
   -- its fields, one after another
+  abbrev path : List ℕ
+  path = pre ++ pathField p
+
   abbrev front : List ℕ
-  front = pathField p ++ itemText action
+  front = path ++ itemText action
 
   abbrev pub text : List ℕ
-  text = pathField p ++ (itemText action ++ (ts ++ newline ∷ []))
+  text = pre ++ (pathField p ++ (itemText action ++ (ts ++ newline ∷ [])))
+
+  past-path : text ≡ path ++ (itemText action ++ (ts ++ newline ∷ []))
+  past-path = sym (append-assoc pre (pathField p) (itemText action ++ (ts ++ newline ∷ [])))
+
+  past-action : text ≡ front ++ (ts ++ newline ∷ [])
+  past-action = past-path ∙ sym (append-assoc path (itemText action) (ts ++ newline ∷ []))
 
   text-is : text ≡ (front ++ ts) ++ newline ∷ []
-  text-is = sym (append-assoc (pathField p) (itemText action) (ts ++ newline ∷ [])) ∙ sym (append-assoc front ts (newline ∷ []))
+  text-is = past-action ∙ sym (append-assoc front ts (newline ∷ []))
 
-  front-length : length front ≡ pathColumns + actionColumns
-  front-length = length-append (pathField p) (itemText action) ∙ (λ k. path-length p few k + item-length (act-fits a) k)
+  path-long : length path ≡ at + pathColumns
+  path-long = length-append pre (pathField p) ∙ (λ k. long k + path-length p few k)
+
+  front-length : length front ≡ at + pathColumns + actionColumns
+  front-length = length-append path (itemText action) ∙ (λ k. path-long k + item-length (act-fits a) k)
 
   touch-length : length (front ++ ts) ≡ total columns
   touch-length =
       let l = length-append front ts in
       let m = parts-length parts ∙ ap (λ n. total (replicate n w)) all in
       let n = front-length in
-      l ∙ (λ k. n k + m k) ∙ omega arith
+      let c = total-append lead (pathColumns ∷ actionColumns ∷ replicate maxLeaves w) in
+      omega (arith, l, m, n, c)
 
   pub text-length : length text ≡ recordBytes columns
   text-length = ap length text-is ∙ length-append (front ++ ts) (newline ∷ []) ∙ ap (λ n. n + 1) touch-length
@@ -156,29 +181,59 @@ module _ (p : Path) (few : length p ≤ maxMarks) (a : Act) (w : ℕ) {fs : List
       let e = eq-eqb (getD text (total columns) 0) newline (ap (λ s. getD s (total columns) 0) text-is ∙ getD-at (front ++ ts) newline [] 0 (total columns) touch-length) in
       rw (l, e)
 
-  pub path-said : readsPathAt text 0 ≡ some p
-  path-said = path-in p few [] (itemText action ++ (ts ++ newline ∷ [])) 0 refl
+  pub path-said : readsPathAt text at ≡ some p
+  path-said = path-in p few pre (itemText action ++ (ts ++ newline ∷ [])) at long
 
-  pub entry-path-said : entryPath text ≡ some p
-  entry-path-said = unless-blank (readsAt text 0 pathColumns) (readsPathAt text 0) (path-shown p few [] (itemText action ++ (ts ++ newline ∷ [])) 0 refl) ∙ path-said
+  -- and it is not blank
+  pub shown-path-said : unlessBlank (readsAt text at pathColumns) (readsPathAt text at) ≡ some p
+  shown-path-said = unless-blank (readsAt text at pathColumns) (readsPathAt text at) (path-shown p few pre (itemText action ++ (ts ++ newline ∷ [])) at long) ∙ path-said
 
-  action-said : numberSaid (readsAt text pathColumns actionColumns) ≡ some (pos (actNumber a))
+  action-said : numberSaid (readsAt text (at + pathColumns) actionColumns) ≡ some (pos (actNumber a))
   unfolding numberSaid
-  action-said = ap numberSaid (item-in (act-fits a) (pathField p) (ts ++ newline ∷ []) pathColumns (path-length p few))
+  action-said = ap numberSaid (ap (λ s. readsAt s (at + pathColumns) actionColumns) past-path ∙ item-in (act-fits a) path (ts ++ newline ∷ []) (at + pathColumns) path-long)
 
-  fields-said : fieldsAt text (pathColumns + actionColumns) (replicate maxLeaves w) ≡ fs
+  fields-said : fieldsAt text (at + pathColumns + actionColumns) (replicate maxLeaves w) ≡ fs
   fields-said =
-      ap₂ (λ s n. fieldsAt s (pathColumns + actionColumns) (replicate n w)) (sym (append-assoc (pathField p) (itemText action) (ts ++ newline ∷ []))) (sym all)
-      ∙ parts-in parts front (newline ∷ []) (pathColumns + actionColumns) front-length
+      ap₂ (λ s n. fieldsAt s (at + pathColumns + actionColumns) (replicate n w)) past-action (sym all)
+      ∙ parts-in parts front (newline ∷ []) (at + pathColumns + actionColumns) front-length
 
   -- they are said
-  pub touch-said : {X : Type 0} (f : Field → Option X) {o : Option Path} {xs : List X} → o ≡ some p → each f fs ≡ some xs → touchIn o f w text ≡ some (p, a, xs)
+  pub touch-said : {X : Type 0} (f : Field → Option X) {o : Option Path} {xs : List X} → o ≡ some p → each f fs ≡ some xs → touchIn o f w at text ≡ some (p, a, xs)
   unfolding touchIn bind
   touch-said f {o} {xs} e k =
       let g = action-said in
       let h = act-numbered a in
-      let l : each f (fieldsAt text (pathColumns + actionColumns) (replicate maxLeaves w)) ≡ some xs = ap (each f) fields-said ∙ k in
+      let l : each f (fieldsAt text (at + pathColumns + actionColumns) (replicate maxLeaves w)) ≡ some xs = ap (each f) fields-said ∙ k in
       rw (e, g, h, l)
+
+-- ---- an event: a role in front
+
+module _ (role : ℕ) (r : IsRole role) (p : Path) (few : length p ≤ maxMarks) (a : Act) {ls : List Given} (g : Written ls) (all : length ls ≡ maxLeaves) where
+  abbrev roleItem : Item
+  roleItem = (roleColumns, pos role)
+
+  long : length (itemText roleItem) ≡ total (roleColumns ∷ [])
+  long = item-length (role-fits role r)
+
+  fields-all : length (map leafField ls) ≡ maxLeaves
+  fields-all = length-map ls leafField ∙ all
+
+  -- its bytes
+  abbrev bytes : List ℕ
+  bytes = text (roleColumns ∷ []) (itemText roleItem) long p few a wordColumns (g .parts) fields-all
+
+  role-in : eventRole bytes ≡ some role
+  role-in = ap roleSaid (item-in (role-fits role r) [] _ 0 refl) ∙ role-said role r
+
+  -- where the action can have such leaves, some bytes say the event
+  pub event-said : allowed a ls ≡ true → (event : List ℕ) × (eventSays event ≡ some (role, p, a, ls))
+  unfolding eventSays bind
+  event-said l =
+      let i = text-record (roleColumns ∷ []) (itemText roleItem) long p few a wordColumns (g .parts) fields-all in
+      let o = role-in in
+      let q = path-said (roleColumns ∷ []) (itemText roleItem) long p few a wordColumns (g .parts) fields-all in
+      let t = touch-said (roleColumns ∷ []) (itemText roleItem) long p few a wordColumns (g .parts) fields-all leafSaid q (leaves-back ls) in
+      (bytes, rw (i, o, t, l))
 
 -- the text of a path, an action and numbers
 pub text-of : (p : Path) (a : Act) (w : ℕ) (zs : List ℤ) → touchText p (actNumber a) w zs ++ newline ∷ [] ≡ pathField p ++ (itemText (actionColumns, pos (actNumber a)) ++ (itemsText (fields w zs) ++ newline ∷ []))

@@ -102,6 +102,11 @@ unfoldable pub isBlank : Given → Bool
 isBlank none = true
 isBlank (some z) = false
 
+-- the code's answer for a role (CR 6); 0 where none is said
+unfoldable pub roleRead : Option ℕ → ℕ
+roleRead none = 0
+roleRead (some r) = r
+
 -- the code's answer for a leaf, and for all of them; zeros where one cannot be read
 unfoldable pub leafRead : Option Given → Leaf
 leafRead none = record { readable = false; bits = 0; blank = false }

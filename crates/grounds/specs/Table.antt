@@ -1,8 +1,8 @@
 -- The code's enums as the table's entries (rows, Kinds). Rests on the declarations of src/table.rt.
-use Rattle.rows.specs.Kinds.{Ask, unused, operator, truth, anyWord, aType, aBasic, aCell, aPlain, aTask, aBranch, likeB}
+use Rattle.rows.specs.Kinds.{Ask, unused, operator, truth, anyWord, aType, aBasic, aCell, aPlain, aTask, aBranch, likeB, aRole, someTouches}
 use Rattle.rows.specs.Kinds.{typeS, basicS, cellS, plainS, taskS, Own, is, asB, Around, nothing, binder, mark, Asks, asks, noAsks}
 use Rattle.grounds.specs.declared.table.Ask.{Ask as CodeAsk}
-use Rattle.grounds.specs.declared.table.Ask.the-variants.{Unused, Operator, Truth, AnyWord, AType, ABasic, ACell, APlain, ATask, ABranch, LikeB}
+use Rattle.grounds.specs.declared.table.Ask.the-variants.{Unused, Operator, Truth, AnyWord, AType, ABasic, ACell, APlain, ATask, ABranch, LikeB, ARole, SomeTouches}
 use Rattle.grounds.specs.declared.table.Own.{Own as CodeOwn}
 use Rattle.grounds.specs.declared.table.Own.the-variants.{OwnType, OwnBasic, OwnCell, OwnPlain, OwnTask, AsB}
 use Rattle.grounds.specs.declared.table.Around.{Around as CodeAround}
@@ -22,6 +22,8 @@ askBy APlain = aPlain
 askBy ATask = aTask
 askBy ABranch = aBranch
 askBy LikeB = likeB
+askBy ARole = aRole
+askBy SomeTouches = someTouches
 
 abbrev pub ownBy : CodeOwn → Own
 ownBy OwnType = is typeS

@@ -1,4 +1,4 @@
-// Ground 3: a kind, operator, truth or unused operand not as listed.
+// Ground 3: a kind, operator, truth, role, number of touches or unused operand not as listed.
 
 ghost use mathlib.Core.Path.{_≡_};
 ghost use mathlib.Core.Bool.{_&&_};
@@ -13,9 +13,11 @@ use rows::MAX_ROWS;
 use rows::ROW_WORDS;
 use rows::ROWS_WORDS;
 use rows::get;
+use rows::is_role;
 use rows::kinds::CELL;
 use rows::kinds::TRUTH;
 use rows::operand;
+use tophat::MAX_TOUCHES;
 
 fn is_operator(w: u32) -> bool
     ensures { λ r. ⌜ r ≡ (leb 1 w && leb w 8) ⌝ }
@@ -41,6 +43,8 @@ fn listed_as(q: Ask, w: u32) -> bool
         Ask::ATask => true,
         Ask::ABranch => true,
         Ask::LikeB => true,
+        Ask::ARole => is_role(w),
+        Ask::SomeTouches => w <= MAX_TOUCHES,
     }
 }
 

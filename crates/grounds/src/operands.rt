@@ -25,6 +25,8 @@ fn is_unused(q: Ask) -> bool
         Ask::ATask => false,
         Ask::ABranch => false,
         Ask::LikeB => false,
+        Ask::ARole => false,
+        Ask::SomeTouches => false,
     }
 }
 

@@ -69,6 +69,8 @@ fn sorted_as(q: Ask, s: u8, b: u8) -> bool
         Ask::ATask => s == TASK,
         Ask::ABranch => one_of(s, PLAIN, TASK),
         Ask::LikeB => s == b,
+        Ask::ARole => true,
+        Ask::SomeTouches => true,
     }
 }
 

@@ -27,6 +27,8 @@ pub enum Ask {
     ATask,
     ABranch,
     LikeB,
+    ARole,
+    SomeTouches,
 }
 
 pub enum Own {
@@ -74,6 +76,7 @@ pub fn asks_of(k: u32) -> Asks
         45 => Known(AType, Unused, Unused, OwnTask, Nothing),
         46..=47 => Known(ATask, ATask, Unused, OwnTask, Mark),
         48 => Known(ATask, ATask, Unused, OwnTask, Nothing),
+        50 => Known(ARole, ATask, SomeTouches, OwnTask, Nothing),
         _ => Unknown,
     }
 }
@@ -94,6 +97,8 @@ pub fn names_row(q: Ask) -> bool
         Ask::ATask => true,
         Ask::ABranch => true,
         Ask::LikeB => true,
+        Ask::ARole => false,
+        Ask::SomeTouches => false,
     }
 }
 

@@ -19,6 +19,7 @@ use Rattle.tophat.specs.Syntax.{maxLeaves, Ty, leaves, Code, edit, enter, updat
 use Rattle.tophat.specs.Syntax.{TaskOf, filled, entered, shared}
 use Rattle.tophat.specs.Typing.{TaskType, k-blank, k-entered, typeOf}
 use Rattle.tophat.specs.Handling.{Action, give, press}
+use Rattle.tophat.proofs.Admitted.{verdict-none}
 use Rattle.tophat.proofs.ComputeHandling.{thenSome, atEditor, handle}
 use Rattle.tophat.specs.Leaves.{Given, given}
 use Rattle.tophat.proofs.EvaluationAgrees.{look-up}
@@ -47,7 +48,7 @@ use Rattle.eval.proofs.Arms.{in-list}
 use Rattle.running.proofs.Forms.{on-filled, on-shared}
 use Rattle.handle.specs.declared.Event.{Event}
 use Rattle.handle.specs.Events.{giveNumber, ZeroBlanks, leavesBy, eventPath, eventAction}
-use Rattle.handle.specs.Taking.{takenBy, Filled, NoneBlank, FillOk}
+use Rattle.handle.specs.Taking.{takenBy, Filled, NoneBlank, FillOk, answerOf}
 use Rattle.handle.proofs.Numbers.{some-marks, is-give, is-press}
 use Rattle.handle.proofs.Blanks.{given-blank, given-bits}
 
@@ -128,55 +129,55 @@ editor-then (m ∷ p) y f K = refl
 -- ---- the arms
 
 module _ (rs ws ws₁ : List ℕ) (i : ℕ) (env : List ℕ) (d : ℕ) (e : Event) (r : Bool) where
-  handled-by : (c : Code) (j y : ℕ) (K : Val → TaskOf c × Store) (o : Option Val) → Filled ws ws₁ j y r o → ((v : Val) → Laid ws ws₁ j (y ∷ valueWords v) → Ran rs ws ws₁ i c (K v .0) (K v .1))
-      → Handled rs ws ws₁ i env d c r (thenSome o K)
+  handled-by : (c : Code) (j y : ℕ) (K : Val → TaskOf c) (S : Val → Store) (o : Option Val) → Filled ws ws₁ j y r o → ((v : Val) → Laid ws ws₁ j (y ∷ valueWords v) → Ran rs ws ws₁ i c (K v) (S v))
+      → Handled rs ws ws₁ i env d c (e .role) (answerOf r) (thenSome o (λ v. (K v, S v, [])))
   unfolding thenSome
-  handled-by c j y K none f g = f
-  handled-by c j y K (some v) f g = (f .0, g v (f .1))
+  handled-by c j y K S none f g = (ap answerOf (f .0), f .1)
+  handled-by c j y K S (some v) f g = (ap answerOf (f .0) ∙ sym (verdict-none (e .role)), g v (f .1))
 
-  filled-by : (c : Code) (τ : Ty) (n j y : ℕ) (K : Val → TaskOf c × Store) → n ≡ asShape τ → leaves τ ≤ maxLeaves
-      → FillOk ws ws₁ j y n e r → ((v : Val) → Laid ws ws₁ j (y ∷ valueWords v) → Ran rs ws ws₁ i c (K v .0) (K v .1))
-      → Handled rs ws ws₁ i env d c r (atEditor (eventPath e) (eventAction e) (λ ls. thenSome (given τ ls) K))
-  filled-by c τ n j y K q l f g =
-      subst (Handled rs ws ws₁ i env d c r) (sym (editor-then (eventPath e) (eventAction e) (λ ls. given τ ls) K))
-      (handled-by c j y K (takenBy τ e) (fill-type ws ws₁ j y n e r τ l q f) g)
+  filled-by : (c : Code) (τ : Ty) (n j y : ℕ) (K : Val → TaskOf c) (S : Val → Store) → n ≡ asShape τ → leaves τ ≤ maxLeaves
+      → FillOk ws ws₁ j y n e r → ((v : Val) → Laid ws ws₁ j (y ∷ valueWords v) → Ran rs ws ws₁ i c (K v) (S v))
+      → Handled rs ws ws₁ i env d c (e .role) (answerOf r) (atEditor (eventPath e) (eventAction e) (λ ls. thenSome (given τ ls) (λ v. (K v, S v, []))))
+  filled-by c τ n j y K S q l f g =
+      subst (Handled rs ws ws₁ i env d c (e .role) (answerOf r)) (sym (editor-then (eventPath e) (eventAction e) (λ ls. given τ ls) (λ v. (K v, S v, []))))
+      (handled-by c j y K S (takenBy τ e) (fill-type ws ws₁ j y n e r τ l q f) g)
 
   -- 40
-  pub handle-edit : (n : ℕ) → OfKind rs i (taskK editK) → n ≡ at ws i 1 → FillOk ws ws₁ i own n e r → HandleOk rs ws ws₁ i env d (eventPath e) (eventAction e) r
+  pub handle-edit : (n : ℕ) → OfKind rs i (taskK editK) → n ≡ at ws i 1 → FillOk ws ws₁ i own n e r → HandleOk rs ws ws₁ i env d (e .role) (eventPath e) (eventAction e) (answerOf r)
   unfolding handle valueWords
   handle-edit n q m f c z Σ Γ τ s ρ t y w h =
-      on-filled rs ws d i Σ Γ (λ c t τ. Handled rs ws ws₁ i env d c r (handle c ρ s t (eventPath e) (eventAction e))) q
+      on-filled rs ws d i Σ Γ (λ c t τ. Handled rs ws ws₁ i env d c (e .role) (answerOf r) (handle c ρ s t (eventPath e) (eventAction e))) q
       (λ a v τ z g ht k.
       let l = type-leaves ht (w .storeSmall) (w .bindersSmall) in
-      filled-by (edit a) (typeOf v) n i own (λ v. (filled v, s)) (m ∙ g .words 1 (omega arith)) (subst (λ τ. leaves τ ≤ maxLeaves) (sym (type-of k)) l) f
+      filled-by (edit a) (typeOf v) n i own filled (λ v. s) (m ∙ g .words 1 (omega arith)) (subst (λ τ. leaves τ ≤ maxLeaves) (sym (type-of k)) l) f
       (λ v l. record { holds = l .row; stores = stores-laid (w .stores) (λ k. foot-cell rs d i (edit a) z i k refl) l; same = laid-same l (inl refl) }))
       c z τ t y h
 
   -- 41
-  pub handle-enter : (a n : ℕ) (zs : List ℕ) → OfKind rs i (taskK enterK) → a ≡ opA rs i → n ≡ typing.typeOf rs zs 0 a → FillOk ws ws₁ i one n e r → HandleOk rs ws ws₁ i env d (eventPath e) (eventAction e) r
+  pub handle-enter : (a n : ℕ) (zs : List ℕ) → OfKind rs i (taskK enterK) → a ≡ opA rs i → n ≡ typing.typeOf rs zs 0 a → FillOk ws ws₁ i one n e r → HandleOk rs ws ws₁ i env d (e .role) (eventPath e) (eventAction e) (answerOf r)
   unfolding handle
-  handle-enter a n zs q ea m f = on-code rs d i (taskK enterK) (HandleAt rs ws ws₁ i env d (eventPath e) (eventAction e) r) q (λ τ z. by τ z)
+  handle-enter a n zs q ea m f = on-code rs d i (taskK enterK) (HandleAt rs ws ws₁ i env d (e .role) (eventPath e) (eventAction e) (answerOf r)) q (λ τ z. by τ z)
     where
       small : {Σ Γ : List Ty} {υ τ : Ty} {t : TaskOf (enter υ)} → TaskType Σ Γ (enter υ) t τ → leaves υ ≤ maxLeaves
       small (k-blank l) = l
       small (k-entered l k) = l
 
-      by : (τ : Ty) → Sits rs d i (enter τ) → HandleAt rs ws ws₁ i env d (eventPath e) (eventAction e) r (enter τ)
+      by : (τ : Ty) → Sits rs d i (enter τ) → HandleAt rs ws ws₁ i env d (e .role) (eventPath e) (eventAction e) (answerOf r) (enter τ)
       by υ z Σ Γ τ s ρ t y w h =
           let l = small y in
-          filled-by (enter υ) υ n i one (λ v. (entered v, s)) (m ∙ ap (typing.typeOf rs zs 0) ea ∙ type-shape (z .1) l zs 0) l f
+          filled-by (enter υ) υ n i one entered (λ v. s) (m ∙ ap (typing.typeOf rs zs 0) ea ∙ type-shape (z .1) l zs 0) l f
           (λ v l. record { holds = l .row; stores = stores-laid (w .stores) (λ k. foot-cell rs d i (enter υ) z i k refl) l; same = laid-same l (inl refl) })
 
   -- 42
-  pub handle-update : (a n : ℕ) → OfKind rs i (taskK updateK) → a ≡ opA rs i → n ≡ at ws a 1 → FillOk ws ws₁ a own n e r → HandleOk rs ws ws₁ i env d (eventPath e) (eventAction e) r
+  pub handle-update : (a n : ℕ) → OfKind rs i (taskK updateK) → a ≡ opA rs i → n ≡ at ws a 1 → FillOk ws ws₁ a own n e r → HandleOk rs ws ws₁ i env d (e .role) (eventPath e) (eventAction e) (answerOf r)
   unfolding handle valueWords
   handle-update a n q ea m f c z Σ Γ τ s ρ t y w h =
-      on-shared rs ws d i Σ Γ (λ c t τ. Handled rs ws ws₁ i env d c r (handle c ρ s t (eventPath e) (eventAction e))) q
+      on-shared rs ws d i Σ Γ (λ c t τ. Handled rs ws ws₁ i env d c (e .role) (answerOf r) (handle c ρ s t (eventPath e) (eventAction e))) q
       (λ k τ z g y.
       let b = ea ∙ z .1 in
       let v = look-up (w .storeTyped) y .1 in
       let apart : i ≡ k → ⊥ = (λ u. let n₁ : word rs i 0 ≡ word rs k 0 = ap (λ j. word rs j 0) u in omega (arith, q, z .2)) in
-      filled-by (update k) (typeOf (getD s k vunit)) n k own (λ v. (shared, set s k v)) (m ∙ ap (λ a. at ws a 1) b ∙ w .stores .cells k (z .2) .words 1 (omega arith))
+      filled-by (update k) (typeOf (getD s k vunit)) n k own (λ v. shared) (λ v. set s k v) (m ∙ ap (λ a. at ws a 1) b ∙ w .stores .cells k (z .2) .words 1 (omega arith))
       (subst (λ τ. leaves τ ≤ maxLeaves) (sym (type-of v)) (at-leaves y (w .storeSmall))) (subst (λ a. FillOk ws ws₁ a own n e r) b f)
       (λ v l. record { holds = same-row (l .same) apart g; stores = stores-set s k v (w .stores) l (in-list (w .storeTyped) y); same = laid-same l (inr (z .2)) }))
       c z τ t y h

@@ -3,3 +3,4 @@ pub mod Blanks
 pub mod Editing
 pub mod Passing
 pub mod Choosing
+pub mod Gates

@@ -14,11 +14,13 @@ use Rattle.tophat.specs.Syntax.{Code, then, next, and, or, Val, Env, Store}
 use Rattle.tophat.specs.Syntax.{TaskOf, before, after, both, either}
 use Rattle.tophat.specs.Normalising.{value}
 use Rattle.tophat.specs.Handling.{continue, left, right, Action, give, press}
+use Rattle.tophat.proofs.Admitted.{verdict-none}
 use Rattle.tophat.proofs.Basics.{no-some, some-is}
 use Rattle.tophat.proofs.ComputeEvaluation.{evaluate}
 use Rattle.tophat.proofs.ComputeNormalising.{rightFails}
-use Rattle.tophat.proofs.ComputeHandling.{mapTask, atMark, atContinue, unlessFailing, handle}
+use Rattle.tophat.proofs.ComputeHandling.{mapTask, atMark, atContinue, unlessFailing, handle, Taken}
 use Rattle.tophat.proofs.Preservation.{option-is, value-type}
+use Rattle.rows.specs.GroundNumbers.{notHandled}
 use Rattle.rows.specs.Kinds.{taskK, thenK, nextK, andK, orK, numberOf}
 use Rattle.rows.specs.Rows.{word, opA, opB, OfKind, FromKind, UpToKind}
 use Rattle.value.specs.declared.Found.{Found}
@@ -34,7 +36,7 @@ use Rattle.normalising.proofs.Asking.{two-kinds}
 use Rattle.normalising.proofs.Trying.{ran-next}
 use Rattle.handle.specs.declared.Event.{Event}
 use Rattle.handle.specs.Events.{continueNumber, leavesBy, eventPath, eventAction}
-use Rattle.handle.specs.Taking.{goingOn, GoingOk}
+use Rattle.handle.specs.Taking.{goingOn, GoingOk, answerOf}
 use Rattle.handle.proofs.Numbers.{some-marks, is-continue, continue-is}
 
 -- ---- Continue at a step: what goes on, by the value that going_on finds
@@ -81,13 +83,13 @@ module _ (rs ws : List ℕ) (i : ℕ) (e : Event) where
 
 -- ---- the arms
 
-module _ (rs ws ws₁ : List ℕ) (i : ℕ) (env : List ℕ) (d : ℕ) (r : Bool) where
+module _ (rs ws ws₁ : List ℕ) (i : ℕ) (env : List ℕ) (d r : ℕ) where
   -- the part's answer, wrapped
-  mapped : (j : ℕ) (a c : Code) (K : TaskOf a → TaskOf c) (o : Option (TaskOf a × Store)) → ((t : TaskOf a) (s : Store) → Ran rs ws ws₁ j a t s → Ran rs ws ws₁ i c (K t) s)
-      → Handled rs ws ws₁ j env d a r o → Handled rs ws ws₁ i env d c r (mapTask K o)
+  mapped : (role j : ℕ) (a c : Code) (K : TaskOf a → TaskOf c) (o : Option (Taken (TaskOf a))) → ((t : TaskOf a) (s : Store) → Ran rs ws ws₁ j a t s → Ran rs ws ws₁ i c (K t) s)
+      → Handled rs ws ws₁ j env d a role r o → Handled rs ws ws₁ i env d c role r (mapTask K o)
   unfolding mapTask
-  mapped j a c K none f h = h
-  mapped j a c K (some q) f h = (h .0, f (q .0) (q .1) (h .1))
+  mapped role j a c K none f h = h
+  mapped role j a c K (some q) f h = (h .0, f (q .0) (q .1) (h .1))
 
   -- 43 and 44 before: the row and B's rows stay where A's change
   step-on : (a b : Code) (t u : TaskOf a) (s : Store) → Kids rs i 1 (treeOf a) 2 (treeOf b) → Holds rs ws i (then a b) (before t) → Ran rs ws ws₁ (opA rs i) a u s → Ran rs ws ws₁ i (then a b) (before u) s
@@ -110,102 +112,102 @@ module _ (rs ws ws₁ : List ℕ) (i : ℕ) (env : List ℕ) (d : ℕ) (r : Bool
   }
 
   -- 43
-  pub handle-then : (a : ℕ) (p : Path) (x : Action) → Unhanded rs ws i → OfKind rs i (taskK thenK) → a ≡ opA rs i → HandleOk rs ws ws₁ a env d p x r → HandleOk rs ws ws₁ i env d p x r
+  pub handle-then : (role a : ℕ) (p : Path) (x : Action) → Unhanded rs ws i → OfKind rs i (taskK thenK) → a ≡ opA rs i → HandleOk rs ws ws₁ a env d role p x r → HandleOk rs ws ws₁ i env d role p x r
   unfolding handle
-  handle-then a p x z q e h c k Σ Γ τ s ρ t y w g =
-      let f = subst (λ a. HandleOk rs ws ws₁ a env d p x r) e h in
-      on-then-before rs ws d i Σ Γ (λ c t τ. Handled rs ws ws₁ i env d c r (handle c ρ s t p x)) z q
-      (λ a b t σ υ k g y n. mapped (opA rs i) a (then a b) before (handle a ρ s t p x) (λ u s m. step-on a b t u s (kids-then rs d i a b k) g m) (f a (k .1) Σ Γ σ s ρ t y w (g .1))) c k τ t y g
+  handle-then role a p x z q e h c k Σ Γ τ s ρ t y w g =
+      let f = subst (λ a. HandleOk rs ws ws₁ a env d role p x r) e h in
+      on-then-before rs ws d i Σ Γ (λ c t τ. Handled rs ws ws₁ i env d c role r (handle c ρ s t p x)) z q
+      (λ a b t σ υ k g y n. mapped role (opA rs i) a (then a b) before (handle a ρ s t p x) (λ u s m. step-on a b t u s (kids-then rs d i a b k) g m) (f a (k .1) Σ Γ σ s ρ t y w (g .1))) c k τ t y g
 
   module _ (e : Event) (a : ℕ) (f : Found) (z : Unhanded rs ws i) (q : OfKind rs i (taskK nextK)) (ea : a ≡ opA rs i) (hg : GoingOk rs ws a e f) where
     going : GoingOk rs ws (opA rs i) e f
     going = subst (λ a. GoingOk rs ws a e f) ea hg
 
     -- a 44 before, at Continue with a value v, and at any other event
-    abbrev onward : (a b : Code) → Env → Store → Val → Option (TaskOf (next a b) × Store)
+    abbrev onward : (a b : Code) → Env → Store → Val → Option (Taken (TaskOf (next a b)))
     onward a b ρ s v =
         unlessFailing (rightFails b (v ∷ ρ) s) (after v) (evaluate b (v ∷ ρ) s .0) (evaluate b (v ∷ ρ) s .1)
 
-    abbrev within : (a b : Code) → Env → Store → TaskOf a → Unit {0} → Option (TaskOf (next a b) × Store)
+    abbrev within : (a b : Code) → Env → Store → TaskOf a → Unit {0} → Option (Taken (TaskOf (next a b)))
     within a b ρ s t u = mapTask before (handle a ρ s t (eventPath e) (eventAction e))
 
     -- 44: what does not go on is passed on
-    pub handle-next : f .has ≡ false → HandleOk rs ws ws₁ a env d (eventPath e) (eventAction e) r → HandleOk rs ws ws₁ i env d (eventPath e) (eventAction e) r
+    pub handle-next : f .has ≡ false → HandleOk rs ws ws₁ a env d (e .role) (eventPath e) (eventAction e) r → HandleOk rs ws ws₁ i env d (e .role) (eventPath e) (eventAction e) r
     unfolding handle
     handle-next n h c k Σ Γ τ s ρ t y w g =
-        let l = subst (λ a. HandleOk rs ws ws₁ a env d (eventPath e) (eventAction e) r) ea h in
-        on-next-before rs ws d i Σ Γ (λ c t τ. Handled rs ws ws₁ i env d c r (handle c ρ s t (eventPath e) (eventAction e))) z q
+        let l = subst (λ a. HandleOk rs ws ws₁ a env d (e .role) (eventPath e) (eventAction e) r) ea h in
+        on-next-before rs ws d i Σ Γ (λ c t τ. Handled rs ws ws₁ i env d c (e .role) r (handle c ρ s t (eventPath e) (eventAction e))) z q
         (λ a b t σ υ k g y x.
         let o = found-none _ (going d a (k .1) Σ Γ σ s t y (w .storeTyped) (w .storeSmall) (w .bindersSmall) (g .1) (w .stores)) n in
-        subst (Handled rs ws ws₁ i env d (next a b) r) (sym (goes-none (onward a b ρ s) (within a b ρ s t) (eventPath e) (eventAction e) (value a t s) o))
-        (mapped (opA rs i) a (next a b) before (handle a ρ s t (eventPath e) (eventAction e)) (λ u s m. let o = step-on a b t u s (kids-next rs d i a b k) g m in record { holds = o .holds; stores = o .stores; same = o .same }) (l a (k .1) Σ Γ σ s ρ t y w (g .1))))
+        subst (Handled rs ws ws₁ i env d (next a b) (e .role) r) (sym (goes-none (onward a b ρ s) (within a b ρ s t) (eventPath e) (eventAction e) (value a t s) o))
+        (mapped (e .role) (opA rs i) a (next a b) before (handle a ρ s t (eventPath e) (eventAction e)) (λ u s m. let o = step-on a b t u s (kids-next rs d i a b k) g m in record { holds = o .holds; stores = o .stores; same = o .same }) (l a (k .1) Σ Γ σ s ρ t y w (g .1))))
         c k τ t y g
 
     -- what goes on is tried
-    attempted : (a b : Code) (v : Val) (u : TaskOf b) (s : Store) (x : Bool) → Attempted rs ws ws₁ i env d r a b v (u, s) x → Handled rs ws ws₁ i env d (next a b) r (unlessFailing x (after v) u s)
+    attempted : (q : Bool) → r ≡ answerOf q → (a b : Code) (v : Val) (u : TaskOf b) (s : Store) (x : Bool) → Attempted rs ws ws₁ i env d q a b v (u, s) x → Handled rs ws ws₁ i env d (next a b) (e .role) r (unlessFailing x (after v) u s)
     unfolding unlessFailing
-    attempted a b v u s true h = h
-    attempted a b v u s false h = (h .0, ran-next (h .1))
+    attempted q m a b v u s true h = (m ∙ ap answerOf (h .0), h .1)
+    attempted q m a b v u s false h = (m ∙ ap answerOf (h .0) ∙ sym (verdict-none (e .role)), ran-next (h .1))
 
-    pub handle-continue : f .has ≡ true → AttemptOk rs ws ws₁ i env d (f .value) r → HandleOk rs ws ws₁ i env d (eventPath e) (eventAction e) r
+    pub handle-continue : (q : Bool) → r ≡ answerOf q → f .has ≡ true → AttemptOk rs ws ws₁ i env d (f .value) q → HandleOk rs ws ws₁ i env d (e .role) (eventPath e) (eventAction e) r
     unfolding handle
-    handle-continue n h c k Σ Γ τ s ρ t y w g =
-        on-next-before rs ws d i Σ Γ (λ c t τ. Handled rs ws ws₁ i env d c r (handle c ρ s t (eventPath e) (eventAction e))) z q
+    handle-continue b₀ m₀ n h c k Σ Γ τ s ρ t y w g =
+        on-next-before rs ws d i Σ Γ (λ c t τ. Handled rs ws ws₁ i env d c (e .role) r (handle c ρ s t (eventPath e) (eventAction e))) z q
         (λ a b t σ υ k g y x.
         let (v, o, m) = found-some _ (going d a (k .1) Σ Γ σ s t y (w .storeTyped) (w .storeSmall) (w .bindersSmall) (g .1) (w .stores)) n in
         let l = goes-some (onward a b ρ s) (within a b ρ s t) (eventPath e) (eventAction e) (value a t s) v o in
-        subst (Handled rs ws ws₁ i env d (next a b) r) (sym (l .0))
-        (attempted a b v (evaluate b (v ∷ ρ) s .0) (evaluate b (v ∷ ρ) s .1) (rightFails b (v ∷ ρ) s)
+        subst (Handled rs ws ws₁ i env d (next a b) (e .role) r) (sym (l .0))
+        (attempted b₀ m₀ a b v (evaluate b (v ∷ ρ) s .0) (evaluate b (v ∷ ρ) s .1) (rightFails b (v ∷ ρ) s)
         (h a b (inr k) Σ Γ σ υ s ρ t v m (option-is (value-type y (w .storeTyped)) (l .1)) y x w g)))
         c k τ t y g
 
   -- 46 and 47: the part that the mark names
-  module _ (p : Path) (x : Action) (z : Unhanded rs ws i) (lo : FromKind rs i (taskK andK)) (hi : UpToKind rs i (taskK orK)) where
-    abbrev Taken : Env → Store → (c : Code) → TaskOf c → Type 0
-    Taken ρ s c t = Handled rs ws ws₁ i env d c r (handle c ρ s t p x)
+  module _ (role : ℕ) (p : Path) (x : Action) (z : Unhanded rs ws i) (lo : FromKind rs i (taskK andK)) (hi : UpToKind rs i (taskK orK)) where
+    abbrev Took : Env → Store → (c : Code) → TaskOf c → Type 0
+    Took ρ s c t = Handled rs ws ws₁ i env d c role r (handle c ρ s t p x)
 
-    pub handle-first : (a : ℕ) (m : Path) → a ≡ opA rs i → p ≡ first ∷ m → HandleOk rs ws ws₁ a env d m x r → HandleOk rs ws ws₁ i env d p x r
+    pub handle-first : (a : ℕ) (m : Path) → a ≡ opA rs i → p ≡ first ∷ m → HandleOk rs ws ws₁ a env d role m x r → HandleOk rs ws ws₁ i env d role p x r
     unfolding handle atMark
     handle-first a m ea e h c k Σ Γ τ s ρ t y w g =
-        let f = subst (λ a. HandleOk rs ws ws₁ a env d m x r) ea h in
+        let f = subst (λ a. HandleOk rs ws ws₁ a env d role m x r) ea h in
         ⊎-elim
-        (λ q. on-both rs ws d i Σ Γ (λ c t τ. Taken ρ s c t) q
+        (λ q. on-both rs ws d i Σ Γ (λ c t τ. Took ρ s c t) q
         (λ a b t u σ υ k g y n l.
-        subst (λ p. Handled rs ws ws₁ i env d (and a b) r (handle (and a b) ρ s (both t u) p x)) (sym e)
-        (mapped (opA rs i) a (and a b) (λ t. both t u) (handle a ρ s t m x) (λ t₁ s q. left-on a b t t₁ u s (kids-and rs d i a b k) g q) (f a (k .1) Σ Γ σ s ρ t y w (g .1))))
+        subst (λ p. Handled rs ws ws₁ i env d (and a b) role r (handle (and a b) ρ s (both t u) p x)) (sym e)
+        (mapped role (opA rs i) a (and a b) (λ t. both t u) (handle a ρ s t m x) (λ t₁ s q. left-on a b t t₁ u s (kids-and rs d i a b k) g q) (f a (k .1) Σ Γ σ s ρ t y w (g .1))))
         c k τ t y g)
-        (λ q. on-either rs ws d i Σ Γ (λ c t τ. Taken ρ s c t) z q
+        (λ q. on-either rs ws d i Σ Γ (λ c t τ. Took ρ s c t) z q
         (λ a b t u σ k g y n.
-        subst (λ p. Handled rs ws ws₁ i env d (or a b) r (handle (or a b) ρ s (either t u) p x)) (sym e)
-        (mapped (opA rs i) a (or a b) (λ t. either t u) (handle a ρ s t m x)
+        subst (λ p. Handled rs ws ws₁ i env d (or a b) role r (handle (or a b) ρ s (either t u) p x)) (sym e)
+        (mapped role (opA rs i) a (or a b) (λ t. either t u) (handle a ρ s t m x)
         (λ t₁ s q. let o = left-on a b t t₁ u s (kids-or rs d i a b k) g q in record { holds = o .holds; stores = o .stores; same = o .same }) (f a (k .1) Σ Γ σ s ρ t y w (g .1))))
         c k τ t y g)
         (two-kinds (numberOf (taskK andK)) (word rs i 0) lo hi)
 
-    pub handle-second : (b : ℕ) (m : Path) → b ≡ opB rs i → p ≡ second ∷ m → HandleOk rs ws ws₁ b env d m x r → HandleOk rs ws ws₁ i env d p x r
+    pub handle-second : (b : ℕ) (m : Path) → b ≡ opB rs i → p ≡ second ∷ m → HandleOk rs ws ws₁ b env d role m x r → HandleOk rs ws ws₁ i env d role p x r
     unfolding handle atMark
     handle-second b m eb e h c k Σ Γ τ s ρ t y w g =
-        let f = subst (λ b. HandleOk rs ws ws₁ b env d m x r) eb h in
+        let f = subst (λ b. HandleOk rs ws ws₁ b env d role m x r) eb h in
         ⊎-elim
-        (λ q. on-both rs ws d i Σ Γ (λ c t τ. Taken ρ s c t) q
+        (λ q. on-both rs ws d i Σ Γ (λ c t τ. Took ρ s c t) q
         (λ a b t u σ υ k g y n l.
-        subst (λ p. Handled rs ws ws₁ i env d (and a b) r (handle (and a b) ρ s (both t u) p x)) (sym e)
-        (mapped (opB rs i) b (and a b) (λ u. both t u) (handle b ρ s u m x) (λ u₁ s q. right-on a b t u u₁ s (kids-and rs d i a b k) g q) (f b (k .2) Σ Γ υ s ρ u n w (g .2))))
+        subst (λ p. Handled rs ws ws₁ i env d (and a b) role r (handle (and a b) ρ s (both t u) p x)) (sym e)
+        (mapped role (opB rs i) b (and a b) (λ u. both t u) (handle b ρ s u m x) (λ u₁ s q. right-on a b t u u₁ s (kids-and rs d i a b k) g q) (f b (k .2) Σ Γ υ s ρ u n w (g .2))))
         c k τ t y g)
-        (λ q. on-either rs ws d i Σ Γ (λ c t τ. Taken ρ s c t) z q
+        (λ q. on-either rs ws d i Σ Γ (λ c t τ. Took ρ s c t) z q
         (λ a b t u σ k g y n.
-        subst (λ p. Handled rs ws ws₁ i env d (or a b) r (handle (or a b) ρ s (either t u) p x)) (sym e)
-        (mapped (opB rs i) b (or a b) (λ u. either t u) (handle b ρ s u m x)
+        subst (λ p. Handled rs ws ws₁ i env d (or a b) role r (handle (or a b) ρ s (either t u) p x)) (sym e)
+        (mapped role (opB rs i) b (or a b) (λ u. either t u) (handle b ρ s u m x)
         (λ u₁ s q. let o = right-on a b t u u₁ s (kids-or rs d i a b k) g q in record { holds = o .holds; stores = o .stores; same = o .same }) (f b (k .2) Σ Γ σ s ρ u n w (g .2))))
         c k τ t y g)
         (two-kinds (numberOf (taskK andK)) (word rs i 0) lo hi)
 
 -- no mark: refused
-pub handle-unmarked : (rs ws : List ℕ) (i : ℕ) (env : List ℕ) (d : ℕ) (p : Path) (x : Action) → Unhanded rs ws i → FromKind rs i (taskK andK) → UpToKind rs i (taskK orK) → p ≡ [] → HandleOk rs ws ws i env d p x false
+pub handle-unmarked : (rs ws : List ℕ) (i : ℕ) (env : List ℕ) (d role : ℕ) (p : Path) (x : Action) → Unhanded rs ws i → FromKind rs i (taskK andK) → UpToKind rs i (taskK orK) → p ≡ [] → HandleOk rs ws ws i env d role p x notHandled
 unfolding handle atMark
-handle-unmarked rs ws i env d p x z lo hi e c k Σ Γ τ s ρ t y w g = ⊎-elim
-    (λ q. on-both rs ws d i Σ Γ (λ c t τ. Handled rs ws ws i env d c false (handle c ρ s t p x)) q
-    (λ a b t u σ υ k g y n l. subst (λ p. Handled rs ws ws i env d (and a b) false (handle (and a b) ρ s (both t u) p x)) (sym e) (refl, refl)) c k τ t y g)
-    (λ q. on-either rs ws d i Σ Γ (λ c t τ. Handled rs ws ws i env d c false (handle c ρ s t p x)) z q
-    (λ a b t u σ k g y n. subst (λ p. Handled rs ws ws i env d (or a b) false (handle (or a b) ρ s (either t u) p x)) (sym e) (refl, refl)) c k τ t y g)
+handle-unmarked rs ws i env d role p x z lo hi e c k Σ Γ τ s ρ t y w g = ⊎-elim
+    (λ q. on-both rs ws d i Σ Γ (λ c t τ. Handled rs ws ws i env d c role notHandled (handle c ρ s t p x)) q
+    (λ a b t u σ υ k g y n l. subst (λ p. Handled rs ws ws i env d (and a b) role notHandled (handle (and a b) ρ s (both t u) p x)) (sym e) (refl, refl)) c k τ t y g)
+    (λ q. on-either rs ws d i Σ Γ (λ c t τ. Handled rs ws ws i env d c role notHandled (handle c ρ s t p x)) z q
+    (λ a b t u σ k g y n. subst (λ p. Handled rs ws ws i env d (or a b) role notHandled (handle (or a b) ρ s (either t u) p x)) (sym e) (refl, refl)) c k τ t y g)
     (two-kinds (numberOf (taskK andK)) (word rs i 0) lo hi)

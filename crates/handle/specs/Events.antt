@@ -1,5 +1,5 @@
--- What the engine's events stand for (01, "Touches and what is shown"): a path is one number, an action's number is 1 to 4, and
--- leaves are their bits, with a flag where one is blank (CR 2). Rests on the calculus' events and on the numbers of paths.
+-- What the engine's events stand for (01, "Touches and what is shown"): a role is its number (CR 6), a path is one number, an action's
+-- number is 1 to 4, and leaves are their bits, with a flag where one is blank (CR 2). Rests on the calculus' events and on the numbers of paths.
 use mathlib.Core.Path.{_≡_}
 use mathlib.Core.Bool.{Bool, true, false, cond}
 use mathlib.Core.Option.{none, some}
@@ -58,4 +58,4 @@ pub record Ends (e : Event) (n : ℕ) (r : Bool) : Type 0 where
 
 -- the event as a part sees it, past a mark
 abbrev pub passed : Event → ℕ → Event
-passed e p = record { path = p; action = e .action; leaves = e .leaves; blank = e .blank }
+passed e p = record { role = e .role; path = p; action = e .action; leaves = e .leaves; blank = e .blank }

@@ -1,23 +1,28 @@
 -- What the functions of this crate take of an event, and leave: an editor that gets a value, a value that a step goes
--- on with, a side that is picked. Rests on Events and on crate state's terms.
+-- on with, a side that is picked; and what a row of kind 50 makes of its part's answer (CR 6). Rests on Events and on crate state's terms.
 use mathlib.Core.Path.{_≡_}
-use mathlib.Core.Bool.{Bool, true, false}
+use mathlib.Core.Bool.{Bool, true, false, cond}
 use mathlib.Core.Option.{Option, none, some, bind}
 use mathlib.Core.List.{List, [], _∷_}
-use Prim.Native.Nat.{ℕ, _<_}
+use Prim.Native.Nat.{ℕ, _-_, _<_}
+use lib.Dec.{eqb}
 use lib.ListN.{getD}
 use Rattle.decimal.specs.Path.{Path}
 use Rattle.tophat.specs.Syntax.{Ty, Code, Val, TaskOf, Env, Store}
 use Rattle.tophat.specs.Typing.{CodeType, TaskType, ValueTypes, AllSmall}
 use Rattle.tophat.specs.Normalising.{value}
+use Rattle.tophat.specs.Roles.{otherRole, noTouch}
 use Rattle.tophat.specs.Handling.{continue, left, right, Action, give, press}
 use Rattle.tophat.proofs.ComputeNormalising.{settle, branchFails}
 use Rattle.tophat.proofs.ComputeHandling.{atEditor}
 use Rattle.tophat.specs.Leaves.{given}
+use Rattle.rows.specs.GroundNumbers.{notHandled}
+use Rattle.rows.specs.Kinds.{taskK, gateK}
+use Rattle.rows.specs.Rows.{OfKind, opA}
 use Rattle.shape.specs.Shape.{asType}
 use Rattle.value.specs.declared.Found.{Found}
 use Rattle.value.specs.Found.{asFound}
-use Rattle.state.specs.Layout.{valueWords}
+use Rattle.state.specs.Layout.{at, own, valueWords, touchWords}
 use Rattle.state.specs.Holds.{treeOf, Sits, Clear, Holds, Stores, World, Ran}
 use Rattle.state.specs.Words.{Laid}
 use Rattle.handle.specs.declared.Event.{Event}
@@ -66,3 +71,20 @@ module _ (rs ws ws₁ : List ℕ) (i a x : ℕ) (env : List ℕ) (d : ℕ) where
   abbrev pub PickOk : Bool → Type 0
   PickOk r = (c : Code) → Sits rs d a c → (Σ Γ : List Ty) (τ : Ty) (s : Store) (ρ : Env) → CodeType Σ Γ c τ → World rs ws env d Σ Γ s ρ → Clear rs ws a (treeOf c)
       → Picked c r (settle c ρ s .0) (settle c ρ s .1) (branchFails c ρ s)
+
+-- ---- answers
+
+-- of a row that takes the event itself or does not: it passes no row of kind 50
+abbrev pub answerOf : Bool → ℕ
+answerOf true = 0
+answerOf false = notHandled
+
+-- what a 50 of the role r with k touches left makes of its part's verdict v
+unfoldable pub gateVerdict : ℕ → ℕ → ℕ → ℕ → ℕ
+gateVerdict role r k v = cond (eqb role r) (cond (eqb v otherRole) v (cond (eqb k 0) noTouch v)) otherRole
+
+-- what row i makes of its part's answer a: the same, unless it is a 50 whose part took the event; then one touch of its own is used
+pub record PassOk (rs ws ws₁ : List ℕ) (i role a r : ℕ) : Type 0 where
+  pub other : (OfKind rs i (taskK gateK) → ⊥) → (r ≡ a) × (ws₁ ≡ ws)
+  pub none : a ≡ notHandled → (r ≡ a) × (ws₁ ≡ ws)
+  pub gate : OfKind rs i (taskK gateK) → (a ≡ notHandled → ⊥) → (r ≡ gateVerdict role (opA rs i) (at ws i 2) a) × Laid ws ws₁ i (own ∷ touchWords (at ws i 2 - 1))

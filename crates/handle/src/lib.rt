@@ -1,5 +1,6 @@
 // Handling an event: the task at a row takes it, and the words say what the task is then, or refuses it, and every word is as it
-// was. Work that may be given up is done in a copy of the state, in `side` here and in `attempt` of crate normalising. Rests on the crates
+// was. What the rows of kind 50 that it passes say of its role and touches is answered, and their touches are used whatever they say (CR 6):
+// the caller drops the words where they refuse. Work that may be given up is done in a copy of the state, in `side` here and in `attempt` of crate normalising. Rests on the crates
 // below for values, evaluation, normalising and rows that hand on; specs/Events says what an event is.
 use decimal::path::Front;
 use decimal::path::front_mark;
@@ -8,6 +9,10 @@ use normalising::settle;
 use rows::MAX_BINDERS;
 use rows::ROWS_WORDS;
 use rows::get;
+use rows::grounds::NO_TOUCH;
+use rows::grounds::NOT_HANDLED;
+use rows::grounds::OTHER_ROLE;
+use rows::kinds::GATE;
 use rows::operand;
 use running::enclose;
 use running::handed_on;
@@ -19,8 +24,10 @@ use state::OTHER;
 use state::OWN;
 use state::STATE_SIZE;
 use state::put_tag;
+use state::put_touches;
 use state::put_value;
 use state::read;
+use state::read_touches;
 use tophat::CONTINUE;
 use tophat::GIVE;
 use tophat::LEFT;
@@ -33,17 +40,18 @@ use value::fits;
 use value::none;
 ghost use mathlib.Core.Path.{_≡_};
 ghost use mathlib.Core.List.{List};
-ghost use Prim.Native.Nat.{ℕ, _<_, _≤_};
+ghost use Prim.Native.Nat.{ℕ, _-_, _<_, _≤_};
 ghost use Rattle.tophat.specs.Syntax.{maxLeaves};
 ghost use Rattle.rows.specs.Kinds.{taskK, editK, updateK, xorK};
 ghost use Rattle.rows.specs.Rows.{maxRows, OfKind, FromKind, UpToKind};
 ghost use Rattle.state.specs.Contracts.{Fine, HandleOk};
 ghost use Rattle.running.specs.Hands.{Unhanded};
 ghost use Rattle.handle.specs.Events.{ZeroBlanks, KnownEvent, eventPath, eventAction, Ends, passed};
-ghost use Rattle.handle.specs.Taking.{NoneBlank, FillOk, GoingOk, PickOk};
+ghost use Rattle.handle.specs.Taking.{NoneBlank, FillOk, GoingOk, PickOk, answerOf, gateVerdict, PassOk};
 
-// An event: a path as one number (crate decimal), an action's number, and leaves; a blank leaf's bits are 0.
+// An event: a role (CR 6), a path as one number (crate decimal), an action's number, and leaves; a blank leaf's bits are 0.
 pub struct Event {
+    pub role: u32,
     pub path: u32,
     pub action: u32,
     pub leaves: [u32; MAX_LEAVES],
@@ -100,7 +108,7 @@ fn fill(state: &mut [u32; STATE_SIZE], row: usize, tag: u32, shape: u32, e: Even
 // An editor: its content's type is that of its row's value, of its type row, or of its cell.
 fn edit(rows: &[u32; ROWS_WORDS], state: &mut [u32; STATE_SIZE], row: usize, e: Event) -> bool
     requires { ⌜ Fine (now rows) row 0 × FromKind (now rows) row (taskK editK) × UpToKind (now rows) row (taskK updateK) × ZeroBlanks (e .leaves) (e .blank) ⌝ }
-    ensures { λ r. ⌜ ((env : List ℕ) (d : ℕ) → HandleOk (now (rows .entry)) (now (state .entry)) (now (state .exit)) row env d (eventPath e) (eventAction e) r) ⌝ }
+    ensures { λ r. ⌜ ((env : List ℕ) (d : ℕ) → HandleOk (now (rows .entry)) (now (state .entry)) (now (state .exit)) row env d (e .role) (eventPath e) (eventAction e) (answerOf r)) ⌝ }
 {
     let kind = get(rows, row, 0);
     let a = operand(rows, row, 1);
@@ -164,7 +172,7 @@ fn pick(
     e: Event,
 ) -> bool
     requires { ⌜ Fine (now rows) row depth × OfKind (now rows) row (taskK xorK) × Unhanded (now rows) (now state) row × KnownEvent e ⌝ }
-    ensures { λ r. ⌜ HandleOk (now (rows .entry)) (now (state .entry)) (now (state .exit)) row (now (env .entry)) depth (eventPath e) (eventAction e) r ⌝ }
+    ensures { λ r. ⌜ HandleOk (now (rows .entry)) (now (state .entry)) (now (state .exit)) row (now (env .entry)) depth (e .role) (eventPath e) (eventAction e) (answerOf r) ⌝ }
 {
     if ends(e, LEFT) {
         return side(rows, state, row, operand(rows, row, 1), ONE, env, depth);
@@ -184,7 +192,65 @@ fn inside(e: Event, path: u32) -> Event
     f
 }
 
-// Whether the task at the row takes the event.
+// The number of an answer that passes no row of kind 50.
+fn answer(taken: bool) -> u32
+    ensures { λ r. ⌜ r ≡ answerOf taken ⌝ }
+{
+    if taken {
+        return 0;
+    }
+    NOT_HANDLED
+}
+
+// What a row of kind 50, of a role and with so many touches left, makes of its part's verdict. CR 6: 30 before 31.
+fn gate_verdict(role: u32, own: u32, touches: u32, verdict: u32) -> u32
+    ensures { λ r. ⌜ r ≡ gateVerdict role own touches verdict ⌝ }
+{
+    if role != own {
+        return OTHER_ROLE;
+    }
+    if verdict == OTHER_ROLE {
+        return verdict;
+    }
+    if touches == 0 {
+        return NO_TOUCH;
+    }
+    verdict
+}
+
+// One touch less, where there is one.
+fn less_one(touches: u32) -> u32
+    ensures { λ r. ⌜ r ≡ touches - 1 ⌝ }
+{
+    if touches == 0 {
+        return touches;
+    }
+    touches - 1
+}
+
+// What a row that hands on makes of its part's answer: where the part took the event, a row of kind 50 says its own verdict and uses a touch.
+fn pass(
+    rows: &[u32; ROWS_WORDS],
+    state: &mut [u32; STATE_SIZE],
+    row: usize,
+    role: u32,
+    answer: u32,
+) -> u32
+    requires { ⌜ row < maxRows ⌝ }
+    ensures { λ r. ⌜ PassOk (now (rows .entry)) (now (state .entry)) (now (state .exit)) row role answer r ⌝ }
+{
+    if get(rows, row, 0) != GATE {
+        return answer;
+    }
+    if answer == NOT_HANDLED {
+        return answer;
+    }
+    let touches = read_touches(state, row);
+    put_touches(state, row, less_one(touches));
+    gate_verdict(role, get(rows, row, 1), touches, answer)
+}
+
+// What the task at the row answers to the event: 9, or what the rows of kind 50 passed say.
 pub fn handle(
     rows: &[u32; ROWS_WORDS],
     state: &mut [u32; STATE_SIZE],
@@ -192,25 +258,26 @@ pub fn handle(
     env: &[u32; ENV_WORDS],
     depth: usize,
     e: Event,
-) -> bool
+) -> u32
     requires { ⌜ Fine (now rows) row depth × KnownEvent e ⌝ }
-    ensures { λ r. ⌜ HandleOk (now (rows .entry)) (now (state .entry)) (now (state .exit)) row (now (env .entry)) depth (eventPath e) (eventAction e) r ⌝ }
+    ensures { λ r. ⌜ HandleOk (now (rows .entry)) (now (state .entry)) (now (state .exit)) row (now (env .entry)) depth (e .role) (eventPath e) (eventAction e) r ⌝ }
 {
     let part = handed_on(rows, state, row);
     if part != 0 {
         let mut inner = *env;
         let under = enclose(rows, state, row, &mut inner, depth);
-        return handle(rows, state, operand(rows, row, part), &inner, under, e);
+        let told = handle(rows, state, operand(rows, row, part), &inner, under, e);
+        return pass(rows, state, row, e.role, told);
     }
     let kind = get(rows, row, 0);
     let a = operand(rows, row, 1);
     match kind {
-        40..=42 => edit(rows, state, row, e),
+        40..=42 => answer(edit(rows, state, row, e)),
         43 => handle(rows, state, a, env, depth, e),
         44 => {
             let found = going_on(rows, state, a, e);
             if found.has {
-                return attempt(rows, state, row, env, depth, found.value);
+                return answer(attempt(rows, state, row, env, depth, found.value));
             }
             handle(rows, state, a, env, depth, e)
         }
@@ -218,12 +285,12 @@ pub fn handle(
             let b = operand(rows, row, 2);
             let front = front_mark(e.path);
             match front {
-                Front::Empty => false,
+                Front::Empty => NOT_HANDLED,
                 Front::First(rest) => handle(rows, state, a, env, depth, inside(e, rest)),
                 Front::Second(rest) => handle(rows, state, b, env, depth, inside(e, rest)),
             }
         }
-        48 => pick(rows, state, row, env, depth, e),
-        _ => false,
+        48 => answer(pick(rows, state, row, env, depth, e)),
+        _ => NOT_HANDLED,
     }
 }

@@ -7,10 +7,10 @@ use native.Mathlib.Omega.{arith}
 use lib.Dec.{eqb}
 use mir.Syntax.{w32}
 use mir.Val.{toZ}
-use Rattle.tophat.specs.Syntax.{Ty, Exp, etruth, enumber, ebinder, eop, ederef, eassign}
+use Rattle.tophat.specs.Syntax.{Ty, Exp, etruth, enumber, ebinder, eop, ederef, eassign, gated, gate}
 use Rattle.tophat.specs.Syntax.{Code, update, TaskOf, filled, blank, entered, before, after, both, either, orLeft, orRight, unpicked, pickedLeft, pickedRight, ifTrue, ifFalse, bound}
 use Rattle.rows.specs.Rows.{rowWords, word, opA, opB, opC}
-use Rattle.rows.specs.Trees.{operatorOf, ReadsType, r-unit, r-truth, r-number, r-pair, ReadsCell, r-cell}
+use Rattle.rows.specs.Trees.{operatorOf, ReadsType, r-unit, r-truth, r-number, r-pair, ReadsCell, r-cell, r-gate}
 use Rattle.rows.specs.Trees.{ReadsExp, r-eunit, r-etruth, r-enumber, r-ebinder, r-eop, r-eif, r-epair, r-efst, r-esnd, r-ederef, r-eassign, r-elet}
 use Rattle.rows.specs.Trees.{ReadsCode, r-edit, r-enter, r-update, r-then, r-next, r-fail, r-and, r-or, r-xor, r-view, r-if, r-let}
 use Rattle.state.specs.Layout.{writeTask}
@@ -93,6 +93,8 @@ module _ {rs rs₁ : List ℕ} {m : ℕ} (below : SameBelow rs rs₁ m) where
   code-below l (r-xor k x y g h) =
       r-xor (kind l k) (lower (isA l) x) (lower (isB l) y) (at-code (isA l) (code-below (omega (arith, x)) g)) (at-code (isB l) (code-below (omega (arith, y)) h))
   code-below l (r-view k x g) = r-view (kind l k) (lower (isA l) x) (at-exp (isA l) (exp-below (omega (arith, x)) g))
+  code-below {i} l (r-gate {b = b} k y g) =
+      subst (λ (w : ℕ × ℕ). ReadsCode rs₁ i (gate (w .0) (w .1) b)) (λ j. (isA l j, isC l j)) (r-gate (kind l k) (lower (isB l) y) (at-code (isB l) (code-below (omega (arith, y)) g)))
   code-below l (r-if k x y z e g h) = r-if (kind l k) (lower (isA l) x) (lower (isB l) y) (lower (isC l) z)
       (at-exp (isA l) (exp-below (omega (arith, x)) e)) (at-code (isB l) (code-below (omega (arith, y)) g)) (at-code (isC l) (code-below (omega (arith, z)) h))
   code-below l (r-let k x y e g) =
@@ -119,6 +121,7 @@ module _ {rs rs₁ : List ℕ} {m : ℕ} (below : SameBelow rs rs₁ m) where
   write-below l (r-xor k x y g h) (pickedLeft t) ws = rw (isA l) (write-below (omega (arith, x)) g t _)
   write-below l (r-xor k x y g h) (pickedRight u) ws = rw (isB l) (write-below (omega (arith, y)) h u _)
   write-below l (r-view k x g) (filled v) ws = refl
+  write-below l (r-gate k y g) (gated n u) ws = rw (isB l) (write-below (omega (arith, y)) g u _)
   write-below l (r-if k x y z e g h) (ifTrue t) ws = rw (isB l) (write-below (omega (arith, y)) g t _)
   write-below l (r-if k x y z e g h) (ifFalse u) ws = rw (isC l) (write-below (omega (arith, z)) h u _)
   write-below l (r-let k x y e g) (bound v u) ws = rw (isB l) (write-below (omega (arith, y)) g u _)

@@ -62,10 +62,10 @@ words-of ((k, x, y, z) ∷ rs) h =
     (words-cons (pos y) (pos z ∷ wordsOf rs) (low-word y (and-left (low y) _ h₂))
     (words-cons (pos z) (wordsOf rs) (low-word z (and-left (low z) _ h₃)) (words-of rs (and-right (low z) _ h₃)))))
 
--- ---- what is exchanged: A and B of the last row alone; of a path the first digit alone, after spaces; a value's first word and the two after it
+-- ---- what is exchanged: A and B of the last row alone; of a path the first digit alone, after the role and spaces; a value's first word and the two after it
 
 pub exchanges : (mirrored (wordsOf ((3, 0, 0, 0) ∷ (41, 0, 0, 0) ∷ (41, 0, 0, 0) ∷ (46, 1, 2, 0) ∷ [])) ≡ wordsOf ((3, 0, 0, 0) ∷ (41, 0, 0, 0) ∷ (41, 0, 0, 0) ∷ (46, 2, 1, 0) ∷ []))
-    × (mirroredEvent (32 ∷ 50 ∷ 49 ∷ 32 ∷ []) ≡ (32 ∷ 49 ∷ 49 ∷ 32 ∷ [])) × (mirroredEvent (32 ∷ 48 ∷ 49 ∷ []) ≡ (32 ∷ 48 ∷ 49 ∷ []))
+    × (mirroredEvent (32 ∷ 49 ∷ 32 ∷ 50 ∷ 49 ∷ 32 ∷ []) ≡ (32 ∷ 49 ∷ 32 ∷ 49 ∷ 49 ∷ 32 ∷ [])) × (mirroredEvent (32 ∷ 50 ∷ 32 ∷ 48 ∷ 49 ∷ []) ≡ (32 ∷ 50 ∷ 32 ∷ 48 ∷ 49 ∷ []))
     × (exchange {A = ℕ} 0 1 2 (5 ∷ 6 ∷ 7 ∷ 0 ∷ []) ≡ (6 ∷ 7 ∷ 5 ∷ 0 ∷ []))
 unfolding mirrored exchange mirroredEvent mirroredFirst mirroredDigit
 exchanges = (refl, refl, refl, refl)

@@ -7,7 +7,7 @@
 --   ones, into every rows memory;
 -- - start answers the same number and strides, and leaves the same words, in every state memory; so does handle, for every state memory and
 --   every event, whether it can be read or not, is taken or refused; so does every list of look and handle calls;
--- - look, with every state memory, value memory and list memory, answers the same number and flags; in its value the first m words and the n
+-- - look, with every role, state memory, value memory and list memory, answers the same number and flags; in its value the first m words and the n
 --   after them have changed places, where m and n are the leaves of A's type and of B's; its list is B's entries behind mark 1, then A's
 --   behind mark 2, where it was A's behind mark 1, then B's behind mark 2, each block in its own order. What it refuses it refuses alike.
 --
@@ -24,7 +24,7 @@ use Rattle.tophat.specs.Typing.{CodeType, t-and}
 use Rattle.rows.specs.Kinds.{taskK, andK}
 use Rattle.rows.specs.Rows.{OfKind}
 use Rattle.rows.specs.Lent.{ownRows, rowCount}
-use Rattle.rows.specs.Trees.{ReadsCode, r-edit, r-enter, r-update, r-then, r-next, r-fail, r-and, r-or, r-xor, r-view, r-if, r-let}
+use Rattle.rows.specs.Trees.{ReadsCode, r-edit, r-enter, r-update, r-then, r-next, r-fail, r-and, r-or, r-xor, r-view, r-if, r-let, r-gate}
 use Rattle.call_definitions.specs.Answers.{Loads, AcceptedFlow}
 use Rattle.call_definitions.specs.Touches.{Call, look, handle, after, run}
 use Rattle.call_definitions.proofs.Flows.{flow-of}
@@ -54,6 +54,7 @@ halves {rows} l h = let (c, Σ, τ, f) = flow-of l in by f (f .flow .code) h
     by f (r-or k x y g e) h = absurd (omega (arith, k, h))
     by f (r-xor k x y g e) h = absurd (omega (arith, k, h))
     by f (r-view k x g) h = absurd (omega (arith, k, h))
+    by f (r-gate k y g) h = absurd (omega (arith, k, h))
     by f (r-if k x y z g e d) h = absurd (omega (arith, k, h))
     by f (r-let k x y g e) h = absurd (omega (arith, k, h))
 
@@ -61,7 +62,7 @@ module _ {rows : List ℤ} {τ υ : Ty} (h : Halves rows τ υ) (w : writeless r
   -- a call, and its mirror image
   after-mirrored : (ws : List ℤ) (k : Call) → after (mirrored rows) ws (mirroredCall k) ≡ after rows ws k
   unfolding after mirroredCall
-  after-mirrored ws (look values list) = refl
+  after-mirrored ws (look role values list) = refl
   after-mirrored ws (handle event) = ap (λ r. r .state) (touches-mirrored (h .flow) w ws event)
 
   runs-mirrored : (ws : List ℤ) (ks : List Call) → run (mirrored rows) ws (map mirroredCall ks) ≡ run rows ws ks
@@ -77,6 +78,6 @@ module _ {rows : List ℤ} {τ υ : Ty} (h : Halves rows τ υ) (w : writeless r
     loads = λ text memory e. mirrored-loads text memory rows e (last-kind (h .flow)) (two-flows (h .flow) .ground₁);
     starts = starts-mirrored (h .flow) w;
     touches = touches-mirrored (h .flow) w;
-    looks = λ ws values list. looks-mirrored (h .flow) w values list ws;
+    looks = λ ws role values list. looks-mirrored (h .flow) w role values list ws;
     runs = runs-mirrored;
   }

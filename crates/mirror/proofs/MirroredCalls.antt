@@ -15,7 +15,7 @@ use Rattle.tophat.specs.Handling.{Action}
 use Rattle.tophat.specs.Redrawn.{exchanged, mirrorPath}
 use Rattle.tophat.proofs.Basics.{All, all-none, all-some}
 use Rattle.tophat.proofs.ComputeNormalising.{settle}
-use Rattle.tophat.proofs.ComputeHandling.{mapTask, handle}
+use Rattle.tophat.proofs.ComputeHandling.{Taken, mapTask, handle}
 use Rattle.tophat.proofs.TaskEvaluationAgrees.{evaluate-good}
 use Rattle.tophat.proofs.NormalisingSound.{normalise-sound}
 use Rattle.tophat.proofs.HandlingSound.{GoodHandling, handles-sound}
@@ -25,6 +25,7 @@ use Rattle.rows.specs.Lent.{rowCount}
 use Rattle.state.specs.Layout.{stateWords}
 use Rattle.call_definitions.specs.Answers.{AcceptedFlow, HasRoom}
 use Rattle.call_definitions.specs.Calls.{Opened, startCall, handled, handleRead, handleIn, handleCall}
+use Rattle.call_definitions.specs.Calls as calls
 use Rattle.call_definitions.proofs.Opening.{accepts, first-typed}
 use Rattle.call_definitions.proofs.StartAnswered.{begun, start-is, start-21-is}
 use Rattle.mirror.specs.Mirrored.{mirrored, writeless, movedTouch, mirroredEvent}
@@ -64,23 +65,23 @@ module _ {rows : List ℤ} {a b : Code} {Σ : List Ty} {τ υ : Ty} (f : Accepte
   -- ---- handle
 
   -- a readable event at a rest, by what handling makes of it
-  handled-mirrored : (ws : List ℤ) (o : Option (TaskOf (and a b) × Store)) {s : Store} {t : TaskOf (and a b)} {p : Path} {x : Action}
+  handled-mirrored : (ws : List ℤ) (role : ℕ) (o : Option (Taken (TaskOf (and a b)))) {s : Store} {t : TaskOf (and a b)} {p : Path} {x : Action}
       → All (GoodHandling Σ [] (pair τ υ) (and a b) [] s t p x) o
-      → handled (mirrored rows) ws (and b a) (mapTask exchanged o) ≡ handled rows ws (and a b) o
-  unfolding handled mapTask
-  handled-mirrored ws none all-none = refl
-  handled-mirrored ws (some q) (all-some g) =
+      → handled (mirrored rows) ws (and b a) role (mapTask exchanged o) ≡ handled rows ws (and a b) role o
+  unfolding handled calls.settled mapTask
+  handled-mirrored ws role none all-none = refl
+  handled-mirrored ws role (some q) (all-some g) =
       let e = normalise-exchanged a b [] (parts-writeless f w) (q .1) (q .0) in
       let k = normalise-sound (and a b) [] (q .1) (q .0) (g .task) v-nil (g .store) in
       rw (e, state-mirrored f (k .task) (k .store)) refl
 
-  handled-found : (ws : List ℤ) (e : Option (Path × Action)) {o o₁ : Opened} → Found f w o o₁
+  handled-found : (ws : List ℤ) (e : Option (ℕ × Path × Action)) {o o₁ : Opened} → Found f w o o₁
       → handleIn (mirrored rows) ws (movedTouch mirrorPath e) o₁ ≡ handleIn rows ws e o
   unfolding handleIn handleRead movedTouch handled handle
   handled-found ws e (neither g) = refl
   handled-found ws none (rests k h) = refl
   handled-found ws (some e) (rests {t} {s} k h) =
-      rw (handle-exchanged a b [] s t (e .0) (e .1)) (handled-mirrored ws _ (handles-sound (and a b) [] s t (e .0) (e .1) k v-nil h))
+      rw (handle-exchanged a b [] s t (e .1) (e .2)) (handled-mirrored ws (e .0) _ (handles-sound (and a b) [] s t (e .1) (e .2) k v-nil h))
   handled-found ws none failures = refl
   handled-found ws (some e) failures = refl
 

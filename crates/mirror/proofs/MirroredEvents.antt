@@ -4,14 +4,14 @@
 use mathlib.Core.Path.{_≡_, refl, sym, ap, ap₂, _∙_}
 use mathlib.Core.Bool.{Bool, true, false, _&&_, cond}
 use mathlib.Core.Option.{Option, none, some, bind}
-use mathlib.Core.List.{List, [], _∷_}
+use mathlib.Core.List.{List, [], _∷_, _++_}
 use Prim.Native.Nat.{ℕ, zero, suc, _+_, _≤_}
 use native.Mathlib.Omega.{arith}
 use borrow.Author.Tests.{eqb-true}
 use borrow.Table.Steps.{cases}
 use lib.Dec.{leb, eqb}
 use lib.IntN.{ℤ}
-use lib.ListN.{length, getD, take, replicate, length-take}
+use lib.ListN.{length, getD, take, drop, replicate, length-take, length-drop}
 use lib.Seq.{slice}
 use Rattle.decimal.specs.Field.{space, nought, unreadable, newline, wordColumns, actionColumns, trimmed, reads, readsAt}
 use Rattle.decimal.specs.Path.{Path, first, second, pathColumns, marks, emptyAlone, outside, pathIn, readsPath, readsPathAt}
@@ -20,7 +20,7 @@ use Rattle.tophat.specs.Leaves.{Given}
 use Rattle.tophat.specs.Handling.{Act, actNumber, actTable, Action}
 use Rattle.tophat.specs.Redrawn.{mirrorPath}
 use Rattle.formats.specs.Records.{total, recordBytes, isRecord, fieldsAt, numberSaid, each}
-use Rattle.formats.specs.Touches.{eventColumns, numbered, touchIn, leafSaid, allowed, eventSays, actionOf, eventOf}
+use Rattle.formats.specs.Touches.{roleColumns, eventColumns, numbered, touchIn, roleSaid, eventRole, leafSaid, allowed, eventSays, actionOf, eventOf}
 use Rattle.mirror.specs.Mirrored.{movedTouch, mirroredDigit, mirroredFirst, mirroredEvent}
 
 -- ---- what is said, mirrored
@@ -87,6 +87,52 @@ first-take zero s = refl
 first-take (suc n) [] = refl
 first-take (suc n) (b ∷ s) = cases (eqb b space) (λ e. rw e (ap (λ l. b ∷ l) (first-take n s))) (λ e. rw e)
 
+-- ---- the same past k bytes
+
+abbrev past : ℕ → ℕ → List ℕ → List ℕ
+past k n s = take k s ++ mirroredFirst n (drop k s)
+
+first-none : (n : ℕ) → mirroredFirst n [] ≡ []
+unfolding mirroredFirst
+first-none zero = refl
+first-none (suc n) = refl
+
+past-twice : (k n : ℕ) (s : List ℕ) → past k n (past k n s) ≡ s
+past-twice zero n s = first-twice n s
+past-twice (suc k) n [] = ap (past (suc k) n) (first-none n) ∙ first-none n
+past-twice (suc k) n (b ∷ s) = ap (λ l. b ∷ l) (past-twice k n s)
+
+past-length : (k n : ℕ) (s : List ℕ) → length (past k n s) ≡ length s
+past-length zero n s = first-length n s
+past-length (suc k) n [] = ap length (first-none n)
+past-length (suc k) n (b ∷ s) = ap suc (past-length k n s)
+
+past-getD : (k n : ℕ) (s : List ℕ) (i d : ℕ) → k + n ≤ i → getD (past k n s) i d ≡ getD s i d
+past-getD zero n s i d h = first-getD n s i d (omega (arith, h))
+past-getD (suc k) n [] i d h = ap (λ l. getD l i d) (first-none n)
+past-getD (suc k) n (b ∷ s) zero d h = absurd (omega arith)
+past-getD (suc k) n (b ∷ s) (suc i) d h = past-getD k n s i d (omega (arith, h))
+
+past-slice : (k n : ℕ) (s : List ℕ) (f t : ℕ) → k + n ≤ f → slice f t (past k n s) ≡ slice f t s
+past-slice zero n s f t h = first-slice n s f t (omega (arith, h))
+past-slice (suc k) n [] f t h = ap (slice f t) (first-none n)
+past-slice (suc k) n (b ∷ s) zero t h = absurd (omega arith)
+past-slice (suc k) n (b ∷ s) (suc f) zero h = refl
+past-slice (suc k) n (b ∷ s) (suc f) (suc t) h = past-slice k n s f t (omega (arith, h))
+
+-- the k bytes, and those that the exchange is in
+past-front : (k n : ℕ) (s : List ℕ) (t : ℕ) → t ≤ k → take t (past k n s) ≡ take t s
+past-front k n s zero h = refl
+past-front zero n s (suc t) h = absurd (omega arith)
+past-front (suc k) n [] (suc t) h = ap (take (suc t)) (first-none n)
+past-front (suc k) n (b ∷ s) (suc t) h = ap (λ l. b ∷ l) (past-front k n s t (omega (arith, h)))
+
+past-field : (k n : ℕ) (s : List ℕ) (t : ℕ) → t ≡ k + n → slice k t (past k n s) ≡ mirroredFirst n (slice k t s)
+past-field zero n s t e = let q : t ≡ n = omega (arith, e) in rw q (first-take n s)
+past-field (suc k) n s zero e = absurd (omega (arith, e))
+past-field (suc k) n [] (suc t) e = ap (slice (suc k) (suc t)) (first-none n) ∙ sym (first-none n)
+past-field (suc k) n (b ∷ s) (suc t) e = past-field k n s t (omega (arith, e))
+
 -- ---- after the spaces
 
 unfoldable mirroredHead : List ℕ → List ℕ
@@ -131,64 +177,73 @@ head-path (b ∷ bs) = cases (eqb b nought)
 module _ (event : List ℕ) where
   event-length : length (mirroredEvent event) ≡ length event
   unfolding mirroredEvent
-  event-length = first-length pathColumns event
+  event-length = past-length roleColumns pathColumns event
 
   same-record : isRecord eventColumns (mirroredEvent event) ≡ isRecord eventColumns event
   unfolding isRecord mirroredEvent
-  same-record = (λ j. eqb (event-length j) (recordBytes eventColumns) && eqb (first-getD pathColumns event (total eventColumns) 0 (omega arith) j) newline)
+  same-record = (λ j. eqb (event-length j) (recordBytes eventColumns) && eqb (past-getD roleColumns pathColumns event (total eventColumns) 0 (omega arith) j) newline)
 
-  path-mirrored : readsPathAt (mirroredEvent event) 0 ≡ mirroredPath (readsPathAt event 0)
+  same-role : eventRole (mirroredEvent event) ≡ eventRole event
+  unfolding readsAt mirroredEvent
+  same-role = (λ j. roleSaid (cond (leb (0 + roleColumns) (event-length j)) (reads (past-front roleColumns pathColumns event roleColumns (omega arith) j)) unreadable))
+
+  abbrev path : List ℕ
+  path = slice roleColumns (roleColumns + pathColumns) event
+
+  path-mirrored : readsPathAt (mirroredEvent event) roleColumns ≡ mirroredPath (readsPathAt event roleColumns)
   unfolding readsPathAt mirroredEvent mirroredPath
   path-mirrored =
-      let e : readsPath (slice 0 pathColumns (mirroredFirst pathColumns event)) ≡ mirroredPath (readsPath (slice 0 pathColumns event)) =
-      ap readsPath (first-take pathColumns event)
-      ∙ ap pathIn (first-trimmed pathColumns (take pathColumns event) (let l = length-take pathColumns event in omega (arith, l)))
-      ∙ head-path (trimmed (take pathColumns event)) in
-      (λ j. cond (leb (0 + pathColumns) (event-length j)) (e j) none) ∙ by (leb (0 + pathColumns) (length event)) (readsPath (slice 0 pathColumns event))
+      let l : length path ≤ pathColumns = let m = length-take (roleColumns + pathColumns) event in let n = length-drop roleColumns (take (roleColumns + pathColumns) event) in omega (arith, m, n) in
+      let e : readsPath (slice roleColumns (roleColumns + pathColumns) (past roleColumns pathColumns event)) ≡ mirroredPath (readsPath path) =
+      ap readsPath (past-field roleColumns pathColumns event (roleColumns + pathColumns) refl)
+      ∙ ap pathIn (first-trimmed pathColumns path l)
+      ∙ head-path (trimmed path) in
+      (λ j. cond (leb (roleColumns + pathColumns) (event-length j)) (e j) none) ∙ by (leb (roleColumns + pathColumns) (length event)) (readsPath path)
     where
       by : (b : Bool) (o : Option Path) → cond b (mirroredPath o) none ≡ mirroredPath (cond b o none)
       by true o = refl
       by false o = refl
 
   -- a field after the path
-  same-field : (at w : ℕ) → pathColumns ≤ at → readsAt (mirroredEvent event) at w ≡ readsAt event at w
+  same-field : (at w : ℕ) → roleColumns + pathColumns ≤ at → readsAt (mirroredEvent event) at w ≡ readsAt event at w
   unfolding readsAt mirroredEvent
-  same-field at w h = (λ j. cond (leb (at + w) (event-length j)) (reads (first-slice pathColumns event at (at + w) h j)) unreadable)
+  same-field at w h = (λ j. cond (leb (at + w) (event-length j)) (reads (past-slice roleColumns pathColumns event at (at + w) h j)) unreadable)
 
-  same-fields : (ws : List ℕ) (at : ℕ) → pathColumns ≤ at → fieldsAt (mirroredEvent event) at ws ≡ fieldsAt event at ws
+  same-fields : (ws : List ℕ) (at : ℕ) → roleColumns + pathColumns ≤ at → fieldsAt (mirroredEvent event) at ws ≡ fieldsAt event at ws
   unfolding fieldsAt
   same-fields [] at h = refl
   same-fields (w ∷ ws) at h = ap₂ _∷_ (same-field at w h) (same-fields ws (at + w) (omega (arith, h)))
 
 -- ---- what they say
 
--- an event by whether it is a record, and what its path, its action and its leaves say
+-- an event by whether it is a record, and what its role, its path, its action and its leaves say
 abbrev touched : Path → Option Act → Option (List Given) → Option (Path × Act × List Given)
 touched p action leaves = bind action λ a. bind leaves λ ls. some (p, a, ls)
 
-abbrev permitted : Option (Path × Act × List Given) → Option (Path × Act × List Given)
-permitted o = bind o λ t. cond (allowed (t .1) (t .2)) (some t) none
+abbrev permitted : ℕ → Option (Path × Act × List Given) → Option (ℕ × Path × Act × List Given)
+permitted k o = bind o λ t. cond (allowed (t .1) (t .2)) (some (k, t .0, t .1, t .2)) none
 
-abbrev acted : Option (Path × Act × List Given) → Option (Path × Action)
-acted o = bind o λ t. some (t .0, actionOf (t .1) (t .2))
+abbrev acted : Option (ℕ × Path × Act × List Given) → Option (ℕ × Path × Action)
+acted o = bind o λ t. some (t .0, t .1, actionOf (t .2) (t .3))
 
-abbrev saying : Bool → Option Path → Option ℤ → Option (List Given) → Option (Path × Action)
-saying r path number leaves = acted (cond r (permitted (bind path λ p. bind number λ n. touched p (numbered actNumber actTable n) leaves)) none)
+abbrev saying : Bool → Option ℕ → Option Path → Option ℤ → Option (List Given) → Option (ℕ × Path × Action)
+saying r role path number leaves = acted (cond r (bind role λ k. permitted k (bind path λ p. bind number λ n. touched p (numbered actNumber actTable n) leaves)) none)
 
-said-mirrored : (r : Bool) (path : Option Path) (number : Option ℤ) (leaves : Option (List Given))
-    → saying r (mirroredPath path) number leaves ≡ movedTouch mirrorPath (saying r path number leaves)
+said-mirrored : (r : Bool) (role : Option ℕ) (path : Option Path) (number : Option ℤ) (leaves : Option (List Given))
+    → saying r role (mirroredPath path) number leaves ≡ movedTouch mirrorPath (saying r role path number leaves)
 unfolding bind mirroredPath movedTouch
-said-mirrored false path number leaves = refl
-said-mirrored true none number leaves = refl
-said-mirrored true (some p) none leaves = refl
-said-mirrored true (some p) (some n) leaves = by (numbered actNumber actTable n) leaves
+said-mirrored false role path number leaves = refl
+said-mirrored true none path number leaves = refl
+said-mirrored true (some k) none number leaves = refl
+said-mirrored true (some k) (some p) none leaves = refl
+said-mirrored true (some k) (some p) (some n) leaves = by (numbered actNumber actTable n) leaves
   where
-    told : (b : Bool) (a : Act) (ls : List Given) → acted (cond b (some (mirrorPath p, a, ls)) none) ≡ movedTouch mirrorPath (acted (cond b (some (p, a, ls)) none))
+    told : (b : Bool) (a : Act) (ls : List Given) → acted (cond b (some (k, mirrorPath p, a, ls)) none) ≡ movedTouch mirrorPath (acted (cond b (some (k, p, a, ls)) none))
     told true a ls = refl
     told false a ls = refl
 
-    by : (k : Option Act) (leaves : Option (List Given))
-        → acted (permitted (touched (mirrorPath p) k leaves)) ≡ movedTouch mirrorPath (acted (permitted (touched p k leaves)))
+    by : (o : Option Act) (leaves : Option (List Given))
+        → acted (permitted k (touched (mirrorPath p) o leaves)) ≡ movedTouch mirrorPath (acted (permitted k (touched p o leaves)))
     by none leaves = refl
     by (some a) none = refl
     by (some a) (some ls) = told (allowed a ls) a ls
@@ -197,11 +252,13 @@ said-mirrored true (some p) (some n) leaves = by (numbered actNumber actTable n)
 pub mirrored-event : (event : List ℕ) → eventOf (mirroredEvent event) ≡ movedTouch mirrorPath (eventOf event)
 unfolding eventOf eventSays touchIn
 mirrored-event event =
-    (λ j. saying (same-record event j) (path-mirrored event j) (numberSaid (same-field event pathColumns actionColumns (omega arith) j))
-    (each leafSaid (same-fields event (replicate maxLeaves wordColumns) (pathColumns + actionColumns) (omega arith) j)))
-    ∙ said-mirrored (isRecord eventColumns event) (readsPathAt event 0) (numberSaid (readsAt event pathColumns actionColumns))
-    (each leafSaid (fieldsAt event (pathColumns + actionColumns) (replicate maxLeaves wordColumns)))
+    let action = roleColumns + pathColumns in
+    let leaves = roleColumns + pathColumns + actionColumns in
+    (λ j. saying (same-record event j) (same-role event j) (path-mirrored event j) (numberSaid (same-field event action actionColumns (omega arith) j))
+    (each leafSaid (same-fields event (replicate maxLeaves wordColumns) leaves (omega arith) j)))
+    ∙ said-mirrored (isRecord eventColumns event) (eventRole event) (readsPathAt event roleColumns) (numberSaid (readsAt event action actionColumns))
+    (each leafSaid (fieldsAt event leaves (replicate maxLeaves wordColumns)))
 
 pub mirrored-twice : (event : List ℕ) → mirroredEvent (mirroredEvent event) ≡ event
 unfolding mirroredEvent
-mirrored-twice event = first-twice pathColumns event
+mirrored-twice event = past-twice roleColumns pathColumns event

@@ -1,7 +1,7 @@
 -- Look on a flow and on the flow mirrored: the same number and flags, the halves of the value exchanged, and the two blocks of the list, for
--- every state memory, value memory and list memory. Rests on MirroredOpening, Exchanged and the calculus' Mirroring.
+-- every role, state memory, value memory and list memory. Rests on MirroredOpening, Exchanged and the calculus' Mirroring.
 use mathlib.Core.Path.{_≡_, refl, sym, ap, _∙_}
-use mathlib.Core.Bool.{true}
+use mathlib.Core.Bool.{true, cond}
 use mathlib.Core.Option.{Option, none, some}
 use mathlib.Core.List.{List, [], _∷_, _++_, append-assoc}
 use Prim.Native.Nat.{ℕ, _+_, _*_, _-_, _≤_}
@@ -24,15 +24,16 @@ use Rattle.tophat.proofs.Leaves.{length-leaves}
 use Rattle.tophat.proofs.Preservation.{OptionType, o-none, o-some, value-type}
 use Rattle.tophat.proofs.TypeLeaves.{task-type-leaves}
 use Rattle.tophat.proofs.Mirroring.{value-exchanged, entries-exchanged, failing-exchanged}
+use Rattle.tophat.specs.Roles.{isRole, is}
 use Rattle.formats.specs.Touches.{entryBytes}
 use Rattle.formats.specs.Lists.{listText, Fits, fit-none}
 use Rattle.formats.proofs.EntriesFit.{entries-fit}
-use Rattle.rows.specs.GroundNumbers.{listTooShort}
+use Rattle.rows.specs.GroundNumbers.{eventNotRead, listTooShort}
 use Rattle.rows.proofs.CellsAt.{cells-small}
 use Rattle.call_definitions.specs.Memory.{LookAnswer, lookRefusal, valueMemory, hasOne}
-use Rattle.call_definitions.specs.States.{taskState}
+use Rattle.call_definitions.specs.States.{taskState, failedState}
 use Rattle.call_definitions.specs.Answers.{AcceptedFlow}
-use Rattle.call_definitions.specs.Calls.{Opened, restOf, lookIn, lookCall}
+use Rattle.call_definitions.specs.Calls.{Opened, lookRest, lookIn, lookCall}
 use Rattle.call_definitions.proofs.Opening.{marks-fit}
 use Rattle.mirror.specs.Mirrored.{exchange, mirrored, writeless, LooksMirrored}
 use Rattle.mirror.proofs.Exchanged.{exchange-front}
@@ -115,7 +116,7 @@ refused-looks m n g values list z = record {
   list-mirrored = λ e. absurd (z e);
 }
 
-module _ {rows : List ℤ} {a b : Code} {Σ : List Ty} {τ υ : Ty} (f : AcceptedFlow rows (and a b) Σ (pair τ υ)) (w : writeless rows ≡ true) (values : List ℤ) (list : List ℕ) where
+module _ {rows : List ℤ} {a b : Code} {Σ : List Ty} {τ υ : Ty} (f : AcceptedFlow rows (and a b) Σ (pair τ υ)) (w : writeless rows ≡ true) (role : ℕ) (values : List ℤ) (list : List ℕ) where
   abbrev Mirror : LookAnswer → LookAnswer → Type 0
   Mirror x y = LooksMirrored (leaves τ) (leaves υ) list x y
 
@@ -124,14 +125,14 @@ module _ {rows : List ℤ} {a b : Code} {Σ : List Ty} {τ υ : Ty} (f : Accepte
   small = task-type-leaves (f .flow .typed) (cells-small (f .flow .cells)) small-nil
 
   -- at a rest
-  looks-both : (t : TaskOf a) (u : TaskOf b) (s : Store) → OptionType (value a t s) τ → OptionType (value b u s) υ → Fits 1 (entries a [] s t)
-      → Fits 1 (entries b [] s u)
-      → Mirror (lookIn values list (restOf (taskState (and a b) (both t u) s))) (lookIn values list (restOf (taskState (and b a) (exchanged (both t u)) s)))
-  unfolding lookIn
+  looks-both : (t : TaskOf a) (u : TaskOf b) (s : Store) → OptionType (value a t s) τ → OptionType (value b u s) υ → Fits 1 (entries (is role) a [] s t)
+      → Fits 1 (entries (is role) b [] s u)
+      → Mirror (lookRest role values list (taskState (and a b) (both t u) s)) (lookRest role values list (taskState (and b a) (exchanged (both t u)) s))
+  unfolding lookRest
   looks-both t u s k h p q =
-      let es = entries a [] s t in let gs = entries b [] s u in
+      let es = entries (is role) a [] s t in let gs = entries (is role) b [] s u in
       let (v, v₁) = value-exchanged a b t u s in
-      let (e, e₁) = entries-exchanged a b [] s t u in
+      let (e, e₁) = entries-exchanged a b [] (is role) s t u in
       let l = ap (λ n. leb (n * entryBytes) (length list)) (blocks-length es gs) in
       rw (v, v₁, e, e₁, failing-exchanged a b [] s (both t u)) (cases (leb (length (marked first es ++ marked second gs) * entryBytes) (length list))
       (λ y. rw (y, l ∙ y) (record {
@@ -150,14 +151,10 @@ module _ {rows : List ℤ} {a b : Code} {Σ : List Ty} {τ υ : Ty} (f : Accepte
       }))
       (λ o. rw (o, l ∙ o) (refused-looks (leaves τ) (leaves υ) listTooShort values list (λ e. omega (arith, e)))))
 
-  looks-found : {o o₁ : Opened} → Found f w o o₁ → Mirror (lookIn values list o) (lookIn values list o₁)
-  unfolding lookIn value entries failing listText valueMemory hasOne marked
-  looks-found (neither {g = g} z) = refused-looks (leaves τ) (leaves υ) g values list z
-  looks-found (rests {s = s} (k-both {t = t} {u = u} k h l) g) =
-      let (o, m, n) = marks-fit f in
-      let c = cells-small (f .flow .cells) in
-      looks-both t u s (value-type k g) (value-type h g) (entries-fit c g 1 [] k small-nil (omega arith) m) (entries-fit c g 1 [] h small-nil (omega arith) n)
-  looks-found failures =
+  -- at a start that left the range
+  looks-failed : (s : Store) → Mirror (lookRest role values list (failedState (pair τ υ) s)) (lookRest role values list (failedState (pair υ τ) s))
+  unfolding lookRest value entries failing listText valueMemory hasOne marked
+  looks-failed s =
       let e : leb 0 (length list) ≡ true = le-leb 0 (length list) (omega arith) in
       rw e (record {
         number = refl;
@@ -174,6 +171,21 @@ module _ {rows : List ℤ} {a b : Code} {Σ : List Ty} {τ υ : Ty} (f : Accepte
         list-mirrored = λ e. refl;
       })
 
-  pub looks-mirrored : (ws : List ℤ) → Mirror (lookCall rows ws values list) (lookCall (mirrored rows) ws values list)
+  -- in a role of 1 to 8, or not
+  by-role : {x y : LookAnswer} → Mirror x y → Mirror (cond (isRole role) x (lookRefusal eventNotRead values list)) (cond (isRole role) y (lookRefusal eventNotRead values list))
+  by-role m = cases (isRole role)
+      (λ i. rw i m)
+      (λ n. rw n (refused-looks (leaves τ) (leaves υ) eventNotRead values list (λ e. omega (arith, e))))
+
+  looks-found : {o o₁ : Opened} → Found f w o o₁ → Mirror (lookIn role values list o) (lookIn role values list o₁)
+  unfolding lookIn
+  looks-found (neither {g = g} z) = refused-looks (leaves τ) (leaves υ) g values list z
+  looks-found (rests {s = s} (k-both {t = t} {u = u} k h l) g) =
+      let (o, m, n) = marks-fit f in
+      let c = cells-small (f .flow .cells) in
+      by-role (looks-both t u s (value-type k g) (value-type h g) (entries-fit (is role) c g 1 [] k small-nil (omega arith) m) (entries-fit (is role) c g 1 [] h small-nil (omega arith) n))
+  looks-found (failures {s = s}) = by-role (looks-failed s)
+
+  pub looks-mirrored : (ws : List ℤ) → Mirror (lookCall rows ws role values list) (lookCall (mirrored rows) ws role values list)
   unfolding lookCall
   looks-mirrored ws = looks-found (found f w ws (eqb (length values) maxLeaves))

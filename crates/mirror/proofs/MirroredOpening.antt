@@ -18,7 +18,6 @@ use Rattle.tophat.specs.Redrawn.{exchanged}
 use Rattle.tophat.proofs.Basics.{apart, and-left, and-right}
 use Rattle.tophat.proofs.ComputeEvaluation.{overflowsTask}
 use Rattle.tophat.proofs.ComputeNormalising.{stride}
-use Rattle.tophat.proofs.ComputeHandling.{mapTask}
 use Rattle.tophat.proofs.Mirroring.{Writeless, overflows-exchanged, stride-exchanged}
 use Rattle.rows.specs.GroundNumbers.{wrongMemory, notState, notAtRest}
 use Rattle.rows.specs.Lent.{ownRows, rowCount}
@@ -35,7 +34,7 @@ use Rattle.call_definitions.proofs.Opening.{flowRows, decodedFrom, opened-is, h
 use Rattle.call_definitions.proofs.Grounds.{opened-misfit}
 use Rattle.mirror.specs.Mirrored.{mirrored, writeless}
 use Rattle.mirror.proofs.Exchanged.{mirrored-count}
-use Rattle.mirror.proofs.MirroredStates.{failed-alike, encode-exchanged, decode-exchanged}
+use Rattle.mirror.proofs.MirroredStates.{onTask, failed-alike, encode-exchanged, decode-exchanged}
 use Rattle.mirror.proofs.MirroredFlow.{two-flows, mirroredFlow}
 use Rattle.mirror.proofs.Writeless.{rows-writeless}
 
@@ -68,12 +67,12 @@ module _ {rows : List ℤ} {a b : Code} {Σ : List Ty} {τ υ : Ty} (f : Accepte
   decoded-as : (ws : List ℤ) → decodedFrom f ws ≡ decode (ownRows rows) n (and a b) Σ (ownOf n ws)
   decoded-as ws = ap (λ Σ. decode (ownRows rows) n (and a b) Σ (ownOf n ws)) (sym (cells-are (f .flow .cells) .0))
 
-  decoded-mirrored : (ws : List ℤ) → decodedFrom mirror ws ≡ mapTask exchanged (decodedFrom f ws)
+  decoded-mirrored : (ws : List ℤ) → decodedFrom mirror ws ≡ onTask exchanged (decodedFrom f ws)
   decoded-mirrored ws =
       ap (λ Σ. decode (ownRows (mirrored rows)) (rowCount (mirrored rows)) (and b a) Σ (ownOf (rowCount (mirrored rows)) ws)) (sym (cells-are (mirror .flow .cells) .0))
       ∙ (λ j. decode (ownRows (mirrored rows)) (mirrored-count rows j) (and b a) Σ (ownOf (mirrored-count rows j) ws))
       ∙ decode-exchanged (two-flows f) (ownOf n ws)
-      ∙ sym (ap (mapTask exchanged) (decoded-as ws))
+      ∙ sym (ap (onTask exchanged) (decoded-as ws))
 
   module _ (w : writeless rows ≡ true) where
     pub parts-writeless : Writeless (and a b)
@@ -108,8 +107,8 @@ module _ {rows : List ℤ} {a b : Code} {Σ : List Ty} {τ υ : Ty} (f : Accepte
         by {x} y z g = rw (failed-opens f ws x y, failed-opens mirror ws x z) g
 
     found-decoded : (ws : List ℤ) (o : Option (TaskOf (and a b) × Store)) → decodedFrom f ws ≡ o
-        → Found (decoded rows ws (and a b) o) (decoded (mirrored rows) ws (and b a) (mapTask exchanged o))
-    unfolding decoded mapTask
+        → Found (decoded rows ws (and a b) o) (decoded (mirrored rows) ws (and b a) (onTask exchanged o))
+    unfolding decoded onTask
     found-decoded ws none e = found-failed ws
     found-decoded ws (some q) e = let k = decode-sound (ownRows rows) n (flowRows f) (ownOf n ws) (sym (decoded-as ws) ∙ e) in found-task (k .typed) (k .stored)
 

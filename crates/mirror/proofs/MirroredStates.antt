@@ -11,7 +11,6 @@ use Rattle.tophat.specs.Syntax.{Ty, pair, Code, and, TaskOf, both, Store}
 use Rattle.tophat.specs.Typing.{TaskType, ValueTypes, small-nil}
 use Rattle.tophat.specs.Redrawn.{exchanged}
 use Rattle.tophat.proofs.Basics.{no-some}
-use Rattle.tophat.proofs.ComputeHandling.{mapTask}
 use Rattle.tophat.proofs.Mirroring.{code-exchanged, typed-exchanged}
 use Rattle.rows.specs.Rows.{word, opA, opB}
 use Rattle.rows.specs.Trees.{ReadsCode, r-and, Flow}
@@ -168,13 +167,18 @@ module _ {rs rs₁ : List ℕ} {n : ℕ} {a b : Code} {Σ : List Ty} {s₀ : Sto
       let w = decode-sound rs n rowsOf ws e in
       decode-is rs₁ n rowsOf₁ ws (flip d .past) (record { typed = typed-exchanged (w .typed); stored = w .stored; writing = w .writing ∙ sym (encode-exchanged t (w .typed) (w .stored)) })
 
+-- the task of what is decoded
+unfoldable pub onTask : {A B : Type 0} → (A → B) → Option (A × Store) → Option (B × Store)
+onTask f none = none
+onTask f (some q) = some (f (q .0), q .1)
+
 pub decode-exchanged : {rs rs₁ : List ℕ} {n : ℕ} {a b : Code} {Σ : List Ty} {s₀ : Store} {τ υ : Ty} (d : Two rs rs₁ n a b Σ s₀ τ υ) (ws : List ℕ)
-    → decode rs₁ n (and b a) Σ ws ≡ mapTask exchanged (decode rs n (and a b) Σ ws)
-unfolding mapTask
+    → decode rs₁ n (and b a) Σ ws ≡ onTask exchanged (decode rs n (and a b) Σ ws)
+unfolding onTask
 decode-exchanged {rs} {rs₁} {n} {a} {b} {Σ} d ws = by (decode rs n (and a b) Σ ws) (decode rs₁ n (and b a) Σ ws) refl refl
   where
     by : (o : Option (TaskOf (and a b) × Store)) (o₁ : Option (TaskOf (and b a) × Store)) → decode rs n (and a b) Σ ws ≡ o
-        → decode rs₁ n (and b a) Σ ws ≡ o₁ → o₁ ≡ mapTask exchanged o
+        → decode rs₁ n (and b a) Σ ws ≡ o₁ → o₁ ≡ onTask exchanged o
     by none none e f = refl
     by none (some q) e f = no-some (sym e ∙ decode-to (flip d) ws f)
     by (some q) o₁ e f = sym f ∙ decode-to d ws e

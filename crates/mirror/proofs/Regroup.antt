@@ -10,7 +10,7 @@
 -- - both last rows have one type;
 -- - start answers 0 on both, in all memories of the right size, with equal strides, and leaves states that go together;
 -- - every rest of either sheet, whether start and touches reach it or not, goes together with a rest of the other;
--- - look, lent the same value memory and list memory, whatever they are, gives equal numbers, flags and values; where it answers 0, the
+-- - look, in any one role, lent the same value memory and list memory, whatever they are, gives equal numbers, flags and values; where it answers 0, the
 --   list is the one's with the paths of its entries moved, in the same order; where it refuses, both answers are one. Lent memories of
 --   their own, two looks that answer 0 show the same in this sense too;
 -- - where a touch goes: while no choice is made, marks 1 1, 1 2 and 2 against 1, 2 1 and 2 2; then the same. Touches that go together

@@ -1,5 +1,6 @@
 -- Two tasks that go together, one of (a, b), c and one of a, (b, c) with its cells renamed, in stores that agree: they have one value and
--- one failing flag, the entries are those of the one with their paths moved, touches that go together are taken by both or by neither, and
+-- one failing flag, the entries shown to anyone are those of the one with their paths moved, touches that go together are taken by both or by neither, past the
+-- same rows of kind 50, and
 -- both evaluate, normalise and leave the words alike, in as many strides, so that what they come to goes together. The types are one. Rests
 -- on the calculus' Regrouping, RegroupingTouches and Renaming, which it composes.
 use mathlib.Core.Path.{_≡_, refl, sym, ap, subst, _∙_}
@@ -12,12 +13,13 @@ use Rattle.decimal.specs.Path.{Path}
 use Rattle.tophat.specs.Syntax.{unit, Code, TaskOf, Store}
 use Rattle.tophat.specs.Typing.{CodeType, typeOf}
 use Rattle.tophat.specs.Normalising.{value}
+use Rattle.tophat.specs.Roles.{Who}
 use Rattle.tophat.specs.Handling.{Action}
 use Rattle.tophat.specs.Redrawn.{turned, pathIn, moved}
 use Rattle.tophat.specs.Renamed.{renamed, renamedTask, CellsIn, Agrees, SameTypes}
 use Rattle.tophat.proofs.ComputeEvaluation.{overflowsTask}
 use Rattle.tophat.proofs.ComputeNormalising.{failing, stride, normalise, settle}
-use Rattle.tophat.proofs.ComputeHandling.{mapTask, handle}
+use Rattle.tophat.proofs.ComputeHandling.{Taken, mapTask, handle}
 use Rattle.tophat.proofs.ComputeEntries.{entries}
 use Rattle.tophat.proofs.Leaves.{type-of}
 use Rattle.tophat.proofs.TypingAgrees.{one-task-type}
@@ -46,12 +48,12 @@ module _ {A B C : Type 0} {π : ℕ → ℕ} {P : ℕ → Type 0} (f : B → C) 
       let m = subst (λ q. LikeWith π P f q r₁) e l in
       record { made = m .made; store = m .store; third = m .third }
 
-  map-back : (o : Option (A × Store)) {o₁ : Option (C × Store)} → LikeOption π P f (mapTask h o) o₁ → LikeOption π P (λ t. f (h t)) o o₁
+  map-back : (o : Option (Taken A)) {o₁ : Option (Taken C)} → LikeOption π P f (mapTask h o) o₁ → LikeOption π P (λ t. f (h t)) o o₁
   unfolding mapTask
   map-back none like-none = like-none
-  map-back (some r) (like-some k) = like-some (record { made = k .made; store = k .store })
+  map-back (some r) (like-some k) = like-some (record { made = k .made; store = k .store; third = k .third })
 
-  option-map : (o : Option (A × Store)) {q : Option (B × Store)} {o₁ : Option (C × Store)}
+  option-map : (o : Option (Taken A)) {q : Option (Taken B)} {o₁ : Option (Taken C)}
       → q ≡ mapTask h o → LikeOption π P f q o₁ → LikeOption π P (λ t. f (h t)) o o₁
   option-map o {o₁ = o₁} e l = map-back o (subst (λ q. LikeOption π P f q o₁) e l)
 
@@ -91,8 +93,8 @@ module _ {rows rows₁ : List ℤ} (g : Regroups rows rows₁) where
       pub failing-same : failing codeThere [] s₁ (image t) ≡ failing (codeOne g) [] s t
       failing-same = failing-like (g .apart) (codeOther g) named-other [] s s₁ (turned t) k ∙ failing-turned (g .a) (g .b) (g .c) [] s t
 
-      pub entries-moved : entries codeThere [] s₁ (image t) ≡ moved (pathIn t) (entries (codeOne g) [] s t)
-      entries-moved = entries-like (g .apart) (codeOther g) named-other [] s s₁ (turned t) k ∙ entries-turned (g .a) (g .b) (g .c) [] s t
+      pub entries-moved : (w : Who) → entries w codeThere [] s₁ (image t) ≡ moved (pathIn t) (entries w (codeOne g) [] s t)
+      entries-moved w = entries-like (g .apart) w (codeOther g) named-other [] s s₁ (turned t) k ∙ entries-turned (g .a) (g .b) (g .c) [] w s t
 
       pub handle-same : (p : Path) (x : Action)
           → LikeOption (g .place) CellSet image (handle (codeOne g) [] s t p x) (handle codeThere [] s₁ (image t) (pathIn t p) x)

@@ -4,22 +4,25 @@ use mathlib.Core.Path.{_≡_, refl, sym, ap, subst, _∙_}
 use mathlib.Core.Option.{Option, none, some}
 use mathlib.Core.List.{List, []}
 use Prim.Native.Nat.{ℕ}
+use borrow.Table.Steps.{cases}
+use lib.Dec.{eqb}
 use lib.IntN.{ℤ}
 use Rattle.decimal.specs.Path.{Path}
 use Rattle.tophat.specs.Syntax.{TaskOf, Store}
 use Rattle.tophat.specs.Typing.{v-nil}
+use Rattle.tophat.specs.Roles.{verdict}
 use Rattle.tophat.specs.Handling.{Action}
 use Rattle.tophat.proofs.Basics.{All, all-none, all-some}
 use Rattle.tophat.proofs.ComputeNormalising.{normalise}
-use Rattle.tophat.proofs.ComputeHandling.{handle}
+use Rattle.tophat.proofs.ComputeHandling.{Taken, handle}
 use Rattle.tophat.proofs.NormalisingSound.{normalise-sound}
 use Rattle.tophat.proofs.HandlingSound.{GoodHandling, handles-sound}
-use Rattle.tophat.proofs.Renaming.{Like, LikeWith}
+use Rattle.tophat.proofs.Renaming.{LikeWith}
 use Rattle.tophat.proofs.RenamingTouches.{LikeOption, like-none, like-some}
 use Rattle.formats.specs.Touches.{eventOf}
 use Rattle.call_definitions.specs.Memory.{CallAnswer}
 use Rattle.call_definitions.specs.States.{FlowState, TypedState}
-use Rattle.call_definitions.specs.Calls.{handled, handleRead, handleCall}
+use Rattle.call_definitions.specs.Calls.{settled, handled, handleRead, handleCall}
 use Rattle.call_definitions.proofs.Opening.{state-typed}
 use Rattle.call_definitions.proofs.HandleAnswered.{rest-handle}
 use Rattle.mirror.specs.Mirrored.{movedTouch}
@@ -32,41 +35,44 @@ module _ {rows rows₁ : List ℤ} (g : Regroups rows rows₁) {ws ws₁ : List 
 
   module _ {t : TaskOf (codeOne g)} {t₁ : TaskOf (codeThere g)} {s s₁ : Store} {p p₁ : Path} {x : Action} where
     -- what both come to, normalised
-    by-taken : {r : TaskOf (codeOne g) × Store} {r₁ : TaskOf (codeThere g) × Store}
-        → Like (g .place) (CellSet g) (image g) r r₁ → GoodHandling (g .cells) [] (g .type) (codeOne g) [] s t p x r
+    by-taken : (role : ℕ) {r : Taken (TaskOf (codeOne g))} {r₁ : Taken (TaskOf (codeThere g))}
+        → LikeWith (g .place) (CellSet g) (image g) r r₁ → GoodHandling (g .cells) [] (g .type) (codeOne g) [] s t p x r
         → GoodHandling (g .cells₁) [] (g .type₁) (codeThere g) [] s₁ t₁ p₁ x r₁
-        → Answers (handled rows ws (codeOne g) (some r)) (handled rows₁ ws₁ (codeThere g) (some r₁))
-    unfolding handled
-    by-taken {r} {r₁} l h h₁ =
+        → Answers (handled rows ws (codeOne g) role (some r)) (handled rows₁ ws₁ (codeThere g) role (some r₁))
+    unfolding handled settled
+    by-taken role {r} {r₁} l h h₁ =
         let m : LikeWith (g .place) (CellSet g) (image g) (normalise (codeOne g) [] (r .1) (r .0)) (normalise (codeThere g) [] (r₁ .1) (r₁ .0)) =
         subst (λ u. LikeWith (g .place) (CellSet g) (image g) (normalise (codeOne g) [] (r .1) (r .0)) (normalise (codeThere g) [] (r₁ .1) u))
-        (sym (l .made)) (normalise-same g (l .store) (r .0)) in (
+        (sym (l .made)) (normalise-same g (l .store) (r .0)) in
+        rw (l .third) (cases (eqb (verdict role (r .2)) 0)
+        (λ y. rw y (
           refl,
           m .third,
           normal-stand g
               (normalise-sound (codeOne g) [] (r .1) (r .0) (h .task) v-nil (h .store))
               (normalise-sound (codeThere g) [] (r₁ .1) (r₁ .0) (h₁ .task) v-nil (h₁ .store)) m,
-        )
+        ))
+        (λ n. rw n (refl, refl, z)))
 
-    -- a touch is taken by both or by neither
-    by-handled : {o : Option (TaskOf (codeOne g) × Store)} {o₁ : Option (TaskOf (codeThere g) × Store)}
+    -- a touch is taken by both, past the same rows of kind 50, or by neither
+    by-handled : (role : ℕ) {o : Option (Taken (TaskOf (codeOne g)))} {o₁ : Option (Taken (TaskOf (codeThere g)))}
         → LikeOption (g .place) (CellSet g) (image g) o o₁ → All (GoodHandling (g .cells) [] (g .type) (codeOne g) [] s t p x) o
         → All (GoodHandling (g .cells₁) [] (g .type₁) (codeThere g) [] s₁ t₁ p₁ x) o₁
-        → Answers (handled rows ws (codeOne g) o) (handled rows₁ ws₁ (codeThere g) o₁)
+        → Answers (handled rows ws (codeOne g) role o) (handled rows₁ ws₁ (codeThere g) role o₁)
     unfolding handled
-    by-handled like-none all-none all-none = (refl, refl, z)
-    by-handled (like-some l) (all-some h) (all-some h₁) = by-taken l h h₁
+    by-handled role like-none all-none all-none = (refl, refl, z)
+    by-handled role (like-some l) (all-some h) (all-some h₁) = by-taken role l h h₁
 
   -- in two states that go together; what has failed takes no touch
   by-states : {y y₁ : FlowState} {f : Path → Path} → Corresponds g y y₁ f
       → TypedState (g .cells) (g .type) y → TypedState (g .cells₁) (g .type₁) y₁
-      → (o : Option (Path × Action)) → Answers (handleRead rows ws y o) (handleRead rows₁ ws₁ y₁ (movedTouch f o))
+      → (o : Option (ℕ × Path × Action)) → Answers (handleRead rows ws y o) (handleRead rows₁ ws₁ y₁ (movedTouch f o))
   unfolding handleRead movedTouch handle handled
   by-states k d d₁ none = (refl, refl, z)
   by-states failures d d₁ (some e) = (refl, refl, z)
   by-states (tasks {t} {s} {s₁} k) d d₁ (some e) =
-      by-handled (handle-same g k t (e .0) (e .1)) (handles-sound (codeOne g) [] s t (e .0) (e .1) (d .0) v-nil (d .1))
-      (handles-sound (codeThere g) [] s₁ (image g t) _ (e .1) (d₁ .0) v-nil (d₁ .1))
+      by-handled (e .0) (handle-same g k t (e .1) (e .2)) (handles-sound (codeOne g) [] s t (e .1) (e .2) (d .0) v-nil (d .1))
+      (handles-sound (codeThere g) [] s₁ (image g t) _ (e .2) (d₁ .0) v-nil (d₁ .1))
 
   pub touches-together : (event event₁ : List ℕ) → Counterpart (z .path) event event₁
       → Answers (handleCall rows ws event) (handleCall rows₁ ws₁ event₁)

@@ -13,7 +13,7 @@ use Rattle.rows.specs.Kinds.{plainK, eassignK, numberOf}
 use Rattle.rows.specs.Rows.{word, isKind, OfKind}
 use Rattle.rows.specs.Lent.{ownRows, rowCount}
 use Rattle.rows.specs.Trees.{ReadsExp, r-eunit, r-etruth, r-enumber, r-ebinder, r-eop, r-eif, r-epair, r-efst, r-esnd, r-ederef, r-eassign, r-elet}
-use Rattle.rows.specs.Trees.{ReadsCode, r-edit, r-enter, r-update, r-then, r-next, r-fail, r-and, r-or, r-xor, r-view, r-if, r-let}
+use Rattle.rows.specs.Trees.{ReadsCode, r-edit, r-enter, r-update, r-then, r-next, r-fail, r-and, r-or, r-xor, r-view, r-gate, r-if, r-let}
 use Rattle.rows.proofs.Basics.{every-at}
 use Rattle.mirror.specs.Mirrored.{writeless}
 
@@ -43,6 +43,7 @@ module _ {rs : List ℕ} {n : ℕ} (none : (i : ℕ) → i < n → OfKind rs i (
   code-writeless l (r-or k x y a b) = (code-writeless (omega (arith, x)) a, code-writeless (omega (arith, y)) b)
   code-writeless l (r-xor k x y a b) = (code-writeless (omega (arith, x)) a, code-writeless (omega (arith, y)) b)
   code-writeless l (r-view k x a) = exp-reads (omega (arith, x)) a
+  code-writeless l (r-gate k y b) = code-writeless (omega (arith, y)) b
   code-writeless l (r-if k x y z e a b) = (exp-reads (omega (arith, x)) e, code-writeless (omega (arith, y)) a, code-writeless (omega (arith, z)) b)
   code-writeless l (r-let k x y e a) = (exp-reads (omega (arith, x)) e, code-writeless (omega (arith, y)) a)
 

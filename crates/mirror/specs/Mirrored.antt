@@ -18,7 +18,7 @@ use Rattle.tophat.specs.Showing.{Entry, marked}
 use Rattle.tophat.specs.Redrawn.{mirrorPath}
 use Rattle.formats.specs.Records.{placeOf}
 use Rattle.formats.specs.Lines.{lineColumns, lineBytes}
-use Rattle.formats.specs.Touches.{eventOf}
+use Rattle.formats.specs.Touches.{roleColumns, eventOf}
 use Rattle.formats.specs.Lists.{listText, Fits}
 use Rattle.rows.specs.Kinds.{plainK, eassignK}
 use Rattle.rows.specs.Rows.{rowWords, isKind, every}
@@ -57,17 +57,17 @@ mirroredFirst zero s = s
 mirroredFirst (suc n) [] = []
 mirroredFirst (suc n) (b ∷ s) = cond (eqb b space) (b ∷ mirroredFirst n s) (mirroredDigit b ∷ s)
 
--- an event's bytes: the first digit of its path
+-- an event's bytes: the first digit of its path, which stands behind the role
 unfoldable pub mirroredEvent : List ℕ → List ℕ
-mirroredEvent event = mirroredFirst pathColumns event
+mirroredEvent event = take roleColumns event ++ mirroredFirst pathColumns (drop roleColumns event)
 
 -- what an event says, with its path moved
-unfoldable pub movedTouch : (Path → Path) → Option (Path × Action) → Option (Path × Action)
+unfoldable pub movedTouch : (Path → Path) → Option (ℕ × Path × Action) → Option (ℕ × Path × Action)
 movedTouch f none = none
-movedTouch f (some e) = some (f (e .0), e .1)
+movedTouch f (some e) = some (e .0, f (e .1), e .2)
 
 unfoldable pub mirroredCall : Call → Call
-mirroredCall (look values list) = look values list
+mirroredCall (look role values list) = look role values list
 mirroredCall (handle event) = handle (mirroredEvent event)
 
 -- ---- rows whose last row is of kind 46: typing gives its A the type τ and its B the type υ
@@ -96,7 +96,7 @@ pub record LooksMirrored (m n : ℕ) (list : List ℕ) (x y : LookAnswer) : Type
   pub part-mirrored : x .number ≡ 0 → y .part ≡ listText (marked first ofB ++ marked second ofA)
   pub list-mirrored : x .number ≡ 0 → y .list ≡ y .part ++ drop (length (y .part)) list
 
--- ---- what is promised of rows whose halves have m and n leaves, and of those rows mirrored: any memory, any event, any list of calls
+-- ---- what is promised of rows whose halves have m and n leaves, and of those rows mirrored: any memory, any role, any event, any list of calls
 
 pub record Mirrors (rows : List ℤ) (m n : ℕ) : Type 0 where
   -- the exchanged event says the event with the first mark of its path exchanged; a second exchange gives it back
@@ -108,5 +108,6 @@ pub record Mirrors (rows : List ℤ) (m n : ℕ) : Type 0 where
   -- numbers, strides and state words are equal
   pub starts : (memory : List ℤ) → startCall (mirrored rows) memory ≡ startCall rows memory
   pub touches : (ws : List ℤ) (event : List ℕ) → handleCall (mirrored rows) ws (mirroredEvent event) ≡ handleCall rows ws event
-  pub looks : (ws values : List ℤ) (list : List ℕ) → LooksMirrored m n list (lookCall rows ws values list) (lookCall (mirrored rows) ws values list)
+  pub looks : (ws : List ℤ) (role : ℕ) (values : List ℤ) (list : List ℕ)
+      → LooksMirrored m n list (lookCall rows ws role values list) (lookCall (mirrored rows) ws role values list)
   pub runs : (ws : List ℤ) (ks : List Call) → run (mirrored rows) ws (map mirroredCall ks) ≡ run rows ws ks

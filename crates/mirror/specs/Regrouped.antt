@@ -75,10 +75,10 @@ Counterpart f event event₁ = eventOf event₁ ≡ movedTouch f (eventOf event)
 
 -- the event can be read, and what its path would be is longer than an event can say: there, and back
 abbrev pub TooLong : (Path → Path) → List ℕ → Type 0
-TooLong f event = (p : Path) × (x : Action) × (eventOf event ≡ some (p, x)) × (maxMarks < length (f p))
+TooLong f event = (role : ℕ) × (p : Path) × (x : Action) × (eventOf event ≡ some (role, p, x)) × (maxMarks < length (f p))
 
 abbrev pub TooLongBack : (Path → Path) → List ℕ → Type 0
-TooLongBack f event₁ = (q : Path) × (x : Action) × (eventOf event₁ ≡ some (q, x)) × ((p : Path) → f p ≡ q → maxMarks < length p)
+TooLongBack f event₁ = (role : ℕ) × (q : Path) × (x : Action) × (eventOf event₁ ≡ some (role, q, x)) × ((p : Path) → f p ≡ q → maxMarks < length p)
 
 module _ {rows rows₁ : List ℤ} (g : Regroups rows rows₁) where
   -- the codes of the two
@@ -106,8 +106,8 @@ module _ {rows rows₁ : List ℤ} (g : Regroups rows rows₁) where
 
   pub data Together : List ℤ → List ℤ → List Call → List Call → Type 0 where
     no-more : {ws ws₁ : List ℤ} → Together ws ws₁ [] []
-    both-look : {ws ws₁ values values₁ : List ℤ} {list list₁ : List ℕ} {ks ks₁ : List Call}
-        → Together ws ws₁ ks ks₁ → Together ws ws₁ (look values list ∷ ks) (look values₁ list₁ ∷ ks₁)
+    both-look : {ws ws₁ values values₁ : List ℤ} {role role₁ : ℕ} {list list₁ : List ℕ} {ks ks₁ : List Call}
+        → Together ws ws₁ ks ks₁ → Together ws ws₁ (look role values list ∷ ks) (look role₁ values₁ list₁ ∷ ks₁)
     both-handle : {ws ws₁ : List ℤ} {event event₁ : List ℕ} {ks ks₁ : List Call} (z : Stand ws ws₁) → Counterpart (z .path) event event₁
         → Together (handleCall rows ws event .state) (handleCall rows₁ ws₁ event₁ .state) ks ks₁
         → Together ws ws₁ (handle event ∷ ks) (handle event₁ ∷ ks₁)
@@ -123,13 +123,13 @@ module _ {rows rows₁ : List ℤ} (g : Regroups rows rows₁) where
     -- every rest of either sheet, whether start reaches it or not, goes together with one of the other
     pub rests : {ws : List ℤ} → IsRest rows ws codeOne (g .cells) (g .type) → (ws₁ : List ℤ) × Stand ws ws₁
     pub rests-back : {ws₁ : List ℤ} → IsRest rows₁ ws₁ (renamed (g .place) codeOther) (g .cells₁) (g .type₁) → (ws : List ℤ) × Stand ws ws₁
-    -- look, both lent the same value memory and list memory, whatever these are
-    pub looks : {ws ws₁ : List ℤ} (z : Stand ws ws₁) (values : List ℤ) (list : List ℕ)
-        → LooksRegrouped (z .path) list (lookCall rows ws values list) (lookCall rows₁ ws₁ values list)
-    -- two looks with room for what they answer, each lent memories of its own
-    pub shows : {ws ws₁ : List ℤ} (z : Stand ws ws₁) (values values₁ : List ℤ) (list list₁ : List ℕ)
-        → lookCall rows ws values list .number ≡ 0 → lookCall rows₁ ws₁ values₁ list₁ .number ≡ 0
-        → LooksRegrouped (z .path) list₁ (lookCall rows ws values list) (lookCall rows₁ ws₁ values₁ list₁)
+    -- look, both in one role and lent the same value memory and list memory, whatever these are
+    pub looks : {ws ws₁ : List ℤ} (z : Stand ws ws₁) (role : ℕ) (values : List ℤ) (list : List ℕ)
+        → LooksRegrouped (z .path) list (lookCall rows ws role values list) (lookCall rows₁ ws₁ role values list)
+    -- two looks in one role with room for what they answer, each lent memories of its own
+    pub shows : {ws ws₁ : List ℤ} (z : Stand ws ws₁) (role : ℕ) (values values₁ : List ℤ) (list list₁ : List ℕ)
+        → lookCall rows ws role values list .number ≡ 0 → lookCall rows₁ ws₁ role values₁ list₁ .number ≡ 0
+        → LooksRegrouped (z .path) list₁ (lookCall rows ws role values list) (lookCall rows₁ ws₁ role values₁ list₁)
     -- touches that go together get equal numbers and strides, and leave states that go together
     pub touches : {ws ws₁ : List ℤ} (z : Stand ws ws₁) (event event₁ : List ℕ) → Counterpart (z .path) event event₁
         → (handleCall rows₁ ws₁ event₁ .number ≡ handleCall rows ws event .number) × (handleCall rows₁ ws₁ event₁ .strides ≡ handleCall rows ws event .strides)

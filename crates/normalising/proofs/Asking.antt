@@ -7,12 +7,12 @@ use mathlib.Core.List.{List}
 use Prim.Native.Nat.{ℕ, _+_, _≤_}
 use native.Mathlib.Nat.{eq-or-lt-of-le}
 use native.Mathlib.Omega.{arith}
-use Rattle.tophat.specs.Syntax.{Code, edit, enter, update, then, next, fail, and, or, xor, view, if, let', TaskOf, Env, Store}
+use Rattle.tophat.specs.Syntax.{Code, edit, enter, update, then, next, fail, and, or, xor, view, if, let', TaskOf, Env, Store, gate}
 use Rattle.tophat.proofs.ComputeNormalising.{failing, normalise, settle}
 use Rattle.rows.specs.Kinds.{taskK, thenK, nextK, failK, andK, orK, xorK, numberOf}
 use Rattle.rows.specs.Rows.{word, opA, opB, OfKind, FromKind, UpToKind}
 use Rattle.state.specs.Contracts.{FailingOk}
-use Rattle.running.proofs.Forms.{on-then-before, on-next-before, on-either, on-unpicked, on-no-if, on-no-let, on-failed, on-both}
+use Rattle.running.proofs.Forms.{on-then-before, on-next-before, on-either, on-unpicked, on-no-if, on-no-let, on-failed, on-both, on-no-gate}
 use Rattle.running.specs.Hands.{Unhanded}
 use Rattle.normalising.specs.Trying.{TriedOk}
 
@@ -73,7 +73,7 @@ module _ (rs ws : List ℕ) (i : ℕ) (env : List ℕ) (d : ℕ) where
         on-unpicked rs ws d i Σ Γ (λ c t τ. Told r ρ s c t) z q
         (λ a b σ k g y x. second-is (o a (k .1) Σ Γ σ s ρ y w (g .1)) (λ f. subst (λ b. TriedOk rs ws b env d r) (f .0) (f .1) b (k .2) Σ Γ σ s ρ x w (g .2)) f) c k τ t y g
 
-    -- the rest are editors and 49: 25 and 31 hand on
+    -- the rest are editors and 49: 25, 31 and 50 hand on
     pub failing-editor : (FromKind rs i (taskK thenK) → UpToKind rs i (taskK xorK) → ⊥) → FailingOk rs ws i env d false
     unfolding failing
     failing-editor n (edit e) k Σ Γ τ s ρ t y w g = refl
@@ -86,5 +86,6 @@ module _ (rs ws : List ℕ) (i : ℕ) (env : List ℕ) (d : ℕ) where
     failing-editor n (or a b) k Σ Γ τ s ρ t y w g = absurd (let q = k .0 in n (omega arith) (omega arith))
     failing-editor n (xor a b) k Σ Γ τ s ρ t y w g = absurd (let q = k .0 in n (omega arith) (omega arith))
     failing-editor n (view e) k Σ Γ τ s ρ t y w g = refl
+    failing-editor n (gate r m b) k Σ Γ τ s ρ t y w g = on-no-gate rs ws d i Σ Γ (λ c t τ. Told false ρ s c t) z (k .0) (gate r m b) k τ t y g
     failing-editor n (if e a b) k Σ Γ τ s ρ t y w g = on-no-if rs ws d i Σ Γ (λ c t τ. Told false ρ s c t) z (k .0) (if e a b) k τ t y g
     failing-editor n (let' e b) k Σ Γ τ s ρ t y w g = on-no-let rs ws d i Σ Γ (λ c t τ. Told false ρ s c t) z (k .0) (let' e b) k τ t y g

@@ -7,7 +7,7 @@ use mathlib.Core.List.{List}
 use Prim.Native.Nat.{ℕ, _+_, _*_, _≤_, _<_}
 use native.Mathlib.Nat.{eq-or-lt-of-le}
 use native.Mathlib.Omega.{arith}
-use Rattle.rows.specs.Kinds.{eitherK, ifK, numberOf}
+use Rattle.rows.specs.Kinds.{eitherK, ifK, numberOf, taskK, viewK}
 use Rattle.rows.specs.Rows.{word}
 use Rattle.rows.specs.Enclosing.{maxBinders}
 use Rattle.rows.proofs.Basics.{no}
@@ -26,9 +26,9 @@ module _ (rs : List ℕ) (i d : ℕ) (t n : ℕ) (f : (6 * i + n ≡ t) × Fine 
     lower : (a d₁ : ℕ) → a < i → d₁ ≤ maxBinders → (6 * a + m < t) × Fine rs a d₁
     lower a d₁ h r = (let e = f .0 in omega arith, fine-at (f .1) a d₁ (omega arith) r)
 
-    -- at an operand, of a row of kind 25 or more
-    pub call-a : (k a : ℕ) → k ≡ word rs i 0 → a ≡ word rs i 1 → numberOf (eitherK ifK) ≤ k → (6 * a + m < t) × Fine rs a d
-    call-a k a e z h = lower a d (low-a (f .1) k a e z h) (f .1 .room)
+    -- at an operand, of a row of kind 25 to 49
+    pub call-a : (k a : ℕ) → k ≡ word rs i 0 → a ≡ word rs i 1 → numberOf (eitherK ifK) ≤ k → k ≤ numberOf (taskK viewK) → (6 * a + m < t) × Fine rs a d
+    call-a k a e z h u = lower a d (low-a (f .1) k a e z h u) (f .1 .room)
 
     pub call-b : (k a d₁ : ℕ) → k ≡ word rs i 0 → a ≡ word rs i 2 → numberOf (eitherK ifK) ≤ k → d₁ ≤ maxBinders → (6 * a + m < t) × Fine rs a d₁
     call-b k a d₁ e z h r = lower a d₁ (low-b (f .1) k a e z (omega arith)) r
@@ -39,8 +39,8 @@ module _ (rs : List ℕ) (i d : ℕ) (t n : ℕ) (f : (6 * i + n ≡ t) × Fine 
 
 -- the same where no measure is asked
 module _ (rs : List ℕ) (i d : ℕ) (f : Fine rs i d) (k a : ℕ) (e : k ≡ word rs i 0) where
-  pub fine-a : a ≡ word rs i 1 → numberOf (eitherK ifK) ≤ k → Fine rs a 0
-  fine-a z h = let l = low-a f k a e z h in fine-at f a 0 (omega arith) (omega arith)
+  pub fine-a : a ≡ word rs i 1 → numberOf (eitherK ifK) ≤ k → k ≤ numberOf (taskK viewK) → Fine rs a 0
+  fine-a z h u = let l = low-a f k a e z h u in fine-at f a 0 (omega arith) (omega arith)
 
   pub fine-b : (d₁ : ℕ) → a ≡ word rs i 2 → numberOf (eitherK ifK) ≤ k → d₁ ≤ maxBinders → Fine rs a d₁
   fine-b d₁ z h r = let l = low-b f k a e z (omega arith) in fine-at f a d₁ (omega arith) r

@@ -8,8 +8,8 @@ use Prim.Native.Nat.{ℕ, zero, suc, _+_, _≤_, _<_}
 use native.Mathlib.Nat.{eq-or-lt-of-le, le-of-suc-le-suc}
 use native.Mathlib.Omega.{arith}
 use lib.Dec.{T, eqb, eqb→eq, eqb-refl}
-use Rattle.tophat.specs.Syntax.{moves, Code, edit, enter, update, then, next, fail, and, or, xor, view, if, let'}
-use Rattle.rows.specs.Kinds.{eitherK, ifK, numberOf}
+use Rattle.tophat.specs.Syntax.{moves, Code, edit, enter, update, then, next, fail, and, or, xor, view, if, let', gate}
+use Rattle.rows.specs.Kinds.{eitherK, ifK, numberOf, taskK, viewK}
 use Rattle.rows.specs.Rows.{maxRows, word, opA, opB, opC, count, LowWords}
 use Rattle.state.specs.Holds.{Tree, leaf, under, fork, treeOf, Foot, Sits}
 use Rattle.state.specs.Contracts.{Fine}
@@ -86,27 +86,28 @@ Inside rs i (fork k x l y) = (i < maxRows) × Inside rs (word rs i k) x × Insid
 
 module _ (rs : List ℕ) (low : (i : ℕ) → i < maxRows → LowWords rs i) where
   module _ {i n : ℕ} (l : i < maxRows) (e : word rs i 0 ≡ n) (h : numberOf (eitherK ifK) ≤ n) where
-    in-a : word rs i 1 < maxRows
-    in-a = let z = low i l .lowA (omega arith) in omega arith
+    in-a : n ≤ numberOf (taskK viewK) → word rs i 1 < maxRows
+    in-a u = let z = low i l .lowA (omega arith) (omega arith) in omega arith
 
     in-b : word rs i 2 < maxRows
     in-b = let z = low i l .lowB (omega arith) in omega arith
 
-    in-c : word rs i 3 < maxRows
-    in-c = let z = low i l .lowC (omega arith) in omega arith
+    in-c : n ≤ numberOf (taskK viewK) → word rs i 3 < maxRows
+    in-c u = let z = low i l .lowC (omega arith) (omega arith) in omega arith
 
   inside : (d i : ℕ) (c : Code) → i < maxRows → Sits rs d i c → Inside rs i (treeOf c)
   inside d i (edit e) l s = l
   inside d i (enter τ) l s = l
   inside d i (update n) l s = l
-  inside d i (then a b) l s = (l, inside d (opA rs i) a (in-a l (s .0) (omega arith)) (s .1), inside (d + 1) (opB rs i) b (in-b l (s .0) (omega arith)) (s .2))
-  inside d i (next a b) l s = (l, inside d (opA rs i) a (in-a l (s .0) (omega arith)) (s .1), inside (d + 1) (opB rs i) b (in-b l (s .0) (omega arith)) (s .2))
+  inside d i (then a b) l s = (l, inside d (opA rs i) a (in-a l (s .0) (omega arith) (omega arith)) (s .1), inside (d + 1) (opB rs i) b (in-b l (s .0) (omega arith)) (s .2))
+  inside d i (next a b) l s = (l, inside d (opA rs i) a (in-a l (s .0) (omega arith) (omega arith)) (s .1), inside (d + 1) (opB rs i) b (in-b l (s .0) (omega arith)) (s .2))
   inside d i (fail τ) l s = l
-  inside d i (and a b) l s = (l, inside d (opA rs i) a (in-a l (s .0) (omega arith)) (s .1), inside d (opB rs i) b (in-b l (s .0) (omega arith)) (s .2))
-  inside d i (or a b) l s = (l, inside d (opA rs i) a (in-a l (s .0) (omega arith)) (s .1), inside d (opB rs i) b (in-b l (s .0) (omega arith)) (s .2))
-  inside d i (xor a b) l s = (l, inside d (opA rs i) a (in-a l (s .0) (omega arith)) (s .1), inside d (opB rs i) b (in-b l (s .0) (omega arith)) (s .2))
+  inside d i (and a b) l s = (l, inside d (opA rs i) a (in-a l (s .0) (omega arith) (omega arith)) (s .1), inside d (opB rs i) b (in-b l (s .0) (omega arith)) (s .2))
+  inside d i (or a b) l s = (l, inside d (opA rs i) a (in-a l (s .0) (omega arith) (omega arith)) (s .1), inside d (opB rs i) b (in-b l (s .0) (omega arith)) (s .2))
+  inside d i (xor a b) l s = (l, inside d (opA rs i) a (in-a l (s .0) (omega arith) (omega arith)) (s .1), inside d (opB rs i) b (in-b l (s .0) (omega arith)) (s .2))
   inside d i (view e) l s = l
-  inside d i (if e a b) l s = (l, inside d (opB rs i) a (in-b l (s .0) (omega arith)) (s .2), inside d (opC rs i) b (in-c l (s .0) (omega arith)) (s .3))
+  inside d i (gate r n b) l s = (l, inside d (opB rs i) b (in-b l (s .0) (omega arith)) (s .3))
+  inside d i (if e a b) l s = (l, inside d (opB rs i) a (in-b l (s .0) (omega arith)) (s .2), inside d (opC rs i) b (in-c l (s .0) (omega arith) (omega arith)) (s .3))
   inside d i (let' e b) l s = (l, inside (d + 1) (opB rs i) b (in-b l (s .0) (omega arith)) (s .2))
 
 -- ---- so it has at most 256
@@ -143,6 +144,7 @@ module _ (rs : List ℕ) where
   moves-size (or a b) = omega (arith, moves-size a, moves-size b)
   moves-size (xor a b) = omega (arith, moves-size a, moves-size b)
   moves-size (view e) = omega arith
+  moves-size (gate r n b) = omega (arith, moves-size b)
   moves-size (if e a b) = omega (arith, moves-size a, moves-size b)
   moves-size (let' e b) = omega (arith, moves-size b)
 

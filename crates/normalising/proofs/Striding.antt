@@ -5,7 +5,7 @@ use mathlib.Core.Bool.{Bool, true, false, _||_}
 use mathlib.Core.Logic.{inl, inr}
 use mathlib.Core.List.{List, [], _∷_}
 use Prim.Native.Nat.{ℕ}
-use Rattle.tophat.specs.Syntax.{Ty, Code, edit, enter, update, then, next, fail, and, or, xor, view, if, let', Val, Env, Store}
+use Rattle.tophat.specs.Syntax.{Ty, Code, edit, enter, update, then, next, fail, and, or, xor, view, if, let', Val, Env, Store, gate}
 use Rattle.tophat.specs.Syntax.{TaskOf, before}
 use Rattle.tophat.specs.Typing.{TaskType}
 use Rattle.tophat.specs.Normalising.{value}
@@ -22,7 +22,7 @@ use Rattle.state.specs.Holds.{treeOf, fork, Sits, Row, Holds, Stores, Same, Wor
 use Rattle.state.specs.Words.{Laid}
 use Rattle.state.specs.Contracts.{StrideOk, ValueOk, ClearOk}
 use Rattle.state.proofs.Frames.{same-refl, same-trans, same-weak, same-row, laid-same, keeps, keeps-laid, clear-kept, holds-kept, stores-kept, stores-laid, Reach, Kids, kids-and, kids-or, world-after}
-use Rattle.running.proofs.Forms.{on-then-before, on-next-before, on-either, on-unpicked, on-no-if, on-no-let, on-both}
+use Rattle.running.proofs.Forms.{on-then-before, on-next-before, on-either, on-unpicked, on-no-if, on-no-let, on-both, on-no-gate}
 use Rattle.running.specs.Hands.{Unhanded}
 use Rattle.normalising.specs.Trying.{Attempted, AttemptOk}
 use Rattle.normalising.proofs.Trying.{Waits, waits}
@@ -243,7 +243,7 @@ module _ (rs ws : List ℕ) (i : ℕ) (env : List ℕ) (d : ℕ) (z : Unhanded r
   stays : {c : Code} {t : TaskOf c} {s : Store} → Holds rs ws i c t → Stores rs ws s → Ran rs ws ws i c t s
   stays g w = record { holds = g; stores = w; same = same-refl }
 
-  -- 45, 48, 49 and editors; 25 and 31 hand on
+  -- 45, 48, 49 and editors; 25, 31 and 50 hand on
   pub stride-none : (OfKind rs i (taskK thenK) → ⊥) → (OfKind rs i (taskK nextK) → ⊥) → (OfKind rs i (taskK andK) → ⊥) → (OfKind rs i (taskK orK) → ⊥) → StrideOk rs ws ws i env d false
   unfolding stride
   stride-none n₃ n₄ n₆ n₇ (edit e) k Σ Γ τ s ρ t y w g = (stays g (w .stores), refl)
@@ -257,5 +257,6 @@ module _ (rs ws : List ℕ) (i : ℕ) (env : List ℕ) (d : ℕ) (z : Unhanded r
   stride-none n₃ n₄ n₆ n₇ (xor a b) k Σ Γ τ s ρ t y w g =
       on-unpicked rs ws d i Σ Γ (λ c t τ. Strides rs ws ws i false ρ s c t) z (k .0) (λ a b σ k g y x. (stays g (w .stores), refl)) (xor a b) k τ t y g
   stride-none n₃ n₄ n₆ n₇ (view e) k Σ Γ τ s ρ t y w g = (stays g (w .stores), refl)
+  stride-none n₃ n₄ n₆ n₇ (gate r m b) k Σ Γ τ s ρ t y w g = on-no-gate rs ws d i Σ Γ (λ c t τ. Strides rs ws ws i false ρ s c t) z (k .0) (gate r m b) k τ t y g
   stride-none n₃ n₄ n₆ n₇ (if e a b) k Σ Γ τ s ρ t y w g = on-no-if rs ws d i Σ Γ (λ c t τ. Strides rs ws ws i false ρ s c t) z (k .0) (if e a b) k τ t y g
   stride-none n₃ n₄ n₆ n₇ (let' e b) k Σ Γ τ s ρ t y w g = on-no-let rs ws d i Σ Γ (λ c t τ. Strides rs ws ws i false ρ s c t) z (k .0) (let' e b) k τ t y g

@@ -19,8 +19,8 @@ use state::pushed;
 use state::put_tag;
 use state::put_value;
 use value::Value;
-ghost use Rattle.rows.specs.Kinds.{eitherK, ifK, taskK, orK};
-ghost use Rattle.rows.specs.Rows.{OfKind, FromKind};
+ghost use Rattle.rows.specs.Kinds.{eitherK, ifK, taskK, orK, viewK};
+ghost use Rattle.rows.specs.Rows.{OfKind, FromKind, UpToKind};
 ghost use Rattle.state.specs.Contracts.{Fine, FailingOk, StrideOk, NormaliseOk};
 ghost use Rattle.running.specs.Hands.{Unhanded};
 ghost use Rattle.normalising.specs.Trying.{SettleOk, TriedOk, AttemptOk};
@@ -200,7 +200,7 @@ pub fn attempt(
     depth: usize,
     v: Value,
 ) -> bool
-    requires { ⌜ Fine (now rows) row depth × FromKind (now rows) row (eitherK ifK) ⌝ }
+    requires { ⌜ Fine (now rows) row depth × FromKind (now rows) row (eitherK ifK) × UpToKind (now rows) row (taskK viewK) ⌝ }
     ensures { λ r. ⌜ AttemptOk (now (rows .entry)) (now (state .entry)) (now (state .exit)) row (now (env .entry)) depth v r ⌝ }
 {
     if MAX_BINDERS <= depth {

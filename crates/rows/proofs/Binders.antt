@@ -7,12 +7,12 @@ use native.Mathlib.Omega.{arith}
 use Rattle.tophat.specs.Syntax.{Exp}
 use Rattle.tophat.specs.Syntax.{Code}
 use Rattle.tophat.specs.Showing.{MarksFit}
-use Rattle.rows.specs.Kinds.{Kind, Asks, plainK, eopK, epairK, efstK, esndK, eassignK, eitherK, ifK, letK, taskK, editK, thenK, nextK, andK, orK, xorK, viewK, asksOf, numberOf}
+use Rattle.rows.specs.Kinds.{Kind, Asks, plainK, eopK, epairK, efstK, esndK, eassignK, eitherK, ifK, letK, taskK, editK, thenK, nextK, andK, orK, xorK, viewK, gateK, asksOf, numberOf}
 use Rattle.rows.specs.Rows.{every, names, OfKind}
 use Rattle.rows.specs.Enclosing.{maxBinders, maxMarks, bindersBy, marksBy, mostBinders, mostMarks, rowSmall}
 use Rattle.rows.specs.Fits.{FitsExp, FitsCode}
 use Rattle.rows.specs.Trees.{ReadsExp, r-eunit, r-etruth, r-enumber, r-ebinder, r-eop, r-eif, r-epair, r-efst, r-esnd, r-ederef, r-eassign, r-elet}
-use Rattle.rows.specs.Trees.{ReadsCode, r-edit, r-enter, r-update, r-then, r-next, r-fail, r-and, r-or, r-xor, r-view, r-if, r-let}
+use Rattle.rows.specs.Trees.{ReadsCode, r-edit, r-enter, r-update, r-then, r-next, r-fail, r-and, r-or, r-xor, r-view, r-gate, r-if, r-let}
 use Rattle.rows.proofs.Exists.{Sorted}
 use Rattle.rows.proofs.Places.{Place, placeA, placeB, placeC, opAt, askAt, names-of, lower}
 use Rattle.rows.proofs.Steps.{bindersAt, marksAt}
@@ -68,6 +68,7 @@ module _ (rs : List ℕ) (n : ℕ) (q : Sorted rs n) where
   fits-code v h (r-or k x y d e) = (fits-code v (inner h v (taskK orK) k placeA refl (omega arith)) d, fits-code v (inner h v (taskK orK) k placeB refl (omega arith)) e)
   fits-code v h (r-xor k x y d e) = (fits-code v (inner h v (taskK xorK) k placeA refl (omega arith)) d, fits-code v (inner h v (taskK xorK) k placeB refl (omega arith)) e)
   fits-code v h (r-view k x d) = fits-exp v (inner h v (taskK viewK) k placeA refl (omega arith)) d
+  fits-code v h (r-gate k x d) = fits-code v (inner h v (taskK gateK) k placeB refl (omega arith)) d
   fits-code v h (r-if k x y z d e f) = (fits-exp v (inner h v (eitherK ifK) k placeA refl (omega arith)) d, fits-code v (inner h v (eitherK ifK) k placeB refl (omega arith)) e, fits-code v (inner h v (eitherK ifK) k placeC refl (omega arith)) f)
   fits-code v h (r-let k x y d e) = let r = inner h (suc v) (eitherK letK) k placeB refl (omega arith) in (fits-exp v (inner h v (eitherK letK) k placeA refl (omega arith)) d, omega (arith, r .room), fits-code (suc v) r e)
 
@@ -83,6 +84,7 @@ module _ (rs : List ℕ) (n : ℕ) (q : Sorted rs n) where
   marks-fit v h (r-or k x y d e) = let r = marked h (suc v) (taskK orK) k placeA refl (omega arith) in (omega (arith, r .room), marks-fit (suc v) r d, marks-fit (suc v) (marked h (suc v) (taskK orK) k placeB refl (omega arith)) e)
   marks-fit v h (r-xor k x y d e) = (marks-fit v (marked h v (taskK xorK) k placeA refl (omega arith)) d, marks-fit v (marked h v (taskK xorK) k placeB refl (omega arith)) e)
   marks-fit v h (r-view k x d) = tt
+  marks-fit v h (r-gate k x d) = marks-fit v (marked h v (taskK gateK) k placeB refl (omega arith)) d
   marks-fit v h (r-if k x y z d e f) = (marks-fit v (marked h v (eitherK ifK) k placeB refl (omega arith)) e, marks-fit v (marked h v (eitherK ifK) k placeC refl (omega arith)) f)
   marks-fit v h (r-let k x y d e) = marks-fit v (marked h v (eitherK letK) k placeB refl (omega arith)) e
 

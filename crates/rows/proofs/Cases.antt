@@ -10,6 +10,7 @@ use lib.ListN.{length}
 use Rattle.tophat.specs.Syntax.{leaves}
 use Rattle.tophat.proofs.ComputeTyping.{ask, nth, takes, gives, numberTo, opTo, sameTo, ifTo, typeTo, firstTo, secondTo, assignTo, infer, inferTask}
 use mathlib.Core.Option.{bind}
+use Rattle.tophat.specs.Roles.{isRole}
 use Rattle.rows.specs.Kinds.{kindOf, asksOf}
 use Rattle.rows.specs.Rows.{every, listedAs, listed, truthCell, rowListed, sortBy, sorts, sortNumber, sortedAs, sorted, rowSorted, names, namesBy, namesIn, namings, namedOnce, lastFits}
 use Rattle.rows.specs.Enclosing.{bindersBy, marksBy, mostBinders, mostMarks, counts, leavesBy, rowSmall}
@@ -53,10 +54,19 @@ cases =
     (3, (22, 1, 7, 0) ∷ (40, 0, 0, 0) ∷ []) ∷  -- an unused operand
     (3, (2, 0, 0, 0) ∷ (10, 0, 2, 0) ∷ (42, 1, 0, 0) ∷ []) ∷  -- a truth cell that starts with 2
     (0, (3, 0, 0, 0) ∷ (10, 0, 2, 0) ∷ (42, 1, 0, 0) ∷ []) ∷  -- a number cell that starts with 2
-    (3, (22, 1, 0, 0) ∷ (50, 0, 0, 0) ∷ []) ∷  -- a kind past the table
+    (3, (22, 1, 0, 0) ∷ (51, 0, 0, 0) ∷ []) ∷  -- a kind past the table
     (0, (22, 1, 0, 0) ∷ (49, 0, 0, 0) ∷ []) ∷  -- a shown value
     (3, (22, 1, 0, 0) ∷ (49, 0, 1, 0) ∷ []) ∷  -- a shown value with a B
     (4, (22, 1, 0, 0) ∷ (40, 0, 0, 0) ∷ (49, 1, 0, 0) ∷ []) ∷  -- a shown task
+    (0, (3, 0, 0, 0) ∷ (41, 0, 0, 0) ∷ (50, 2, 1, 1) ∷ []) ∷  -- CR 6: a task for role 2, one touch
+    (0, (3, 0, 0, 0) ∷ (41, 0, 0, 0) ∷ (50, 8, 1, 99) ∷ []) ∷  -- the last role, the most touches
+    (0, (3, 0, 0, 0) ∷ (41, 0, 0, 0) ∷ (50, 1, 1, 0) ∷ (50, 2, 2, 0) ∷ []) ∷  -- no touch, and a role around another
+    (3, (3, 0, 0, 0) ∷ (41, 0, 0, 0) ∷ (50, 0, 1, 1) ∷ []) ∷  -- role 0
+    (3, (3, 0, 0, 0) ∷ (41, 0, 0, 0) ∷ (50, 9, 1, 1) ∷ []) ∷  -- role 9
+    (3, (3, 0, 0, 0) ∷ (41, 0, 0, 0) ∷ (50, 4294967295, 1, 1) ∷ []) ∷  -- role -1
+    (3, (3, 0, 0, 0) ∷ (41, 0, 0, 0) ∷ (50, 1, 1, 100) ∷ []) ∷  -- 100 touches
+    (3, (3, 0, 0, 0) ∷ (41, 0, 0, 0) ∷ (50, 1, 1, 4294967295) ∷ []) ∷  -- touches below 0
+    (4, (22, 1, 0, 0) ∷ (50, 1, 0, 1) ∷ []) ∷  -- a role's plain row
     (4, (22, 1, 0, 0) ∷ (40, 1, 0, 0) ∷ []) ∷  -- an operand that is the row itself
     (4, (22, 1, 0, 0) ∷ (40, 4294967295, 0, 0) ∷ []) ∷  -- a negative operand
     (4, (3, 0, 0, 0) ∷ (40, 0, 0, 0) ∷ []) ∷  -- an editor of a type
@@ -96,5 +106,5 @@ met [] = true
 met (c ∷ cs) = eqb (groundOfRows (wordsOf (c .1)) (length (c .1))) (c .0) && met cs
 
 pub all-met : met cases ≡ true
-unfolding groundOfRows passes3 passes4 passes5 passes6 passes7 flowType isSome every rowListed listed listedAs truthCell rowSorted sorts sortBy sorted sortedAs sortNumber namedOnce namings namesIn namesBy names lastFits rowSmall counts leavesBy mostBinders mostMarks bindersBy marksBy kindOf asksOf operatorOf codeAt expAt typeAt cellTypes cellType bind inferTask infer nth ask opTo ifTo sameTo typeTo numberTo takes gives firstTo secondTo assignTo leaves decLe
+unfolding groundOfRows passes3 passes4 passes5 passes6 passes7 flowType isSome every rowListed listed listedAs isRole truthCell rowSorted sorts sortBy sorted sortedAs sortNumber namedOnce namings namesIn namesBy names lastFits rowSmall counts leavesBy mostBinders mostMarks bindersBy marksBy kindOf asksOf operatorOf codeAt expAt typeAt cellTypes cellType bind inferTask infer nth ask opTo ifTo sameTo typeTo numberTo takes gives firstTo secondTo assignTo leaves decLe
 all-met = refl

@@ -10,12 +10,12 @@ use borrow.Author.Tests.{eqb-true}
 use Rattle.match_laws.proofs.Ranges.{and-left, and-right}
 use Rattle.tophat.specs.Syntax.{Ty, truth, number, Exp, Code, Store}
 use Rattle.rows.specs.Kinds.{Kind, typeK, unitK, truthK, numberK, pairK, cellK, plainK, eunitK, etruthK, enumberK, ebinderK, eopK, epairK, efstK, esndK, ederefK, eassignK}
-use Rattle.rows.specs.Kinds.{eitherK, ifK, letK, taskK, editK, enterK, updateK, thenK, nextK, failK, andK, orK, xorK, viewK}
+use Rattle.rows.specs.Kinds.{eitherK, ifK, letK, taskK, editK, enterK, updateK, thenK, nextK, failK, andK, orK, xorK, viewK, gateK}
 use Rattle.rows.specs.Kinds.{Sort, typeS, basicS, cellS, plainS, taskS, noS, asksOf, numberOf}
 use Rattle.rows.specs.Rows.{word, asksAt, OfKind, opA, opB, opC, sortBy, sorts, sortBelow, sortNumber, sameSort, sortedAs, sorted, rowSorted}
 use Rattle.rows.specs.Trees.{ReadsType, r-unit, r-truth, r-number, r-pair, ReadsCell, r-cell, Cells, c-none, c-truth, c-number, c-other}
 use Rattle.rows.specs.Trees.{ReadsExp, r-eunit, r-etruth, r-enumber, r-ebinder, r-eop, r-eif, r-epair, r-efst, r-esnd, r-ederef, r-eassign, r-elet}
-use Rattle.rows.specs.Trees.{ReadsCode, r-edit, r-enter, r-update, r-then, r-next, r-fail, r-and, r-or, r-xor, r-view, r-if, r-let}
+use Rattle.rows.specs.Trees.{ReadsCode, r-edit, r-enter, r-update, r-then, r-next, r-fail, r-and, r-or, r-xor, r-view, r-gate, r-if, r-let}
 use Rattle.rows.proofs.Basics.{no, or-cases, le-or-lt, made-at, made-past}
 use Rattle.rows.proofs.KindNumbers.{by-kind, no-asks}
 
@@ -186,6 +186,7 @@ module _ (rs : List ℕ) where
     row-has (taskK orK) k h = let (l, m, x, y, d, e) = tasks h in has-task (r-or k l m d e)
     row-has (taskK xorK) k h = let (l, m, x, y, d, e) = tasks h in has-task (r-xor k l m d e)
     row-has (taskK viewK) k h = let (l, x, d) = a-plain (opA rs i) (and-left _ _ h) in has-task (r-view k l d)
+    row-has (taskK gateK) k h = let (l, x, d) = a-task (opB rs i) (and-left _ _ h) in has-task (r-gate k l d)
 
     -- a row that is sorted is of some kind
     some-row : (w : ℕ) → word rs i 0 ≡ w → sorted (asksOf w) a b c ≡ true → Has i (sortBy (asksOf w) b)

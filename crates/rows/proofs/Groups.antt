@@ -4,11 +4,11 @@ use mathlib.Core.List.{List}
 use Prim.Native.Nat.{ℕ}
 use Rattle.tophat.specs.Syntax.{Ty, Exp, Code}
 use Rattle.rows.specs.Kinds.{TypeKind, PlainKind, EitherKind, TaskKind, typeK, unitK, truthK, numberK, pairK, plainK, eunitK, etruthK, enumberK, ebinderK, eopK, epairK, efstK, esndK, ederefK, eassignK}
-use Rattle.rows.specs.Kinds.{eitherK, ifK, letK, taskK, editK, enterK, updateK, thenK, nextK, failK, andK, orK, xorK, viewK}
+use Rattle.rows.specs.Kinds.{eitherK, ifK, letK, taskK, editK, enterK, updateK, thenK, nextK, failK, andK, orK, xorK, viewK, gateK}
 use Rattle.rows.specs.Rows.{OfKind, opB}
 use Rattle.rows.specs.Trees.{ReadsType, r-unit, r-truth, r-number, r-pair}
 use Rattle.rows.specs.Trees.{ReadsExp, r-eunit, r-etruth, r-enumber, r-ebinder, r-eop, r-eif, r-epair, r-efst, r-esnd, r-ederef, r-eassign, r-elet}
-use Rattle.rows.specs.Trees.{ReadsCode, r-edit, r-enter, r-update, r-then, r-next, r-fail, r-and, r-or, r-xor, r-view, r-if, r-let}
+use Rattle.rows.specs.Trees.{ReadsCode, r-edit, r-enter, r-update, r-then, r-next, r-fail, r-and, r-or, r-xor, r-view, r-gate, r-if, r-let}
 
 module _ (rs : List ℕ) (i : ℕ) where
   pub data TypeRow : Type 0 where
@@ -54,5 +54,6 @@ module _ {rs : List ℕ} {i : ℕ} where
   code-group (r-or k p q d e) = task-row orK k
   code-group (r-xor k p q d e) = task-row xorK k
   code-group (r-view k p d) = task-row viewK k
+  code-group (r-gate k p d) = task-row gateK k
   code-group (r-if k p q r d e f) = task-by ifK k e
   code-group (r-let k p q d e) = task-by letK k e

@@ -12,7 +12,7 @@ use borrow.Author.Tests.{eqb-true, leb-true}
 use Rattle.match_laws.proofs.Ranges.{NoneOf, membs, testAll, within, and-left, and-right}
 use Rattle.tophat.proofs.Basics.{no-some, some-is}
 use Rattle.rows.specs.Kinds.{Kind, typeK, unitK, truthK, numberK, pairK, cellK, plainK, eunitK, etruthK, enumberK, ebinderK, eopK, epairK, efstK, esndK, ederefK, eassignK}
-use Rattle.rows.specs.Kinds.{eitherK, ifK, letK, taskK, editK, enterK, updateK, thenK, nextK, failK, andK, orK, xorK, viewK}
+use Rattle.rows.specs.Kinds.{eitherK, ifK, letK, taskK, editK, enterK, updateK, thenK, nextK, failK, andK, orK, xorK, viewK, gateK}
 use Rattle.rows.specs.Kinds.{Asks, noAsks, Line, line, table, lookUp, kindOf, asksOf, numberOf, kindLimit}
 use Rattle.rows.specs.Rows.{kindAt, OfKind}
 use Rattle.rows.proofs.Basics.{no, le-or-lt}
@@ -80,6 +80,7 @@ number-kind (taskK andK) = refl
 number-kind (taskK orK) = refl
 number-kind (taskK xorK) = refl
 number-kind (taskK viewK) = refl
+number-kind (taskK gateK) = refl
 
 -- two kinds of one number are one
 pub one-kind : (j k : Kind) → numberOf j ≡ numberOf k → j ≡ k

@@ -1,5 +1,5 @@
--- In rows that pass grounds 3 and 4 every operand word of a row of kind 25 or more is below its row, whether it names a row or
--- is unused; of kind 24, B and C are. So code may follow operands before it knows what they are. Rests on Places.
+-- In rows that pass grounds 3 and 4 every operand word of a row of kind 25 to 49 is below its row, whether it names a row or
+-- is unused; of kind 24, B and C are, of kind 50 B. So code may follow operands before it knows what they are. Rests on Places.
 use mathlib.Core.Path.{_≡_, refl}
 use mathlib.Core.Bool.{Bool, true, false, _&&_, _||_}
 use mathlib.Core.Logic.{⊎-elim, _⊎_, inl, inr}
@@ -9,7 +9,7 @@ use native.Mathlib.Omega.{arith}
 use lib.Dec.{ltb}
 use borrow.Author.Tests.{ltb-true, eqb-true}
 use Rattle.match_laws.proofs.Ranges.{and-left, and-right}
-use Rattle.rows.specs.Kinds.{table, Ask, unused, operator, truth, anyWord, aType, aBasic, aCell, aPlain, aTask, aBranch, likeB, Asks, asks, noAsks, plainK, eopK, eitherK, ifK, numberOf}
+use Rattle.rows.specs.Kinds.{table, Ask, unused, operator, truth, anyWord, aRole, someTouches, aType, aBasic, aCell, aPlain, aTask, aBranch, likeB, Asks, asks, noAsks, plainK, eopK, eitherK, ifK, taskK, viewK, numberOf}
 use Rattle.rows.specs.Rows.{word, opA, opB, opC, names, listedAs, listed, rowListed, FromKind, asksAt, LowWords}
 use Rattle.rows.proofs.Basics.{no, or-cases}
 use Rattle.rows.proofs.Exists.{Sorted}
@@ -26,6 +26,8 @@ rowOrNone unused = true
 rowOrNone operator = false
 rowOrNone truth = false
 rowOrNone anyWord = false
+rowOrNone aRole = false
+rowOrNone someTouches = false
 rowOrNone aType = true
 rowOrNone aBasic = true
 rowOrNone aCell = true
@@ -40,6 +42,8 @@ row-or-none unused w h l = inr (eqb-true w 0 l)
 row-or-none operator w h l = no h
 row-or-none truth w h l = no h
 row-or-none anyWord w h l = no h
+row-or-none aRole w h l = no h
+row-or-none someTouches w h l = no h
 row-or-none aType w h l = inl refl
 row-or-none aBasic w h l = inl refl
 row-or-none aCell w h l = inl refl
@@ -48,20 +52,38 @@ row-or-none aTask w h l = inl refl
 row-or-none aBranch w h l = inl refl
 row-or-none likeB w h l = inl refl
 
--- by the table: from kind 25 on A names a row; at 24 B does; from 24 on B and C name rows or are unused
+-- by the table: from kind 25 to 49 A names a row; from 24 on A or B does, and B names one or is unused; from 24 to 49 so does C
 abbrev operators : ℕ
 operators = numberOf (plainK eopK)
 
 abbrev branches : ℕ
 branches = numberOf (eitherK ifK)
 
+abbrev views : ℕ
+views = numberOf (taskK viewK)
+
+-- of a number from k on, and of one up to k
+abbrev from : ℕ → ℕ → Bool → Bool
+from k w b = ltb w k || b
+
+abbrev upTo : ℕ → ℕ → Bool → Bool
+upTo k w b = ltb k w || b
+
 abbrev follows : ℕ → Asks → Bool
-follows k noAsks = true
-follows k (asks a b c o x) = (names a || (ltb k branches && (names b || ltb k operators))) && ((rowOrNone b && rowOrNone c) || ltb k operators)
+follows w noAsks = true
+follows w (asks a b c o x) =
+    from branches w (upTo views w (names a)) && (from operators w (names a || names b) && (from operators w (rowOrNone b) && from operators w (upTo views w (rowOrNone c))))
 
 tested : eachLine (λ n k s. follows n s) table ≡ true
 unfolding names
 tested = refl
+
+-- where the bound holds
+from-is : (k w : ℕ) {b : Bool} → from k w b ≡ true → k ≤ w → b ≡ true
+from-is k w h l = ⊎-elim (λ (e : ltb w k ≡ true). absurd (omega (arith, ltb-true w k e))) (λ e. e) (or-cases (ltb w k) _ h)
+
+up-to-is : (k w : ℕ) {b : Bool} → upTo k w b ≡ true → w ≤ k → b ≡ true
+up-to-is k w h l = ⊎-elim (λ (e : ltb k w ≡ true). absurd (omega (arith, ltb-true k w e))) (λ e. e) (or-cases (ltb k w) _ h)
 
 listed-at : (s : Asks) (f : Place → ℕ) → listed s (f placeA) (f placeB) (f placeC) ≡ true → (p : Place) → listedAs (askAt s p) (f p) ≡ true
 unfolding listed
@@ -72,20 +94,22 @@ listed-at noAsks f h p = no h
 
 -- what the table says of a row that is listed
 record Follows (k : ℕ) (s : Asks) : Type 0 where
-  first : branches ≤ k → names (askAt s placeA) ≡ true
+  first : branches ≤ k → k ≤ views → names (askAt s placeA) ≡ true
   some : operators ≤ k → (names (askAt s placeA) ≡ true) ⊎ (names (askAt s placeB) ≡ true)
-  rest : operators ≤ k → (rowOrNone (askAt s placeB) ≡ true) × (rowOrNone (askAt s placeC) ≡ true)
+  second : operators ≤ k → rowOrNone (askAt s placeB) ≡ true
+  third : operators ≤ k → k ≤ views → rowOrNone (askAt s placeC) ≡ true
 
 follows-of : (k a b c : ℕ) (s : Asks) → follows k s ≡ true → listed s a b c ≡ true → Follows k s
 unfolding listed
 follows-of k a b c noAsks t h = no h
 follows-of k a b c (asks x y z o w) t h =
-    let u = or-cases (names x) _ (and-left _ _ t) in
-    let v = or-cases (rowOrNone y && rowOrNone z) _ (and-right (names x || (ltb k branches && (names y || ltb k operators))) _ t) in
+    let t₁ = and-right (from branches k (upTo views k (names x))) _ t in
+    let t₂ = and-right (from operators k (names x || names y)) _ t₁ in
     record {
-      first = λ l. ⊎-elim (λ e. e) (λ (e : (ltb k branches && (names y || ltb k operators)) ≡ true). absurd (omega (arith, ltb-true k branches (and-left _ _ e)))) u;
-      some = λ l. ⊎-elim (λ e. inl e) (λ e. ⊎-elim (λ f. inr f) (λ (f : ltb k operators ≡ true). absurd (omega (arith, ltb-true k operators f))) (or-cases (names y) _ (and-right (ltb k branches) _ e))) u;
-      rest = λ l. ⊎-elim (λ e. (and-left _ _ e, and-right (rowOrNone y) _ e)) (λ (f : ltb k operators ≡ true). absurd (omega (arith, ltb-true k operators f))) v;
+      first = λ l u. up-to-is views k (from-is branches k (and-left _ _ t) l) u;
+      some = λ l. or-cases (names x) (names y) (from-is operators k (and-left _ _ t₁) l);
+      second = λ l. from-is operators k (and-left _ _ t₂) l;
+      third = λ l u. up-to-is views k (from-is operators k (and-right (from operators k (rowOrNone y)) _ t₂) l) u;
     }
 
 module _ (rs : List ℕ) (n : ℕ) (g : Listed rs n) (q : Sorted rs n) (i : ℕ) (l : i < n) where
@@ -104,7 +128,7 @@ module _ (rs : List ℕ) (n : ℕ) (g : Listed rs n) (q : Sorted rs n) (i : ℕ)
 
   pub low-words : LowWords rs i
   low-words = record {
-    lowA = λ h. lower rs n q i l placeA (by-table .first h);
-    lowB = λ h. low-at placeB h (by-table .rest h .0);
-    lowC = λ h. low-at placeC h (by-table .rest h .1);
+    lowA = λ h u. lower rs n q i l placeA (by-table .first h u);
+    lowB = λ h. low-at placeB h (by-table .second h);
+    lowC = λ h u. low-at placeC h (by-table .third h u);
   }

@@ -10,7 +10,7 @@ use lib.Dec.{leb}
 use borrow.Author.Tests.{leb-true}
 use Rattle.match_laws.proofs.Ranges.{and-left, and-right}
 use Rattle.tophat.specs.Syntax.{Ty}
-use Rattle.rows.specs.Kinds.{Kind, Ask, unused, operator, truth, anyWord, aType, aBasic, aCell, aPlain, aTask, aBranch, likeB}
+use Rattle.rows.specs.Kinds.{Kind, Ask, unused, operator, truth, anyWord, aRole, someTouches, aType, aBasic, aCell, aPlain, aTask, aBranch, likeB}
 use Rattle.rows.specs.Kinds.{Sort, typeS, basicS, cellS, plainS, taskS, Asks, asks, noAsks}
 use Rattle.rows.specs.Rows.{word, opA, opB, opC, sortBelow, sameSort, sortedAs, sorted, rowSorted, names, OfKind, FromKind, BelowKind, firstExpression, asksAt}
 use Rattle.rows.specs.Trees.{ReadsType, r-unit, r-truth, r-number, r-pair}
@@ -51,6 +51,8 @@ alone unused = true
 alone operator = true
 alone truth = true
 alone anyWord = true
+alone aRole = true
+alone someTouches = true
 alone aType = true
 alone aBasic = true
 alone aCell = true
@@ -64,6 +66,8 @@ typesOnly unused = true
 typesOnly operator = true
 typesOnly truth = true
 typesOnly anyWord = true
+typesOnly aRole = true
+typesOnly someTouches = true
 typesOnly aType = true
 typesOnly aBasic = true
 typesOnly aCell = false
@@ -98,6 +102,8 @@ known-alone unused s b h l e = no h
 known-alone operator s b h l e = no h
 known-alone truth s b h l e = no h
 known-alone anyWord s b h l e = no h
+known-alone aRole s b h l e = no h
+known-alone someTouches s b h l e = no h
 known-alone aType s b h l e = known-one s typeS basicS tt tt e
 known-alone aBasic s b h l e = known-same s basicS tt e
 known-alone aCell s b h l e = known-same s cellS tt e
@@ -112,6 +118,8 @@ known-like unused s b h k e = known-alone unused s b h refl e
 known-like operator s b h k e = known-alone operator s b h refl e
 known-like truth s b h k e = known-alone truth s b h refl e
 known-like anyWord s b h k e = known-alone anyWord s b h refl e
+known-like aRole s b h k e = known-alone aRole s b h refl e
+known-like someTouches s b h k e = known-alone someTouches s b h refl e
 known-like aType s b h k e = known-alone aType s b h refl e
 known-like aBasic s b h k e = known-alone aBasic s b h refl e
 known-like aCell s b h k e = known-alone aCell s b h refl e
@@ -161,6 +169,8 @@ a-type-sort unused s b h l e = no h
 a-type-sort operator s b h l e = no h
 a-type-sort truth s b h l e = no h
 a-type-sort anyWord s b h l e = no h
+a-type-sort aRole s b h l e = no h
+a-type-sort someTouches s b h l e = no h
 a-type-sort aType s b h l e = ⊎-elim (λ p. inl (same-sort s typeS p)) (λ p. inr (same-sort s basicS p)) (or-cases _ _ e)
 a-type-sort aBasic s b h l e = inr (same-sort s basicS e)
 a-type-sort aCell s b h l e = no l

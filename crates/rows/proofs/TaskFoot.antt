@@ -6,10 +6,10 @@ use mathlib.Core.Logic.{_⊎_, inl, inr}
 use mathlib.Core.List.{List}
 use Prim.Native.Nat.{ℕ, _<_, _≤_}
 use native.Mathlib.Omega.{arith}
-use Rattle.tophat.specs.Syntax.{Code, edit, enter, update, then, next, fail, and, or, xor, view, if, let'}
-use Rattle.rows.specs.Kinds.{Kind, ifK, letK, editK, enterK, updateK, thenK, nextK, failK, andK, orK, xorK, viewK, eitherK, taskK, asksOf, numberOf}
+use Rattle.tophat.specs.Syntax.{Code, edit, enter, update, then, next, fail, and, or, xor, view, gate, if, let'}
+use Rattle.rows.specs.Kinds.{Kind, ifK, letK, editK, enterK, updateK, thenK, nextK, failK, andK, orK, xorK, viewK, gateK, eitherK, taskK, asksOf, numberOf}
 use Rattle.rows.specs.Rows.{opA, opB, opC, names, OfKind, FromKind, firstExpression}
-use Rattle.rows.specs.Trees.{ReadsCode, r-edit, r-enter, r-update, r-then, r-next, r-fail, r-and, r-or, r-xor, r-view, r-if, r-let}
+use Rattle.rows.specs.Trees.{ReadsCode, r-edit, r-enter, r-update, r-then, r-next, r-fail, r-and, r-or, r-xor, r-view, r-gate, r-if, r-let}
 use Rattle.rows.proofs.Exists.{Sorted}
 use Rattle.rows.proofs.Places.{Place, placeA, placeB, placeC, opAt, askAt, names-of}
 use Rattle.rows.proofs.Foot.{Foot, foot-here, foot-up}
@@ -28,6 +28,7 @@ TaskFoot rs i (and a b) j = (j ≡ i) ⊎ (TaskFoot rs (opA rs i) a j ⊎ TaskFo
 TaskFoot rs i (or a b) j = (j ≡ i) ⊎ (TaskFoot rs (opA rs i) a j ⊎ TaskFoot rs (opB rs i) b j)
 TaskFoot rs i (xor a b) j = (j ≡ i) ⊎ (TaskFoot rs (opA rs i) a j ⊎ TaskFoot rs (opB rs i) b j)
 TaskFoot rs i (view e) j = j ≡ i
+TaskFoot rs i (gate r k b) j = (j ≡ i) ⊎ TaskFoot rs (opB rs i) b j
 TaskFoot rs i (if e a b) j = (j ≡ i) ⊎ (TaskFoot rs (opB rs i) a j ⊎ TaskFoot rs (opC rs i) b j)
 TaskFoot rs i (let' e b) j = (j ≡ i) ⊎ TaskFoot rs (opB rs i) b j
 
@@ -65,6 +66,7 @@ module _ {rs : List ℕ} where
   task-foot (r-or k x y d e) j f = two _ (taskK orK) k (omega arith) j placeA placeB refl refl (λ u. task-foot d j u) (λ u. task-foot e j u) f
   task-foot (r-xor k x y d e) j f = two _ (taskK xorK) k (omega arith) j placeA placeB refl refl (λ u. task-foot d j u) (λ u. task-foot e j u) f
   task-foot (r-view k x d) j f = self _ (taskK viewK) k (omega arith) j f
+  task-foot (r-gate k x d) j f = one _ (taskK gateK) k (omega arith) j placeB refl (λ u. task-foot d j u) f
   task-foot (r-if k x y z c d e) j f = two _ (eitherK ifK) k (omega arith) j placeB placeC refl refl (λ u. task-foot d j u) (λ u. task-foot e j u) f
   task-foot (r-let k x y c d) j f = one _ (eitherK letK) k (omega arith) j placeB refl (λ u. task-foot d j u) f
 
@@ -79,6 +81,7 @@ task-self rs i (and a b) = inl refl
 task-self rs i (or a b) = inl refl
 task-self rs i (xor a b) = inl refl
 task-self rs i (view e) = refl
+task-self rs i (gate r k b) = inl refl
 task-self rs i (if e a b) = inl refl
 task-self rs i (let' e b) = inl refl
 
@@ -108,6 +111,7 @@ Splits rs i (and a b) = Split rs i (opA rs i) (opB rs i) a b × Splits rs (opA r
 Splits rs i (or a b) = Split rs i (opA rs i) (opB rs i) a b × Splits rs (opA rs i) a × Splits rs (opB rs i) b
 Splits rs i (xor a b) = Split rs i (opA rs i) (opB rs i) a b × Splits rs (opA rs i) a × Splits rs (opB rs i) b
 Splits rs i (view e) = Unit {0}
+Splits rs i (gate r k b) = Beside rs i (opB rs i) b × Splits rs (opB rs i) b
 Splits rs i (if e a b) = Split rs i (opB rs i) (opC rs i) a b × Splits rs (opB rs i) a × Splits rs (opC rs i) b
 Splits rs i (let' e b) = Beside rs i (opB rs i) b × Splits rs (opB rs i) b
 
@@ -141,5 +145,6 @@ module _ (rs : List ℕ) (n : ℕ) (q : Sorted rs n) (t : NamedOnce rs n) where
   splits l (r-or k x y d e) = (split-of _ l (taskK orK) k placeA placeB ab refl refl d e, splits (omega arith) d, splits (omega arith) e)
   splits l (r-xor k x y d e) = (split-of _ l (taskK xorK) k placeA placeB ab refl refl d e, splits (omega arith) d, splits (omega arith) e)
   splits l (r-view k x d) = tt
+  splits l (r-gate k x d) = (beside _ l (taskK gateK) k placeB refl d, splits (omega arith) d)
   splits l (r-if k x y z c d e) = (split-of _ l (eitherK ifK) k placeB placeC bc refl refl d e, splits (omega arith) d, splits (omega arith) e)
   splits l (r-let k x y c d) = (beside _ l (eitherK letK) k placeB refl d, splits (omega arith) d)

@@ -6,13 +6,13 @@ use mathlib.Core.Option.{Option, none, some}
 use mathlib.Core.List.{List}
 use Prim.Native.Nat.{ℕ, zero, suc, _+_, _-_, _<_, _≤_}
 use native.Mathlib.Omega.{arith}
-use Rattle.tophat.specs.Syntax.{Ty, Exp, Code, edit, enter, update, then, next, fail, and, or, xor, view, if, let'}
+use Rattle.tophat.specs.Syntax.{Ty, Exp, Code, edit, enter, update, then, next, fail, and, or, xor, view, gate, if, let'}
 use Rattle.rows.specs.Kinds.{Kind, eunitK, etruthK, enumberK, ebinderK, eopK, ifK, epairK, efstK, esndK, ederefK, eassignK, letK}
-use Rattle.rows.specs.Kinds.{editK, enterK, updateK, thenK, nextK, failK, andK, orK, xorK, viewK, Sort, plainK, eitherK, taskK, asksOf, numberOf}
+use Rattle.rows.specs.Kinds.{editK, enterK, updateK, thenK, nextK, failK, andK, orK, xorK, viewK, gateK, Sort, plainK, eitherK, taskK, asksOf, numberOf}
 use Rattle.rows.specs.Rows.{opA, opB, opC, names, OfKind, FromKind, BelowKind, firstExpression}
 use Rattle.rows.specs.Trees.{ReadsType, ReadsCell, r-cell}
 use Rattle.rows.specs.Trees.{ReadsExp, r-eunit, r-etruth, r-enumber, r-ebinder, r-eop, r-eif, r-epair, r-efst, r-esnd, r-ederef, r-eassign, r-elet}
-use Rattle.rows.specs.Trees.{ReadsCode, r-edit, r-enter, r-update, r-then, r-next, r-fail, r-and, r-or, r-xor, r-view, r-if, r-let}
+use Rattle.rows.specs.Trees.{ReadsCode, r-edit, r-enter, r-update, r-then, r-next, r-fail, r-and, r-or, r-xor, r-view, r-gate, r-if, r-let}
 use Rattle.rows.specs.ComputeTrees.{codeAt}
 use Rattle.rows.proofs.TreesAgree.{code-is}
 use Rattle.rows.proofs.Exists.{Has, has-type, has-basic, has-cell, has-plain, has-task, Sorted, exists}
@@ -34,6 +34,7 @@ parts F (and a b) = F a + F b
 parts F (or a b) = F a + F b
 parts F (xor a b) = F a + F b
 parts F (view x) = 0
+parts F (gate r k b) = F b
 parts F (if x a b) = F a + F b
 parts F (let' x b) = F b
 
@@ -106,6 +107,7 @@ module _ (F share : Code → ℕ) (m : Adds F share) (rs : List ℕ) (n : ℕ) w
   code-row {i} l z o h (r-or k x y d e) = row i (taskK orK) k (omega (arith, code-total (omega arith) d .0, code-total (omega arith) e .0))
   code-row {i} l z o h (r-xor k x y d e) = row i (taskK xorK) k (omega (arith, code-total (omega arith) d .0, code-total (omega arith) e .0))
   code-row {i} l z o h (r-view k x d) = row i (taskK viewK) k (omega (arith, exp-total d .0))
+  code-row {i} l z o h (r-gate k x d) = row i (taskK gateK) k (omega (arith, code-total (omega arith) d .0))
   code-row {i} l z o h (r-if k x y w d e f) = row i (eitherK ifK) k (omega (arith, exp-total d .0, code-total (omega arith) e .0, code-total (omega arith) f .0))
   code-row {i} l z o h (r-let k x y d e) = row i (eitherK letK) k (omega (arith, exp-total d .0, code-total (omega arith) e .0))
 

@@ -9,11 +9,11 @@ use Rattle.tophat.specs.Syntax.{Ty, unit, truth, number, Exp, Code, Store}
 use borrow.Author.Tests.{eq-eqb, ne-eqb}
 use Rattle.tophat.proofs.Basics.{some-is}
 use Rattle.rows.specs.Kinds.{typeK, unitK, truthK, numberK, pairK, cellK, plainK, eunitK, etruthK, enumberK, ebinderK, eopK, epairK, efstK, esndK, ederefK, eassignK, numberOf}
-use Rattle.rows.specs.Kinds.{eitherK, ifK, letK, taskK, editK, enterK, updateK, thenK, nextK, failK, andK, orK, xorK, viewK}
+use Rattle.rows.specs.Kinds.{eitherK, ifK, letK, taskK, editK, enterK, updateK, thenK, nextK, failK, andK, orK, xorK, viewK, gateK}
 use Rattle.rows.specs.Rows.{word, OfKind, opA}
 use Rattle.rows.specs.Trees.{ReadsType, r-unit, r-truth, r-number, r-pair, ReadsCell, r-cell, Cells, c-none, c-truth, c-number, c-other}
 use Rattle.rows.specs.Trees.{ReadsExp, r-eunit, r-etruth, r-enumber, r-ebinder, r-eop, r-eif, r-epair, r-efst, r-esnd, r-ederef, r-eassign, r-elet}
-use Rattle.rows.specs.Trees.{ReadsCode, r-edit, r-enter, r-update, r-then, r-next, r-fail, r-and, r-or, r-xor, r-view, r-if, r-let}
+use Rattle.rows.specs.Trees.{ReadsCode, r-edit, r-enter, r-update, r-then, r-next, r-fail, r-and, r-or, r-xor, r-view, r-gate, r-if, r-let}
 use Rattle.rows.specs.ComputeTrees.{typeAt, expAt, codeAt, cellType, contentOf, cellTypes, firstStore}
 use Rattle.rows.proofs.KindNumbers.{kind-at}
 
@@ -60,6 +60,7 @@ module _ {rs : List ℕ} where
   code-at (suc n) l (r-or k p q d e) = let x = code-at n (omega arith) d in let y = code-at n (omega arith) e in rw (kind-at rs _ (taskK orK) k, x, y)
   code-at (suc n) l (r-xor k p q d e) = let x = code-at n (omega arith) d in let y = code-at n (omega arith) e in rw (kind-at rs _ (taskK xorK) k, x, y)
   code-at (suc n) l (r-view k p d) = let x = exp-at n (omega arith) d in rw (kind-at rs _ (taskK viewK) k, x)
+  code-at (suc n) l (r-gate k p d) = let x = code-at n (omega arith) d in rw (kind-at rs _ (taskK gateK) k, x)
   code-at (suc n) l (r-if k p q r d e f) =
       let x = exp-at n (omega arith) d in let y = code-at n (omega arith) e in let z = code-at n (omega arith) f in rw (kind-at rs _ (eitherK ifK) k, x, y, z)
   code-at (suc n) l (r-let k p q d e) = let x = exp-at n (omega arith) d in let y = code-at n (omega arith) e in rw (kind-at rs _ (eitherK letK) k, x, y)

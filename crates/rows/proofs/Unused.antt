@@ -7,7 +7,8 @@ use Prim.Native.Nat.{ℕ, zero, suc}
 use native.Mathlib.Omega.{arith}
 use borrow.Author.Tests.{eqb-true}
 use lib.ListN.{getD}
-use Rattle.rows.specs.Kinds.{Ask, unused, operator, truth, anyWord, aType, aBasic, aCell, aPlain, aTask, aBranch, likeB, noAsks, asksOf, isUnused, unusedBy, unusedOf}
+use Rattle.tophat.specs.Roles.{isRole}
+use Rattle.rows.specs.Kinds.{Ask, unused, operator, truth, anyWord, aRole, someTouches, aType, aBasic, aCell, aPlain, aTask, aBranch, likeB, noAsks, asksOf, isUnused, unusedBy, unusedOf}
 use Rattle.rows.specs.Rows.{listedAs}
 use Rattle.rows.proofs.Basics.{no}
 
@@ -20,11 +21,13 @@ one-admitted : (q : Ask) {P : Type 0} → listedAs q 1 ≡ true → OnlyZero q �
 one-admitted q e h = absurd (let z = h 1 e in omega (arith, z))
 
 pub unused-iff : (q : Ask) → (isUnused q ≡ true) ↔ OnlyZero q
-unfolding isUnused listedAs
+unfolding isUnused listedAs isRole
 unused-iff unused = (λ e w l. eqb-true w 0 l, λ h. refl)
 unused-iff operator = (λ e. no e, λ h. one-admitted operator refl h)
 unused-iff truth = (λ e. no e, λ h. one-admitted truth refl h)
 unused-iff anyWord = (λ e. no e, λ h. one-admitted anyWord refl h)
+unused-iff aRole = (λ e. no e, λ h. one-admitted aRole refl h)
+unused-iff someTouches = (λ e. no e, λ h. one-admitted someTouches refl h)
 unused-iff aType = (λ e. no e, λ h. one-admitted aType refl h)
 unused-iff aBasic = (λ e. no e, λ h. one-admitted aBasic refl h)
 unused-iff aCell = (λ e. no e, λ h. one-admitted aCell refl h)

@@ -8,9 +8,9 @@ use lib.Dec.{eqb}
 use mir.Syntax.{w32}
 use mir.Val.{toZ}
 use Rattle.tophat.specs.Syntax.{Ty, unit, truth, number, pair, Exp, eunit, etruth, enumber, ebinder, eop, eif, epair, efst, esnd, ederef, eassign, elet}
-use Rattle.tophat.specs.Syntax.{Code, edit, enter, update, then, next, fail, and, or, xor, view, if, let', Val, vunit, vtruth, vnumber, Store}
+use Rattle.tophat.specs.Syntax.{Code, edit, enter, update, then, next, fail, and, or, xor, view, gate, if, let', Val, vunit, vtruth, vnumber, Store}
 use Rattle.rows.specs.Kinds.{Kind, typeK, unitK, truthK, numberK, pairK, cellK, plainK, eunitK, etruthK, enumberK, ebinderK, eopK, epairK, efstK, esndK, ederefK, eassignK}
-use Rattle.rows.specs.Kinds.{eitherK, ifK, letK, taskK, editK, enterK, updateK, thenK, nextK, failK, andK, orK, xorK, viewK}
+use Rattle.rows.specs.Kinds.{eitherK, ifK, letK, taskK, editK, enterK, updateK, thenK, nextK, failK, andK, orK, xorK, viewK, gateK}
 use Rattle.rows.specs.Rows.{kindAt, isKind, opA, opB, opC}
 use Rattle.rows.specs.Trees.{operatorOf}
 
@@ -54,6 +54,7 @@ codeBy type exp code a b c (taskK andK) = bind (code a) λ x. bind (code b) λ y
 codeBy type exp code a b c (taskK orK) = bind (code a) λ x. bind (code b) λ y. some (or x y)
 codeBy type exp code a b c (taskK xorK) = bind (code a) λ x. bind (code b) λ y. some (xor x y)
 codeBy type exp code a b c (taskK viewK) = bind (exp a) λ x. some (view x)
+codeBy type exp code a b c (taskK gateK) = bind (code b) λ y. some (gate a c y)
 codeBy type exp code a b c (eitherK ifK) = bind (exp a) λ x. bind (code b) λ y. bind (code c) λ z. some (if x y z)
 codeBy type exp code a b c (eitherK letK) = bind (exp a) λ x. bind (code b) λ y. some (let' x y)
 codeBy type exp code a b c (typeK k) = none

@@ -2,7 +2,7 @@
 -- tree has more than 16 around it. The same of marks is tophat's MarksFit. Rests on Enclosing's limits and on the calculus' syntax.
 use Prim.Native.Nat.{ℕ, suc, _<_}
 use Rattle.tophat.specs.Syntax.{Exp, eunit, etruth, enumber, ebinder, eop, eif, epair, efst, esnd, ederef, eassign, elet}
-use Rattle.tophat.specs.Syntax.{Code, edit, enter, update, then, next, fail, and, or, xor, view, if, let'}
+use Rattle.tophat.specs.Syntax.{Code, edit, enter, update, then, next, fail, and, or, xor, view, gate, if, let'}
 use Rattle.rows.specs.Enclosing.{maxBinders}
 
 abbrev pub FitsExp : ℕ → Exp → Type 0
@@ -30,5 +30,6 @@ FitsCode n (and a b) = FitsCode n a × FitsCode n b
 FitsCode n (or a b) = FitsCode n a × FitsCode n b
 FitsCode n (xor a b) = FitsCode n a × FitsCode n b
 FitsCode n (view a) = FitsExp n a
+FitsCode n (gate r k b) = FitsCode n b
 FitsCode n (if e a b) = FitsExp n e × FitsCode n a × FitsCode n b
 FitsCode n (let' e b) = FitsExp n e × (n < maxBinders) × FitsCode (suc n) b

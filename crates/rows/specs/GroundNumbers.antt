@@ -1,5 +1,6 @@
 -- The number of each ground (01, "Grounds in the input" and "Grounds in the state"); in code src/grounds.rt has the same names.
--- 0 is no ground: the call is accepted. Rests on nothing.
+-- 0 is no ground: the call is accepted. CR 6's 30 and 31, which handling says of the rows of kind 50 passed, stand in the calculus' Roles.
+-- Rests on nothing.
 use Prim.Native.Nat.{ℕ}
 
 -- ---- grounds in the input
@@ -12,7 +13,7 @@ notSized = 1
 abbrev pub notRead : ℕ
 notRead = 2
 
--- a kind, operator, truth or unused operand not as listed
+-- a kind, operator, truth, role, number of touches (CR 6) or unused operand not as listed
 abbrev pub notListed : ℕ
 notListed = 3
 
@@ -32,7 +33,7 @@ notSmall = 6
 abbrev pub notTyped : ℕ
 notTyped = 7
 
--- event length, byte 10, field, path digit or action bad, or a leaf not 0 at actions 2 to 4
+-- event length, byte 10, field, role, path digit or action bad, or a leaf not 0 at actions 2 to 4; look's role (CR 6)
 abbrev pub eventNotRead : ℕ
 eventNotRead = 8
 

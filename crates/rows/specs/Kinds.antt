@@ -27,7 +27,7 @@ pub data EitherKind : Type 0 where
 
 -- tasks
 pub data TaskKind : Type 0 where
-  editK enterK updateK thenK nextK failK andK orK xorK viewK : TaskKind
+  editK enterK updateK thenK nextK failK andK orK xorK viewK gateK : TaskKind
   deriving Discrete as TaskKind-discrete
 
 pub data Kind : Type 0 where
@@ -46,6 +46,8 @@ pub data Ask : Type 0 where
   operator : Ask  -- 1 to 8
   truth : Ask  -- 0 or 1
   anyWord : Ask  -- any word: a number, a binder, a cell's first content
+  aRole : Ask  -- 1 to 8 (CR 6)
+  someTouches : Ask  -- 0 to 99 (CR 6)
   aType aBasic aCell aPlain aTask : Ask  -- a lower row of that sort
   aBranch : Ask  -- a lower row, plain or a task
   likeB : Ask  -- a lower row of the sort of B
@@ -103,6 +105,7 @@ table =
     line 47 (taskK orK) (asks aTask aTask unused (is taskS) mark) ∷
     line 48 (taskK xorK) (asks aTask aTask unused (is taskS) nothing) ∷
     line 49 (taskK viewK) (asks aPlain unused unused (is taskS) nothing) ∷  -- CR 1
+    line 50 (taskK gateK) (asks aRole aTask someTouches (is taskS) nothing) ∷  -- CR 6
     []
 
 -- ---- its readings
@@ -126,6 +129,8 @@ isUnused unused = true
 isUnused operator = false
 isUnused truth = false
 isUnused anyWord = false
+isUnused aRole = false
+isUnused someTouches = false
 isUnused aType = false
 isUnused aBasic = false
 isUnused aCell = false

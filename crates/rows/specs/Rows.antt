@@ -1,5 +1,5 @@
 -- Rows of words, four a row (kind, A, B, C), and grounds 3, 4 and 5 over them (01, "Grounds in the input"). A word is given
--- by its bits: a negative one is 2 ^ 31 or more, so it is no kind, no truth, and never a lower row. Rests on Kinds.
+-- by its bits: a negative one is 2 ^ 31 or more, so it is no kind, no truth, and never a lower row. Rests on Kinds, and on the calculus' roles.
 use mathlib.Core.Path.{_≡_}
 use mathlib.Core.Option.{Option}
 use Prim.Native.Nat.{ℕ, zero, suc, _+_, _*_, _<_, _≤_}
@@ -7,8 +7,9 @@ use mathlib.Core.Bool.{Bool, true, false, not, _&&_, _||_, cond}
 use mathlib.Core.List.{List, [], _∷_, _++_}
 use lib.Dec.{leb, ltb, eqb}
 use lib.ListN.{getD}
-use Rattle.rows.specs.Kinds.{Kind, cellK, typeK, truthK, plainK, eunitK, eopK, epairK, eassignK, eitherK, ifK, taskK, thenK, orK, kindOf, numberOf}
-use Rattle.rows.specs.Kinds.{Ask, unused, operator, truth, anyWord, aType, aBasic, aCell, aPlain, aTask, aBranch, likeB}
+use Rattle.tophat.specs.Roles.{isRole, maxTouches}
+use Rattle.rows.specs.Kinds.{Kind, cellK, typeK, truthK, plainK, eunitK, eopK, epairK, eassignK, eitherK, ifK, taskK, thenK, orK, viewK, kindOf, numberOf}
+use Rattle.rows.specs.Kinds.{Ask, unused, operator, truth, anyWord, aRole, someTouches, aType, aBasic, aCell, aPlain, aTask, aBranch, likeB}
 use Rattle.rows.specs.Kinds.{Sort, typeS, basicS, cellS, plainS, taskS, noS, is, asB, Asks, asks, noAsks, asksOf}
 
 -- 01: "1 to 256 lines"
@@ -70,13 +71,15 @@ unfoldable pub every : ℕ → (ℕ → Bool) → Bool
 every zero p = true
 every (suc n) p = every n p && p n
 
--- ---- ground 3: a kind, operator, truth or unused operand not as listed
+-- ---- ground 3: a kind, operator, truth, role, number of touches or unused operand not as listed
 
 unfoldable pub listedAs : Ask → ℕ → Bool
 listedAs unused w = eqb w 0
 listedAs operator w = leb 1 w && leb w 8
 listedAs truth w = leb w 1
 listedAs anyWord w = true
+listedAs aRole w = isRole w
+listedAs someTouches w = leb w maxTouches
 listedAs aType w = true
 listedAs aBasic w = true
 listedAs aCell w = true
@@ -129,6 +132,8 @@ sortedAs unused s b = true
 sortedAs operator s b = true
 sortedAs truth s b = true
 sortedAs anyWord s b = true
+sortedAs aRole s b = true
+sortedAs someTouches s b = true
 sortedAs aType s b = sameSort s typeS || sameSort s basicS
 sortedAs aBasic s b = sameSort s basicS
 sortedAs aCell s b = sameSort s cellS
@@ -152,6 +157,8 @@ names unused = false
 names operator = false
 names truth = false
 names anyWord = false
+names aRole = false
+names someTouches = false
 names aType = true
 names aBasic = true
 names aCell = true
@@ -197,8 +204,8 @@ movers rs (suc i) = movers rs i + count (isKind rs i (taskK thenK) || isKind rs 
 
 -- ---- operands that code may follow before it knows what they are
 
--- every operand word of a row of kind 25 or more is below its row, whether it names a row or is unused; of kind 24, B and C are
+-- every operand word of a row of kind 25 to 49 is below its row, whether it names a row or is unused; of kind 24, B and C are, of kind 50 B
 pub record LowWords (rs : List ℕ) (i : ℕ) : Type 0 where
-  pub lowA : FromKind rs i (eitherK ifK) → opA rs i < i
+  pub lowA : FromKind rs i (eitherK ifK) → UpToKind rs i (taskK viewK) → opA rs i < i
   pub lowB : FromKind rs i (plainK eopK) → opB rs i < i
-  pub lowC : FromKind rs i (plainK eopK) → opC rs i < i
+  pub lowC : FromKind rs i (plainK eopK) → UpToKind rs i (taskK viewK) → opC rs i < i

@@ -8,10 +8,10 @@ use mir.Syntax.{w32}
 use mir.Val.{toZ}
 use Rattle.tophat.specs.Syntax.{Ty, unit, truth, number, pair, Op, sum, difference, product, less, lessEqual, equal, andOp, orOp}
 use Rattle.tophat.specs.Syntax.{Exp, eunit, etruth, enumber, ebinder, eop, eif, epair, efst, esnd, ederef, eassign, elet}
-use Rattle.tophat.specs.Syntax.{Code, edit, enter, update, then, next, fail, and, or, xor, view, if, let', vunit, vtruth, vnumber, Store}
+use Rattle.tophat.specs.Syntax.{Code, edit, enter, update, then, next, fail, and, or, xor, view, gate, if, let', vunit, vtruth, vnumber, Store}
 use Rattle.tophat.specs.Typing.{CodeType}
 use Rattle.rows.specs.Kinds.{typeK, unitK, truthK, numberK, pairK, cellK, plainK, eunitK, etruthK, enumberK, ebinderK, eopK, epairK, efstK, esndK, ederefK, eassignK}
-use Rattle.rows.specs.Kinds.{eitherK, ifK, letK, taskK, editK, enterK, updateK, thenK, nextK, failK, andK, orK, xorK, viewK}
+use Rattle.rows.specs.Kinds.{eitherK, ifK, letK, taskK, editK, enterK, updateK, thenK, nextK, failK, andK, orK, xorK, viewK, gateK}
 use Rattle.rows.specs.Rows.{OfKind, opA, opB, opC}
 
 -- operators by number
@@ -68,6 +68,7 @@ module _ (rs : List ℕ) where
     r-xor : {i : ℕ} {a b : Code} → OfKind rs i (taskK xorK) → opA rs i < i → opB rs i < i
         → ReadsCode (opA rs i) a → ReadsCode (opB rs i) b → ReadsCode i (xor a b)
     r-view : {i : ℕ} {a : Exp} → OfKind rs i (taskK viewK) → opA rs i < i → ReadsExp (opA rs i) a → ReadsCode i (view a)
+    r-gate : {i : ℕ} {b : Code} → OfKind rs i (taskK gateK) → opB rs i < i → ReadsCode (opB rs i) b → ReadsCode i (gate (opA rs i) (opC rs i) b)
     r-if : {i : ℕ} {a : Exp} {b c : Code} → OfKind rs i (eitherK ifK) → opA rs i < i → opB rs i < i → opC rs i < i
         → ReadsExp (opA rs i) a → ReadsCode (opB rs i) b → ReadsCode (opC rs i) c → ReadsCode i (if a b c)
     r-let : {i : ℕ} {a : Exp} {b : Code} → OfKind rs i (eitherK letK) → opA rs i < i → opB rs i < i

@@ -7,7 +7,7 @@ pub const NOT_SIZED: u32 = 1;
 // A field or byte 10 unreadable, or a wrong row number.
 pub const NOT_READ: u32 = 2;
 
-// A kind, operator, truth or unused operand not as listed.
+// A kind, operator, truth, role, number of touches or unused operand not as listed.
 pub const NOT_LISTED: u32 = 3;
 
 // An operand not a lower row, or not of the sort asked.
@@ -22,7 +22,7 @@ pub const NOT_SMALL: u32 = 6;
 // No typing for the last row as a task.
 pub const NOT_TYPED: u32 = 7;
 
-// An event that cannot be read.
+// An event that cannot be read, or a look's role that is none.
 pub const EVENT_NOT_READ: u32 = 8;
 
 // No handling rule derives a step.
@@ -42,3 +42,9 @@ pub const NOT_AT_REST: u32 = 23;
 
 // List memory under 35 bytes an entry (CR 4).
 pub const LIST_TOO_SHORT: u32 = 24;
+
+// A step is derived, but a row of kind 50 passed has another role (CR 6).
+pub const OTHER_ROLE: u32 = 30;
+
+// All of them have the role, but one has no touch left (CR 6).
+pub const NO_TOUCH: u32 = 31;

@@ -11,3 +11,6 @@ pub const FIRST_EXPRESSION: u32 = 20;
 
 // The first of a pair.
 pub const FIRST: u32 = 27;
+
+// A task for a role, with so many touches (CR 6).
+pub const GATE: u32 = 50;

@@ -1,9 +1,11 @@
 // Rows of words: how a word of a row is read, and the numbers that 01 gives to rows, each under one name: sizes here, kinds in
 // `kinds`, grounds in `grounds`.
 use decimal::path::PATH_COLUMNS;
+use tophat::MAX_ROLE;
 ghost use mathlib.Core.Path.{_≡_};
 ghost use Prim.Native.Nat.{_*_, _<_};
 ghost use lib.ListN.{length};
+ghost use Rattle.tophat.specs.Roles.{isRole};
 ghost use Rattle.rows.specs.Rows.{maxRows, rowWords, word};
 
 pub mod grounds;
@@ -41,6 +43,16 @@ pub fn operand(rows: &[u32; ROWS_WORDS], row: usize, k: usize) -> usize
     ensures { λ r. ⌜ r ≡ word (now (rows .entry)) row k ⌝ }
 {
     wide(rows[row * ROW_WORDS + k])
+}
+
+// CR 6: a role is 1 to 8.
+pub fn is_role(w: u32) -> bool
+    ensures { λ r. ⌜ r ≡ isRole w ⌝ }
+{
+    if w == 0 {
+        return false;
+    }
+    w <= MAX_ROLE
 }
 
 // The kind of a row; past the last row 0, which is no kind.

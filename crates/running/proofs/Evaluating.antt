@@ -7,24 +7,24 @@ use mathlib.Core.Logic.{_⊎_, inl, inr}
 use mathlib.Core.List.{List, [], _∷_}
 use Prim.Native.Nat.{ℕ, _+_}
 use native.Mathlib.Omega.{arith}
-use Rattle.tophat.specs.Syntax.{Ty, Exp, Code, edit, enter, update, then, next, fail, and, or, xor, view, if, let', Env, Store}
+use Rattle.tophat.specs.Syntax.{Ty, Exp, Code, edit, enter, update, then, next, fail, and, or, xor, view, if, let', Env, Store, gate}
 use Rattle.tophat.specs.Syntax.{TaskOf, ifTrue, ifFalse}
-use Rattle.tophat.specs.Typing.{HasType, CodeType, t-edit, t-view, t-then, t-next, t-and, t-or, t-if-task, t-let-task}
+use Rattle.tophat.specs.Typing.{HasType, CodeType, t-edit, t-view, t-then, t-next, t-and, t-or, t-if-task, t-let-task, t-gate}
 use Rattle.tophat.proofs.ComputeEvaluation.{isTrue, eval, overflows, evaluate, overflowsTask}
 use Rattle.tophat.proofs.TaskEvaluationAgrees.{evaluate-good}
-use Rattle.rows.specs.Kinds.{eitherK, ifK, letK, taskK, editK, thenK, nextK, failK, andK, orK, xorK, viewK, numberOf}
+use Rattle.rows.specs.Kinds.{eitherK, ifK, letK, taskK, editK, thenK, nextK, failK, andK, orK, xorK, viewK, numberOf, gateK}
 use Rattle.rows.specs.Rows.{word, opA, opB, opC, OfKind, FromKind, BelowKind}
 use Rattle.match_laws.proofs.Ranges.{in-range}
 use Rattle.value.specs.declared.Evaluation.{Evaluation}
 use Rattle.value.specs.Values.{firstNumber}
 use Rattle.value.proofs.Meaning.{leaf-word, true-value}
 use Rattle.value.proofs.Operators.{differ}
-use Rattle.state.specs.Layout.{own, one, other, valueWords}
+use Rattle.state.specs.Layout.{own, one, other, valueWords, touchWords}
 use Rattle.state.specs.Holds.{Tree, under, fork, treeOf, Cell, SitsExp, Sits, Row, Clear, Holds, Stores, Same, World, Ran}
 use Rattle.state.specs.Words.{wordsOf, Laid}
 use Rattle.state.specs.Contracts.{EvalOk, EvaluateAt, EvaluateOk}
 use Rattle.state.proofs.Words.{value-at, laid-as}
-use Rattle.state.proofs.Frames.{same-trans, same-weak, same-row, laid-same, foot-self, keeps, keeps-laid, clear-kept, holds-kept, stores-laid, Reach, Kids, kids-then, kids-next, kids-and, kids-or, kids-xor, kids-if, kid-let, world-after, world-push}
+use Rattle.state.proofs.Frames.{same-trans, same-weak, same-row, laid-same, foot-self, keeps, keeps-laid, clear-kept, holds-kept, stores-laid, Reach, Kids, kids-then, kids-next, kids-and, kids-or, kids-xor, kids-if, kid-let, world-after, world-push, kid-gate}
 use Rattle.state.proofs.Sites.{on-code}
 use Rattle.eval.proofs.Arms.{after, branch-both}
 use Rattle.running.specs.Hands.{Bound}
@@ -229,25 +229,40 @@ module _ (rs : List ℕ) (i : ℕ) (env : List ℕ) (d : ℕ) where
               ap₂ _||_ (p .over) h,
             )
 
+  -- 50: all its touches are laid, then the part is run
+  module _ (ws ws₁ ws₂ : List ℕ) (b m : ℕ) (x : Bool) (eb : b ≡ opB rs i) (em : m ≡ opC rs i) (l : Laid ws ws₁ i (own ∷ touchWords m)) (hb : EvaluateOk rs ws₁ ws₂ b env d x) where
+    pub evaluate-gate : OfKind rs i (taskK gateK) → EvaluateOk rs ws ws₂ i env d x
+    unfolding evaluate overflowsTask
+    evaluate-gate q = on-code rs d i (taskK gateK) (EvaluateAt rs ws ws₂ i env d x) q by
+      where
+        by : (r n : ℕ) (b : Code) → Sits rs d i (gate r n b) → EvaluateAt rs ws ws₂ i env d x (gate r n b)
+        by r n c z Σ Γ τ s ρ (t-gate y) w cl =
+            let o = kid-gate rs d i r n c z in
+            let p = subst (λ m. Row ws₁ i (own ∷ touchWords m)) (em ∙ z .2) (l .row) in
+            let w₁ = world-after w (stores-laid (w .stores) (o .cellI) l) (w .storeTyped) in
+            let (u, h) = run-at eb hb c (z .3) Σ Γ τ s ρ y w₁ (clear-kept (clear-only cl) (keeps-laid (o .off) l)) in
+            (record { holds = (same-row (u .same) (o .out) p, u .holds); stores = u .stores; same = same-trans (laid-same l (o .upI)) (same-weak (o .upB) (u .same)) }, h)
+
   -- 41, 42, 45 and 48, of which nothing is run
   module _ (ws ws₁ : List ℕ) (l : Laid ws ws₁ i (own ∷ [])) where
     laid-only : (c : Code) (t : TaskOf c) (s : Store) → (Cell rs i → ⊥) → Holds rs ws₁ i c t → Stores rs ws s → Ran rs ws ws₁ i c t s
     laid-only c t s n h st = record { holds = h; stores = stores-laid st n l; same = laid-same l (inl (foot-self rs i (treeOf c))) }
 
-    pub evaluate-tag : (OfKind rs i (eitherK ifK) → ⊥) → (OfKind rs i (eitherK letK) → ⊥) → (OfContent rs i → ⊥) → (FromKind rs i (taskK thenK) → BelowKind rs i (taskK failK) → ⊥) → (FromKind rs i (taskK andK) → BelowKind rs i (taskK xorK) → ⊥)
+    pub evaluate-tag : (OfKind rs i (eitherK ifK) → ⊥) → (OfKind rs i (eitherK letK) → ⊥) → (OfContent rs i → ⊥) → (OfKind rs i (taskK gateK) → ⊥) → (FromKind rs i (taskK thenK) → BelowKind rs i (taskK failK) → ⊥) → (FromKind rs i (taskK andK) → BelowKind rs i (taskK xorK) → ⊥)
         → EvaluateOk rs ws ws₁ i env d false
     unfolding evaluate overflowsTask
-    evaluate-tag x₂ x₃ x₀ x₄ x₆ (edit e) z Σ Γ τ s ρ y w cl = absurd (x₀ (inl (z .0)))
-    evaluate-tag x₂ x₃ x₀ x₄ x₆ (enter υ) z Σ Γ τ s ρ y w cl = (laid-only (enter υ) _ s (λ c. let q = z .0 in omega arith) (l .row) (w .stores), refl)
-    evaluate-tag x₂ x₃ x₀ x₄ x₆ (update k) z Σ Γ τ s ρ y w cl = (laid-only (update k) _ s (λ c. let q = z .0 in omega arith) (l .row) (w .stores), refl)
-    evaluate-tag x₂ x₃ x₀ x₄ x₆ (then a b) z Σ Γ τ s ρ y w cl = absurd (let q = z .0 in x₄ (omega arith) (omega arith))
-    evaluate-tag x₂ x₃ x₀ x₄ x₆ (next a b) z Σ Γ τ s ρ y w cl = absurd (let q = z .0 in x₄ (omega arith) (omega arith))
-    evaluate-tag x₂ x₃ x₀ x₄ x₆ (fail υ) z Σ Γ τ s ρ y w cl = (laid-only (fail υ) _ s (λ c. omega arith) (l .row) (w .stores), refl)
-    evaluate-tag x₂ x₃ x₀ x₄ x₆ (and a b) z Σ Γ τ s ρ y w cl = absurd (let q = z .0 in x₆ (omega arith) (omega arith))
-    evaluate-tag x₂ x₃ x₀ x₄ x₆ (or a b) z Σ Γ τ s ρ y w cl = absurd (let q = z .0 in x₆ (omega arith) (omega arith))
-    evaluate-tag x₂ x₃ x₀ x₄ x₆ (xor a b) z Σ Γ τ s ρ y w cl =
+    evaluate-tag x₂ x₃ x₀ x₅ x₄ x₆ (edit e) z Σ Γ τ s ρ y w cl = absurd (x₀ (inl (z .0)))
+    evaluate-tag x₂ x₃ x₀ x₅ x₄ x₆ (enter υ) z Σ Γ τ s ρ y w cl = (laid-only (enter υ) _ s (λ c. let q = z .0 in omega arith) (l .row) (w .stores), refl)
+    evaluate-tag x₂ x₃ x₀ x₅ x₄ x₆ (update k) z Σ Γ τ s ρ y w cl = (laid-only (update k) _ s (λ c. let q = z .0 in omega arith) (l .row) (w .stores), refl)
+    evaluate-tag x₂ x₃ x₀ x₅ x₄ x₆ (then a b) z Σ Γ τ s ρ y w cl = absurd (let q = z .0 in x₄ (omega arith) (omega arith))
+    evaluate-tag x₂ x₃ x₀ x₅ x₄ x₆ (next a b) z Σ Γ τ s ρ y w cl = absurd (let q = z .0 in x₄ (omega arith) (omega arith))
+    evaluate-tag x₂ x₃ x₀ x₅ x₄ x₆ (fail υ) z Σ Γ τ s ρ y w cl = (laid-only (fail υ) _ s (λ c. omega arith) (l .row) (w .stores), refl)
+    evaluate-tag x₂ x₃ x₀ x₅ x₄ x₆ (and a b) z Σ Γ τ s ρ y w cl = absurd (let q = z .0 in x₆ (omega arith) (omega arith))
+    evaluate-tag x₂ x₃ x₀ x₅ x₄ x₆ (or a b) z Σ Γ τ s ρ y w cl = absurd (let q = z .0 in x₆ (omega arith) (omega arith))
+    evaluate-tag x₂ x₃ x₀ x₅ x₄ x₆ (xor a b) z Σ Γ τ s ρ y w cl =
         let o = kids-xor rs d i a b z in
         (laid-only (xor a b) _ s (o .cellI) (l .row, clear-kept (clear-first cl) (keeps-laid (o .offA) l), clear-kept (clear-second cl) (keeps-laid (o .offB) l)) (w .stores), refl)
-    evaluate-tag x₂ x₃ x₀ x₄ x₆ (view e) z Σ Γ τ s ρ y w cl = absurd (x₀ (inr (z .0)))
-    evaluate-tag x₂ x₃ x₀ x₄ x₆ (if e a b) z Σ Γ τ s ρ y w cl = absurd (x₂ (z .0))
-    evaluate-tag x₂ x₃ x₀ x₄ x₆ (let' e b) z Σ Γ τ s ρ y w cl = absurd (x₃ (z .0))
+    evaluate-tag x₂ x₃ x₀ x₅ x₄ x₆ (view e) z Σ Γ τ s ρ y w cl = absurd (x₀ (inr (z .0)))
+    evaluate-tag x₂ x₃ x₀ x₅ x₄ x₆ (gate r n b) z Σ Γ τ s ρ y w cl = absurd (x₅ (z .0))
+    evaluate-tag x₂ x₃ x₀ x₅ x₄ x₆ (if e a b) z Σ Γ τ s ρ y w cl = absurd (x₂ (z .0))
+    evaluate-tag x₂ x₃ x₀ x₅ x₄ x₆ (let' e b) z Σ Γ τ s ρ y w cl = absurd (x₃ (z .0))

@@ -5,16 +5,16 @@ use mathlib.Core.List.{List, [], _∷_}
 use Prim.Native.Nat.{ℕ, _≤_}
 use native.Mathlib.Omega.{arith}
 use types.Run.{OneOf}
-use Rattle.tophat.specs.Syntax.{maxLeaves, Ty, pair, leaves, Exp, Code, edit, enter, update, then, next, fail, and, or, xor, view, if, let', Val}
+use Rattle.tophat.specs.Syntax.{maxLeaves, Ty, pair, leaves, Exp, Code, edit, enter, update, then, next, fail, and, or, xor, view, if, let', Val, gate, gated}
 use Rattle.tophat.specs.Syntax.{TaskOf, filled, blank, entered, shared, before, after, failed, both, either, orLeft, orRight, unpicked, pickedLeft, pickedRight, ifTrue, ifFalse, bound}
 use Rattle.tophat.specs.Typing.{At, HasType, CodeType, ValueType}
 use Rattle.tophat.specs.Typing.{TaskType, k-filled, k-blank, k-entered, k-shared, k-then-before, k-next-before, k-failed, k-both, k-either, k-unpicked, k-viewed}
-use Rattle.rows.specs.Kinds.{eitherK, ifK, letK, taskK, editK, enterK, updateK, thenK, nextK, failK, andK, orK, xorK, viewK, numberOf}
+use Rattle.rows.specs.Kinds.{eitherK, ifK, letK, taskK, editK, enterK, updateK, thenK, nextK, failK, andK, orK, xorK, viewK, numberOf, gateK}
 use Rattle.rows.specs.Rows.{word, OfKind}
 use Rattle.state.specs.Layout.{at, own, one, valueWords}
 use Rattle.state.specs.Holds.{Sits, Row, Holds}
 use Rattle.state.proofs.Sites.{on-code}
-use Rattle.running.specs.Hands.{Unhanded, HandsOn, if-true, if-false, let-bound, then-after, next-after, or-left, or-right, xor-left, xor-right}
+use Rattle.running.specs.Hands.{Unhanded, HandsOn, if-true, if-false, let-bound, then-after, next-after, or-left, or-right, xor-left, xor-right, gate-on}
 
 -- row i is of one of the kinds whose row holds the value of A from the start: 40 or 49
 abbrev pub contentKinds : List ℕ
@@ -131,6 +131,13 @@ module _ (rs ws : List ℕ) (d i : ℕ) (Σ Γ : List Ty) (P : (c : Code) → Ta
       where
         by : (x : Exp) (b : Code) → Sits rs d i (let' x b) → Shown (let' x b)
         by x b z τ (bound v w) y h = handing u let-bound q (h .0)
+
+    -- and 50
+    pub on-no-gate : OfKind rs i (taskK gateK) → (c : Code) → Sits rs d i c → Shown c
+    on-no-gate q = on-code rs d i (taskK gateK) Shown q by
+      where
+        by : (r n : ℕ) (b : Code) → Sits rs d i (gate r n b) → Shown (gate r n b)
+        by r n b z τ (gated k w) y h = handing u gate-on q (h .0)
 
   -- 45
   pub on-failed : OfKind rs i (taskK failK) → ((τ : Ty) → Sits rs d i (fail τ) → Row ws i (own ∷ []) → leaves τ ≤ maxLeaves → P (fail τ) failed τ) → (c : Code) → Sits rs d i c → Shown c

@@ -4,13 +4,13 @@ use mathlib.Core.Logic.{inl, inr}
 use mathlib.Core.List.{List}
 use Prim.Native.Nat.{ℕ, suc, _+_, _<_, _≤_}
 use native.Mathlib.Omega.{arith}
-use Rattle.rows.specs.Kinds.{eitherK, ifK, letK, taskK, thenK, failK, orK, xorK, numberOf}
+use Rattle.rows.specs.Kinds.{eitherK, ifK, letK, taskK, thenK, failK, orK, xorK, gateK, numberOf}
 use Rattle.rows.specs.Enclosing.{maxBinders}
 use Rattle.state.specs.Words.{valueAt, Pushed}
 use Rattle.match_laws.proofs.Ranges.{in-range}
 use Rattle.value.specs.declared.Value.{Value}
 use Rattle.state.specs.Layout.{one, other}
-use Rattle.running.specs.Hands.{HandsOn, if-true, if-false, let-bound, then-after, next-after, or-left, or-right, xor-left, xor-right, Handed, Binds, Bound, Under}
+use Rattle.running.specs.Hands.{HandsOn, if-true, if-false, let-bound, then-after, next-after, or-left, or-right, xor-left, xor-right, gate-on, Handed, Binds, Bound, Under}
 
 -- ---- handed_on
 
@@ -37,22 +37,39 @@ handed-left {n} {x} h g f = in-range (λ n. Handed n x 1) (numberOf (taskK orK))
 pub handed-right : {n x : ℕ} → numberOf (taskK orK) ≤ n → n < suc (numberOf (taskK xorK)) → x ≡ other → Handed n x 2
 handed-right {n} {x} h g f = in-range (λ n. Handed n x 2) (numberOf (taskK orK)) 2 (handed-as or-right refl (sym f) (omega arith) (λ z. omega arith), (handed-as xor-right refl (sym f) (omega arith) (λ z. omega arith), tt)) h g
 
+pub handed-gate : {n x : ℕ} → n ≡ numberOf (taskK gateK) → Handed n x 2
+handed-gate e = handed-as gate-on (sym e) refl (omega arith) (λ z. omega arith)
+
+-- a 50 hands on to its B
+pub gate-part : {n x k : ℕ} → HandsOn n x k → n ≡ numberOf (taskK gateK) → k ≡ 2
+gate-part if-true e = absurd (omega arith)
+gate-part if-false e = absurd (omega arith)
+gate-part let-bound e = absurd (omega arith)
+gate-part then-after e = absurd (omega arith)
+gate-part next-after e = absurd (omega arith)
+gate-part or-left e = absurd (omega arith)
+gate-part or-right e = absurd (omega arith)
+gate-part xor-left e = absurd (omega arith)
+gate-part xor-right e = absurd (omega arith)
+gate-part gate-on e = refl
+
 -- no form has this kind and tag
 pub handed-none : {n x : ℕ} → (x ≡ one → n ≡ numberOf (eitherK ifK) → ⊥) → (x ≡ one → n ≡ numberOf (eitherK letK) → ⊥) → (x ≡ one → numberOf (taskK thenK) ≤ n → n < numberOf (taskK failK) → ⊥) → (x ≡ one → numberOf (taskK orK) ≤ n → n < suc (numberOf (taskK xorK)) → ⊥)
-    → (x ≡ other → n ≡ numberOf (eitherK ifK) → ⊥) → (x ≡ other → numberOf (taskK orK) ≤ n → n < suc (numberOf (taskK xorK)) → ⊥) → Handed n x 0
-handed-none p q r s t u = record { low = omega arith; on = λ z. absurd (z refl); none = λ z m h. no h p q r s t u }
+    → (x ≡ other → n ≡ numberOf (eitherK ifK) → ⊥) → (x ≡ other → numberOf (taskK orK) ≤ n → n < suc (numberOf (taskK xorK)) → ⊥) → (n ≡ numberOf (taskK gateK) → ⊥) → Handed n x 0
+handed-none p q r s t u v = record { low = omega arith; on = λ z. absurd (z refl); none = λ z m h. no h p q r s t u v }
   where
     no : {n x m : ℕ} → HandsOn n x m → (x ≡ one → n ≡ numberOf (eitherK ifK) → ⊥) → (x ≡ one → n ≡ numberOf (eitherK letK) → ⊥) → (x ≡ one → numberOf (taskK thenK) ≤ n → n < numberOf (taskK failK) → ⊥) → (x ≡ one → numberOf (taskK orK) ≤ n → n < suc (numberOf (taskK xorK)) → ⊥)
-        → (x ≡ other → n ≡ numberOf (eitherK ifK) → ⊥) → (x ≡ other → numberOf (taskK orK) ≤ n → n < suc (numberOf (taskK xorK)) → ⊥) → ⊥
-    no if-true p q r s t u = p refl refl
-    no if-false p q r s t u = t refl refl
-    no let-bound p q r s t u = q refl refl
-    no then-after p q r s t u = r refl (omega arith) (omega arith)
-    no next-after p q r s t u = r refl (omega arith) (omega arith)
-    no or-left p q r s t u = s refl (omega arith) (omega arith)
-    no or-right p q r s t u = u refl (omega arith) (omega arith)
-    no xor-left p q r s t u = s refl (omega arith) (omega arith)
-    no xor-right p q r s t u = u refl (omega arith) (omega arith)
+        → (x ≡ other → n ≡ numberOf (eitherK ifK) → ⊥) → (x ≡ other → numberOf (taskK orK) ≤ n → n < suc (numberOf (taskK xorK)) → ⊥) → (n ≡ numberOf (taskK gateK) → ⊥) → ⊥
+    no if-true p q r s t u v = p refl refl
+    no if-false p q r s t u v = t refl refl
+    no let-bound p q r s t u v = q refl refl
+    no then-after p q r s t u v = r refl (omega arith) (omega arith)
+    no next-after p q r s t u v = r refl (omega arith) (omega arith)
+    no or-left p q r s t u v = s refl (omega arith) (omega arith)
+    no or-right p q r s t u v = u refl (omega arith) (omega arith)
+    no xor-left p q r s t u v = s refl (omega arith) (omega arith)
+    no xor-right p q r s t u v = u refl (omega arith) (omega arith)
+    no gate-on p q r s t u v = v refl
 
 -- ---- enclose
 
@@ -72,3 +89,9 @@ under-none {n = n} l p q = record { room = l; binds = λ z. absurd (no z); plain
     no (inl e) = p e
     no (inr (inl e)) = q (omega arith) (omega arith)
     no (inr (inr e)) = q (omega arith) (omega arith)
+
+-- a 50 binds nothing
+pub under-gate : {n : ℕ} → n ≡ numberOf (taskK gateK) → Binds n → ⊥
+under-gate e (inl h) = omega (arith, e, h)
+under-gate e (inr (inl h)) = omega (arith, e, h)
+under-gate e (inr (inr h)) = omega (arith, e, h)

@@ -1,5 +1,5 @@
 -- The view of a row that hands on: its task wraps a task of its part, and what the calculus' functions give of the one they give of
--- the other, under one more binder where the row binds. Nine forms, one record; and the laws of the engine's functions at such a
+-- the other, under one more binder where the row binds. Ten forms, one record; and the laws of the engine's functions at such a
 -- row. Rests on specs/Hands, and on the frames and sites of crate state.
 use mathlib.Core.Path.{_≡_, refl, sym, _∙_}
 use mathlib.Core.Logic.{inl, inr}
@@ -7,13 +7,13 @@ use mathlib.Core.Option.{Option, none, some}
 use mathlib.Core.List.{List, _∷_}
 use Prim.Native.Nat.{ℕ, _+_, _<_, _≤_}
 use native.Mathlib.Omega.{arith}
-use Rattle.tophat.specs.Syntax.{maxLeaves, Ty, leaves, Exp, Code, then, next, or, xor, if, let', Val, Env, Store}
-use Rattle.tophat.specs.Syntax.{TaskOf, before, after, either, orLeft, orRight, unpicked, pickedLeft, pickedRight, ifTrue, ifFalse, bound}
+use Rattle.tophat.specs.Syntax.{maxLeaves, Ty, leaves, Exp, Code, then, next, or, xor, gate, if, let', Val, Env, Store}
+use Rattle.tophat.specs.Syntax.{TaskOf, before, after, either, orLeft, orRight, unpicked, pickedLeft, pickedRight, gated, ifTrue, ifFalse, bound}
 use Rattle.tophat.specs.Typing.{ValueType, ValueTypes, v-cons, AllSmall, small-cons}
-use Rattle.tophat.specs.Typing.{TaskType, k-then-after, k-next-after, k-or-left, k-or-right, k-picked-left, k-picked-right, k-if-true, k-if-false, k-bound}
-use Rattle.tophat.specs.Normalising.{Became, b-then, b-next, b-or-left, b-or-right, b-xor-left, b-xor-right, b-if-true, b-if-false, b-let}
+use Rattle.tophat.specs.Typing.{TaskType, k-then-after, k-next-after, k-or-left, k-or-right, k-picked-left, k-picked-right, k-gated, k-if-true, k-if-false, k-bound}
+use Rattle.tophat.specs.Normalising.{Became, b-then, b-next, b-or-left, b-or-right, b-xor-left, b-xor-right, b-if-true, b-if-false, b-let, Wraps, w-became, w-gate}
 use Rattle.tophat.proofs.TypeLeaves.{type-leaves, task-type-leaves}
-use Rattle.rows.specs.Kinds.{eitherK, ifK, letK, taskK, thenK, nextK, orK, xorK, numberOf}
+use Rattle.rows.specs.Kinds.{eitherK, ifK, letK, taskK, thenK, nextK, orK, xorK, gateK, numberOf}
 use Rattle.rows.specs.Rows.{word}
 use Rattle.rows.specs.Enclosing.{maxBinders}
 use Rattle.value.specs.Values.{asValue}
@@ -21,9 +21,9 @@ use Rattle.state.specs.Layout.{at, one, other, valueWords}
 use Rattle.state.specs.Holds.{Tree, Sits, Row, Clear, Holds, Same, Ran}
 use Rattle.state.specs.Words.{valueAt}
 use Rattle.state.proofs.Words.{value-at}
-use Rattle.state.proofs.Frames.{same-weak, same-row, keeps, clear-kept, Reach, Kids, kids-then, kids-next, kids-or, kids-xor, kids-if, kid-let}
+use Rattle.state.proofs.Frames.{same-weak, same-row, keeps, clear-kept, Reach, Kids, kids-then, kids-next, kids-or, kids-xor, kids-if, kid-let, kid-gate}
 use Rattle.state.proofs.Sites.{on-code}
-use Rattle.running.specs.Hands.{HandsOn, if-true, if-false, let-bound, then-after, next-after, or-left, or-right, xor-left, xor-right, Binds}
+use Rattle.running.specs.Hands.{HandsOn, if-true, if-false, let-bound, then-after, next-after, or-left, or-right, xor-left, xor-right, gate-on, Binds}
 
 -- ---- around a part: the value that the row binds, if it binds one
 
@@ -83,9 +83,10 @@ pub record Hands (rs ws : List ℕ) (d i k : ℕ) (c : Code) (t : TaskOf c) : Ty
   pub holds : Holds rs ws (word rs i k) part task
   pub inner : {Σ Γ : List Ty} {τ : Ty} → TaskType Σ Γ c t τ → Inner ws i binder Σ Γ c part wrap task τ
   pub ran : {ws₁ : List ℕ} (u : TaskOf part) (s : Store) → Ran rs ws ws₁ (word rs i k) part u s → Ran rs ws ws₁ i c (wrap u) s
-  pub became : {ρ : Env} → Became c ρ part (inside binder ρ) wrap
+  pub wraps : {ρ : Env} → Wraps c ρ part (inside binder ρ) wrap
+  pub became : (word rs i 0 ≡ numberOf (taskK gateK) → ⊥) → {ρ : Env} → Became c ρ part (inside binder ρ) wrap
 
--- ---- its nine instances
+-- ---- its ten instances
 
 tag-of : {ws : List ℕ} {i x y : ℕ} {xs : List ℕ} → at ws i 0 ≡ x → Row ws i (y ∷ xs) → x ≡ y
 tag-of e r = sym e ∙ r .words 0 (omega arith)
@@ -118,7 +119,8 @@ then-hands {rs} {ws} {d} {i} a b e z (after v u) h = record {
   holds = h .2;
   inner = typed;
   ran = λ u s q. let k = kids-then rs d i a b z in let p = beside-right k (h .0) (h .1) (q .same) in record { holds = (p .0, p .1, q .holds); stores = q .stores; same = same-weak (k .upB) (q .same) };
-  became = b-then;
+  wraps = w-became b-then;
+  became = λ o. b-then;
 }
   where
     typed : {Σ Γ : List Ty} {τ : Ty} → TaskType Σ Γ (then a b) (after v u) τ → Inner ws i (some v) Σ Γ (then a b) b (after v) u τ
@@ -137,7 +139,8 @@ next-hands {rs} {ws} {d} {i} a b e z (after v u) h = record {
   holds = h .2;
   inner = typed;
   ran = λ u s q. let k = kids-next rs d i a b z in let p = beside-right k (h .0) (h .1) (q .same) in record { holds = (p .0, p .1, q .holds); stores = q .stores; same = same-weak (k .upB) (q .same) };
-  became = b-next;
+  wraps = w-became b-next;
+  became = λ o. b-next;
 }
   where
     typed : {Σ Γ : List Ty} {τ : Ty} → TaskType Σ Γ (next a b) (after v u) τ → Inner ws i (some v) Σ Γ (next a b) b (after v) u τ
@@ -157,7 +160,8 @@ or-left-hands {rs} {ws} {d} {i} a b e z (orLeft t) h = record {
   holds = h .1;
   inner = typed;
   ran = λ u s q. let k = kids-or rs d i a b z in let p = beside-left k (h .0) (h .2) (q .same) in record { holds = (p .0, q .holds, p .1); stores = q .stores; same = same-weak (k .upA) (q .same) };
-  became = b-or-left;
+  wraps = w-became b-or-left;
+  became = λ o. b-or-left;
 }
   where
     typed : {Σ Γ : List Ty} {τ : Ty} → TaskType Σ Γ (or a b) (orLeft t) τ → Inner ws i none Σ Γ (or a b) a orLeft t τ
@@ -177,7 +181,8 @@ or-right-hands {rs} {ws} {d} {i} a b e z (orRight u) h = record {
   holds = h .2;
   inner = typed;
   ran = λ u s q. let k = kids-or rs d i a b z in let p = beside-right k (h .0) (h .1) (q .same) in record { holds = (p .0, p .1, q .holds); stores = q .stores; same = same-weak (k .upB) (q .same) };
-  became = b-or-right;
+  wraps = w-became b-or-right;
+  became = λ o. b-or-right;
 }
   where
     typed : {Σ Γ : List Ty} {τ : Ty} → TaskType Σ Γ (or a b) (orRight u) τ → Inner ws i none Σ Γ (or a b) b orRight u τ
@@ -197,7 +202,8 @@ xor-left-hands {rs} {ws} {d} {i} a b e z (pickedLeft t) h = record {
   holds = h .1;
   inner = typed;
   ran = λ u s q. let k = kids-xor rs d i a b z in let p = beside-left k (h .0) (h .2) (q .same) in record { holds = (p .0, q .holds, p .1); stores = q .stores; same = same-weak (k .upA) (q .same) };
-  became = b-xor-left;
+  wraps = w-became b-xor-left;
+  became = λ o. b-xor-left;
 }
   where
     typed : {Σ Γ : List Ty} {τ : Ty} → TaskType Σ Γ (xor a b) (pickedLeft t) τ → Inner ws i none Σ Γ (xor a b) a pickedLeft t τ
@@ -217,7 +223,8 @@ xor-right-hands {rs} {ws} {d} {i} a b e z (pickedRight u) h = record {
   holds = h .2;
   inner = typed;
   ran = λ u s q. let k = kids-xor rs d i a b z in let p = beside-right k (h .0) (h .1) (q .same) in record { holds = (p .0, p .1, q .holds); stores = q .stores; same = same-weak (k .upB) (q .same) };
-  became = b-xor-right;
+  wraps = w-became b-xor-right;
+  became = λ o. b-xor-right;
 }
   where
     typed : {Σ Γ : List Ty} {τ : Ty} → TaskType Σ Γ (xor a b) (pickedRight u) τ → Inner ws i none Σ Γ (xor a b) b pickedRight u τ
@@ -236,7 +243,8 @@ if-true-hands {rs} {ws} {d} {i} x a b e z (ifTrue t) h = record {
   holds = h .1;
   inner = typed;
   ran = λ u s q. let k = kids-if rs d i x a b z in let p = beside-left k (h .0) (h .2) (q .same) in record { holds = (p .0, q .holds, p .1); stores = q .stores; same = same-weak (k .upA) (q .same) };
-  became = b-if-true;
+  wraps = w-became b-if-true;
+  became = λ o. b-if-true;
 }
   where
     typed : {Σ Γ : List Ty} {τ : Ty} → TaskType Σ Γ (if x a b) (ifTrue t) τ → Inner ws i none Σ Γ (if x a b) a ifTrue t τ
@@ -255,7 +263,8 @@ if-false-hands {rs} {ws} {d} {i} x a b e z (ifFalse u) h = record {
   holds = h .2;
   inner = typed;
   ran = λ u s q. let k = kids-if rs d i x a b z in let p = beside-right k (h .0) (h .1) (q .same) in record { holds = (p .0, p .1, q .holds); stores = q .stores; same = same-weak (k .upB) (q .same) };
-  became = b-if-false;
+  wraps = w-became b-if-false;
+  became = λ o. b-if-false;
 }
   where
     typed : {Σ Γ : List Ty} {τ : Ty} → TaskType Σ Γ (if x a b) (ifFalse u) τ → Inner ws i none Σ Γ (if x a b) b ifFalse u τ
@@ -273,11 +282,31 @@ let-hands {rs} {ws} {d} {i} x b e z (bound v u) h = record {
   holds = h .1;
   inner = typed;
   ran = λ u s q. let k = kid-let rs d i x b z in record { holds = (same-row (q .same) (k .out) (h .0), q .holds); stores = q .stores; same = same-weak (k .upB) (q .same) };
-  became = b-let;
+  wraps = w-became b-let;
+  became = λ o. b-let;
 }
   where
     typed : {Σ Γ : List Ty} {τ : Ty} → TaskType Σ Γ (let' x b) (bound v u) τ → Inner ws i (some v) Σ Γ (let' x b) b (bound v) u τ
     typed (k-bound d k f) = under-binder f (λ u₁ g. k-bound d k g) k (λ g h. type-leaves d g h) (h .0)
+
+gate-hands : {rs ws : List ℕ} {d i : ℕ} (r n : ℕ) (b : Code) → Sits rs d i (gate r n b) → (t : TaskOf (gate r n b)) → Holds rs ws i (gate r n b) t → Hands rs ws d i 2 (gate r n b) t
+gate-hands {rs} {ws} {d} {i} r n b z (gated m u) h = record {
+  part = b;
+  task = u;
+  wrap = gated m;
+  is = refl;
+  binder = none;
+  pushes = no-binder (z .0) (λ e. omega arith) (λ e. omega arith) (λ e. omega arith);
+  sits = z .3;
+  holds = h .1;
+  inner = typed;
+  ran = λ u s q. let k = kid-gate rs d i r n b z in record { holds = (same-row (q .same) (k .out) (h .0), q .holds); stores = q .stores; same = same-weak (k .upB) (q .same) };
+  wraps = w-gate;
+  became = λ o. absurd (o (z .0));
+}
+  where
+    typed : {Σ Γ : List Ty} {τ : Ty} → TaskType Σ Γ (gate r n b) (gated m u) τ → Inner ws i none Σ Γ (gate r n b) b (gated m) u τ
+    typed (k-gated l d) = plain d (λ u₁ g. k-gated l g)
 
 -- the view of any such row
 hands-by : (rs ws : List ℕ) (d i : ℕ) {n x k : ℕ} → HandsOn n x k → word rs i 0 ≡ n → at ws i 0 ≡ x → (c : Code) → Sits rs d i c → (t : TaskOf c) → Holds rs ws i c t → Hands rs ws d i k c t
@@ -290,6 +319,7 @@ hands-by rs ws d i or-left q e = on-code rs d i (taskK orK) _ q (λ a b z. or-le
 hands-by rs ws d i or-right q e = on-code rs d i (taskK orK) _ q (λ a b z. or-right-hands a b e z)
 hands-by rs ws d i xor-left q e = on-code rs d i (taskK xorK) _ q (λ a b z. xor-left-hands a b e z)
 hands-by rs ws d i xor-right q e = on-code rs d i (taskK xorK) _ q (λ a b z. xor-right-hands a b e z)
+hands-by rs ws d i gate-on q e = on-code rs d i (taskK gateK) _ q (λ r n b z. gate-hands r n b z)
 
 pub hands : (rs ws : List ℕ) (d i : ℕ) {k : ℕ} → HandsOn (word rs i 0) (at ws i 0) k → (c : Code) → Sits rs d i c → (t : TaskOf c) → Holds rs ws i c t → Hands rs ws d i k c t
 hands rs ws d i h = hands-by rs ws d i h refl refl

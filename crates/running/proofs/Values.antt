@@ -6,7 +6,7 @@ use mathlib.Core.Logic.{inl, inr}
 use mathlib.Core.Option.{Option, none, some}
 use mathlib.Core.List.{List}
 use Prim.Native.Nat.{ℕ, _+_, _≤_}
-use Rattle.tophat.specs.Syntax.{maxLeaves, Ty, pair, leaves, Code, edit, enter, update, then, next, fail, and, or, xor, view, if, let', Val, Store}
+use Rattle.tophat.specs.Syntax.{maxLeaves, Ty, pair, leaves, Code, edit, enter, update, then, next, fail, and, or, xor, view, gate, if, let', Val, Store}
 use Rattle.tophat.specs.Syntax.{TaskOf}
 use Rattle.tophat.specs.Normalising.{pairOf, firstOf, value}
 use Rattle.tophat.proofs.EvaluationAgrees.{look-up}
@@ -25,7 +25,7 @@ use Rattle.state.specs.Layout.{at, one}
 use Rattle.state.specs.Words.{valueAt}
 use Rattle.state.specs.Contracts.{ValueOk}
 use Rattle.state.proofs.Words.{value-at}
-use Rattle.running.proofs.Forms.{OfContent, on-filled, on-viewed, on-blank, on-entered, on-shared, on-then-before, on-next-before, on-both, on-either, on-unpicked, on-no-if, on-no-let}
+use Rattle.running.proofs.Forms.{OfContent, on-filled, on-viewed, on-blank, on-entered, on-shared, on-then-before, on-next-before, on-both, on-either, on-unpicked, on-no-if, on-no-let, on-no-gate}
 use Rattle.running.specs.Hands.{Unhanded}
 
 -- ---- values found or not
@@ -132,5 +132,6 @@ module _ (rs ws : List ℕ) (i : ℕ) where
   value-none u x₀ x₁ x₂ x₆ x₇ d (or a b) z Σ Γ τ s t y st gs gb h w = absurd (x₇ (z .0))
   value-none u x₀ x₁ x₂ x₆ x₇ d (xor a b) z Σ Γ τ s t y st gs gb h w = on-unpicked rs ws d i Σ Γ (Is noneFound s) u (z .0) (λ a b τ z h y e. refl) (xor a b) z τ t y h
   value-none u x₀ x₁ x₂ x₆ x₇ d (view e) z Σ Γ τ s t y st gs gb h w = absurd (x₀ (inr (z .0)))
+  value-none u x₀ x₁ x₂ x₆ x₇ d (gate r n b) z Σ Γ τ s t y st gs gb h w = on-no-gate rs ws d i Σ Γ (Is noneFound s) u (z .0) (gate r n b) z τ t y h
   value-none u x₀ x₁ x₂ x₆ x₇ d (if e a b) z Σ Γ τ s t y st gs gb h w = on-no-if rs ws d i Σ Γ (Is noneFound s) u (z .0) (if e a b) z τ t y h
   value-none u x₀ x₁ x₂ x₆ x₇ d (let' e b) z Σ Γ τ s t y st gs gb h w = on-no-let rs ws d i Σ Γ (Is noneFound s) u (z .0) (let' e b) z τ t y h

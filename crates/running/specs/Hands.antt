@@ -1,10 +1,10 @@
--- Rows that hand on: what has been taken, named or picked, and 25 and 31, are what the task below one operand is. Rests on the
--- layout's tags.
+-- Rows that hand on: what has been taken, named or picked, and 25 and 31, are what the task below one operand is, and so is 50 but for
+-- touches and what it shows. Rests on the layout's tags.
 use mathlib.Core.Path.{_≡_}
 use mathlib.Core.Logic.{_⊎_}
 use mathlib.Core.List.{List}
 use Prim.Native.Nat.{ℕ, _+_, _<_, _≤_}
-use Rattle.rows.specs.Kinds.{eitherK, ifK, letK, taskK, thenK, nextK, orK, xorK, numberOf}
+use Rattle.rows.specs.Kinds.{eitherK, ifK, letK, taskK, thenK, nextK, orK, xorK, gateK, numberOf}
 use Rattle.rows.specs.Rows.{rowWords, word}
 use Rattle.rows.specs.Enclosing.{maxBinders}
 use Rattle.state.specs.Layout.{at, one, other}
@@ -21,6 +21,7 @@ pub data HandsOn : ℕ → ℕ → ℕ → Type 0 where
   or-right : HandsOn (numberOf (taskK orK)) other 2
   xor-left : HandsOn (numberOf (taskK xorK)) one 1
   xor-right : HandsOn (numberOf (taskK xorK)) other 2
+  gate-on : {x : ℕ} → HandsOn (numberOf (taskK gateK)) x 2
 
 -- row i hands on to no operand
 abbrev pub Unhanded : List ℕ → List ℕ → ℕ → Type 0

@@ -4,6 +4,7 @@ use eval::eval;
 use rows::MAX_BINDERS;
 use rows::ROWS_WORDS;
 use rows::get;
+use rows::kinds::GATE;
 use rows::operand;
 use state::ENV_WORDS;
 use state::ONE;
@@ -12,6 +13,7 @@ use state::OWN;
 use state::STATE_SIZE;
 use state::push;
 use state::put_tag;
+use state::put_touches;
 use state::put_value;
 use state::read;
 use state::read_value;
@@ -36,6 +38,9 @@ pub fn handed_on(rows: &[u32; ROWS_WORDS], state: &[u32; STATE_SIZE], row: usize
 {
     let kind = get(rows, row, 0);
     let tag = read(state, row, 0);
+    if kind == GATE {
+        return 2;
+    }
     match tag {
         ONE => match kind {
             25 | 31 | 43..=44 => 2,
@@ -185,6 +190,10 @@ pub fn evaluate(
             let right = evaluate(rows, state, b, env, depth);
             put_tag(state, row, OWN);
             left | right
+        }
+        50 => {
+            put_touches(state, row, get(rows, row, 3));
+            evaluate(rows, state, operand(rows, row, 2), env, depth)
         }
         _ => {
             put_tag(state, row, OWN);

@@ -25,10 +25,10 @@ p1to4-sheet =
 
 abbrev p1to4-touches : List String
 p1to4-touches =
-    "                 1                                                                                                " ∷
-    "                 1          12                                                                                    " ∷
-    "                 1           4           0                       0                       0                       0" ∷
-    "                 2                                                                                                " ∷
+    " 1                 1                                                                                                " ∷
+    " 1                 1          12                                                                                    " ∷
+    " 1                 1           4           0                       0                       0                       0" ∷
+    " 1                 2                                                                                                " ∷
     []
 
 abbrev p1to4-screens : List String
@@ -63,13 +63,13 @@ parts-sheet =
 
 abbrev parts-touches : List String
 parts-touches =
-    "               1 1                       0           0           0           0           0           0           0" ∷
-    "               1 1           0                                                                                    " ∷
-    "               2 1           5                       0           0           0           0           0           0" ∷
-    "               2 1           5           1                                                                        " ∷
-    "                                                                                                                  " ∷
-    "                 2                                   7                                                            " ∷
-    "                 2           0                                   0                       0                       0" ∷
+    " 1               1 1                       0           0           0           0           0           0           0" ∷
+    " 1               1 1           0                                                                                    " ∷
+    " 1               2 1           5                       0           0           0           0           0           0" ∷
+    " 1               2 1           5           1                                                                        " ∷
+    " 1                                                                                                                  " ∷
+    " 1                 2                                   7                                                            " ∷
+    " 1                 2           0                                   0                       0                       0" ∷
     []
 
 abbrev parts-screens : List String

@@ -12,9 +12,11 @@ use lib.IntN.{ℤ}
 use lib.ListN.{length}
 use Rattle.decimal.specs.Path.{Path}
 use Rattle.tophat.specs.Syntax.{Ty, Code, TaskOf, Store}
+use Rattle.tophat.specs.Roles.{otherRole, noTouch, ofRole, touchesLeft, verdict}
 use Rattle.tophat.specs.Handling.{Action}
 use Rattle.tophat.proofs.ComputeEvaluation.{overflowsTask}
 use Rattle.tophat.proofs.ComputeNormalising.{stride}
+use Rattle.tophat.proofs.ComputeHandling.{Taken}
 use Rattle.formats.specs.Lines.{lineBytes}
 use Rattle.formats.specs.Touches.{eventOf}
 use Rattle.rows.specs.GroundNumbers.{notState}
@@ -27,7 +29,7 @@ use Rattle.sheet.proofs.AcceptedRows.{passed-of}
 use Rattle.state.specs.Layout.{stateWords, encodeFailed}
 use Rattle.state.specs.Lent.{ownOf}
 use Rattle.state.specs.Reading.{same}
-use Rattle.call_definitions.specs.Memory.{CallAnswer}
+use Rattle.call_definitions.specs.Memory.{CallAnswer, refusal}
 use Rattle.call_definitions.specs.States.{FlowState, failedState}
 use Rattle.call_definitions.specs.Answers.{LoadAnswers, load-1, load-21, load-2, load-rows, load-0}
 use Rattle.call_definitions.specs.Calls as calls
@@ -125,17 +127,22 @@ opened-low rows ws fits =
     either LowGround (acceptsRows rows) _ _
     (either LowGround (eqb (length ws) (rowCount rows * stateWords) && fits) _ _ (read-low rows ws (calls.codeOf rows)) (omega arith)) (omega arith)
 
-handled-low : (rows ws : List ℤ) (c : Code) (o : Option (TaskOf c × Store)) → Low (calls.handled rows ws c o)
-unfolding calls.handled
-handled-low rows ws c none = omega arith
-handled-low rows ws c (some r) = omega arith
+handled-low : (rows ws : List ℤ) (c : Code) (role : ℕ) (o : Option (Taken (TaskOf c))) → Low (calls.handled rows ws c role o)
+unfolding calls.handled calls.settled verdict
+handled-low rows ws c role none = omega arith
+handled-low rows ws c role (some r) = by (ofRole role (r .2)) (touchesLeft (r .2))
+  where
+    by : (a b : Bool) → let v = cond a (cond b 0 noTouch) otherRole in Low (cond (eqb v 0) (calls.settled rows c (r .0) (r .1)) (refusal v ws))
+    by true true = omega arith
+    by true false = omega arith
+    by false b = omega arith
 
-read-event-low : (rows ws : List ℤ) (z : FlowState) (o : Option (Path × Action)) → Low (calls.handleRead rows ws z o)
+read-event-low : (rows ws : List ℤ) (z : FlowState) (o : Option (ℕ × Path × Action)) → Low (calls.handleRead rows ws z o)
 unfolding calls.handleRead
 read-event-low rows ws z none = omega arith
-read-event-low rows ws z (some e) = handled-low rows ws (z .code) _
+read-event-low rows ws z (some e) = handled-low rows ws (z .code) (e .0) _
 
-handle-in-low : (rows ws : List ℤ) (e : Option (Path × Action)) (o : calls.Opened) → LowGround o → Low (calls.handleIn rows ws e o)
+handle-in-low : (rows ws : List ℤ) (e : Option (ℕ × Path × Action)) (o : calls.Opened) → LowGround o → Low (calls.handleIn rows ws e o)
 unfolding calls.handleIn
 handle-in-low rows ws e (calls.refusedBy g) l = l
 handle-in-low rows ws e (calls.restOf z) l = read-event-low rows ws z e

@@ -8,3 +8,4 @@ mod Cases
 mod ShownCases
 mod BlankCases
 mod WideCases
+mod RoleCases

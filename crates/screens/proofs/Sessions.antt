@@ -18,6 +18,7 @@ use Rattle.tophat.specs.Syntax as syntax
 use Rattle.tophat.specs.Normalising as normalising
 use Rattle.tophat.specs.Typing as typing
 use Rattle.tophat.specs.Leaves as leaves
+use Rattle.tophat.specs.Roles as roles
 use Rattle.tophat.specs.Showing as showing
 use Rattle.tophat.proofs.ComputeTyping as computeTyping
 use Rattle.tophat.proofs.ComputeEvaluation as computeEvaluation
@@ -50,7 +51,7 @@ use Rattle.screens.specs.Heads as heads
 use Rattle.screens.specs.Screens as screens
 use Rattle.rows.specs.Rows.{rowWords}
 use Rattle.state.specs.Layout.{stateWords}
-use Rattle.screens.specs.Screens.{Begins, begins, touched}
+use Rattle.screens.specs.Screens.{Begins, roleOf, begins, touched}
 
 -- the bytes of a text, and of lines
 unfoldable pub bytesFrom : ℕ → ℕ → String → List ℕ
@@ -82,13 +83,13 @@ unfolding
     decLe option.bind word.isWord tabulate.tabulate field.digits field.text field.justified field.trimmed field.counted field.numeral
     field.readsAt field.putAt paths.marksText paths.pathText paths.marks paths.pathIn paths.readsPathAt paths.pathNumber paths.marksFrom syntax.leaves
     syntax.moves syntax.taskRows normalising.pairOf normalising.firstOf normalising.value typing.typeOf leaves.leavesOf leaves.padded leaves.leafKinds
-    leaves.meetsLeaf leaves.meets leaves.valueOf leaves.numberGiven leaves.given showing.marked showing.offers showing.buttonIf computeTyping.ask computeTyping.nth
+    leaves.meetsLeaf leaves.meets leaves.valueOf leaves.numberGiven leaves.given showing.marked showing.offers showing.buttonIf showing.entriesIf computeTyping.ask computeTyping.nth
     computeTyping.takes computeTyping.gives computeTyping.numberTo computeTyping.opTo computeTyping.sameTo computeTyping.ifTo computeTyping.typeTo
     computeTyping.firstTo computeTyping.secondTo computeTyping.assignTo computeTyping.infer computeTyping.inferTask computeEvaluation.leaf
     computeEvaluation.isTrue computeEvaluation.kept computeEvaluation.exact computeEvaluation.exceeds computeEvaluation.apply computeEvaluation.firstPart computeEvaluation.secondPart computeEvaluation.branch
     computeEvaluation.eval computeEvaluation.overflows computeEvaluation.evaluate computeEvaluation.overflowsTask computeNormalising.unlessStill computeNormalising.strides computeNormalising.goOn
     computeNormalising.goOnWith computeNormalising.chooseRight computeNormalising.chooseLeft computeNormalising.failing computeNormalising.stride
-    computeNormalising.normalise computeNormalising.settle computeNormalising.remaining computeHandling.mapTask computeHandling.thenSome
+    computeNormalising.normalise computeNormalising.settle computeNormalising.remaining computeHandling.mapTask computeHandling.passGate computeHandling.thenSome
     computeHandling.atEditor computeHandling.atMark computeHandling.atSides computeHandling.atContinue computeHandling.unlessFailing
     computeHandling.handle computeEntries.continueIf computeEntries.entries kinds.kindOf kinds.asksOf kinds.isUnused kinds.unusedBy rows.every rows.listedAs rows.listed
     rows.truthCell rows.rowListed rows.sortBy rows.sorts rows.sortNumber rows.sortedAs rows.sorted rows.rowSorted rows.names rows.namesBy rows.namesIn
@@ -98,13 +99,13 @@ unfolding
     ground.passes6 ground.flowType ground.isSome ground.passes7 ground.groundOfRows groundsAccepted.groundOfForm groundsAccepted.acceptedRows
     sheet.sized sheet.leaving sheet.loadedLines sheet.loaded sheetAccepted.acceptsRows shape.put shape.asShape shape.maybeShape shape.leafOf
     shape.front shape.asType shape.pairShape shape.firstShape shape.secondShape shape.leavesIn shape.shapeLeaves shape.kindsIn shape.kindsOf
-    layout.valueWords layout.putWords layout.writeTask layout.writeCells layout.encode layout.encodeFailed lent.ownOf lent.lentOf reading.readValue reading.byTag
+    layout.valueWords layout.putWords layout.writeTask layout.writeCells layout.encode layout.encodeFailed lent.ownOf lent.lentOf reading.readValue reading.readTouches reading.byTag
     reading.readTask reading.readStore reading.same reading.decode values.leafBits values.asValue found.asFound fits.valueIn fits.valueFor
     records.isRecord records.fieldsAt records.numberSaid records.each records.textOf records.itemsText records.putItems records.leavesRead lines.meant lines.meantAll lines.kindWord lines.afterRow
-    lines.lineSays lines.linesSay touching.numbered touching.touchIn touching.leafSaid touching.isNothing touching.allNothing touching.allowed touching.eventSays touching.actionOf
+    lines.lineSays lines.linesSay touching.numbered touching.touchIn roles.isRole roles.ofRole roles.touchesLeft roles.verdict roles.opens touching.roleSaid touching.leafSaid touching.isNothing touching.allNothing touching.allowed touching.eventSays touching.actionOf
     touching.eventOf touching.unlessBlank touching.entrySays lists.offerAct lists.offerKinds lists.entryText lists.listText lists.under
     memories.stateOf memories.failedOf memories.valueMemory memories.hasOne calls.startWith calls.startCall calls.atRest calls.failedAs calls.decoded calls.readWith calls.opened
-    calls.handled calls.handleRead calls.handleIn calls.handleCall calls.lookIn calls.lookCall heads.headOver screens.shownAfter screens.loadedCounted
+    calls.settled calls.handled calls.handleRead calls.handleIn calls.handleCall calls.lookRest calls.lookIn calls.lookCall heads.headOver screens.orStart screens.roleOf screens.shownAfter screens.loadedCounted
     screens.begins screens.touched
 session sheet events = let b = beginning sheet in b .screen .text ++ touches (b .rows) (b .state) events
 
@@ -112,6 +113,12 @@ session sheet events = let b = beginning sheet in b .screen .text ++ touches (b 
 unfoldable pub started : List String → List ℤ
 unfolding session text
 started sheet = beginning sheet .state
+
+-- the roles that it looks in after each touch
+unfoldable pub looksIn : List String → List ℕ
+unfolding session text
+looksIn [] = []
+looksIn (e ∷ es) = roleOf (text (e ∷ [])) ∷ looksIn es
 
 unfoldable pub same : List ℕ → List ℕ → Bool
 same [] [] = true

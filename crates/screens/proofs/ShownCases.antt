@@ -18,7 +18,7 @@ quiet-both-sheet =
 
 abbrev quiet-both-touches : List String
 quiet-both-touches =
-    "               1 1           7           0           0           0           0           0           0           0" ∷
+    " 1               1 1           7           0           0           0           0           0           0           0" ∷
     []
 
 abbrev quiet-both-screens : List String
@@ -39,7 +39,7 @@ quiet-next-sheet =
 
 abbrev quiet-next-touches : List String
 quiet-next-touches =
-    "               0 2           0           0           0           0           0           0           0           0" ∷
+    " 1               0 2           0           0           0           0           0           0           0           0" ∷
     []
 
 abbrev quiet-next-screens : List String
@@ -65,10 +65,10 @@ total-sheet =
 
 abbrev total-touches : List String
 total-touches =
-    "               0 1           3           0           0           0           0           0           0           0" ∷
-    "               0 1           1           0           0           0           0           0           0           0" ∷
-    "               0 2           0           0           0           0           0           0           0           0" ∷
-    "               0 1           1           0           0           0           0           0           0           0" ∷
+    " 1               0 1           3           0           0           0           0           0           0           0" ∷
+    " 1               0 1           1           0           0           0           0           0           0           0" ∷
+    " 1               0 2           0           0           0           0           0           0           0           0" ∷
+    " 1               0 1           1           0           0           0           0           0           0           0" ∷
     []
 
 abbrev total-screens : List String

@@ -18,14 +18,14 @@ use Rattle.screens.proofs.Sessions.{started, agree}
 
 -- ---- the figures
 
--- "Values are 8 words, events 115 bytes, entries 35, head lines 112 and byte 10. State memory keeps 16 words a row." What follows from them: a value
--- has a word more in a state, for its shape, whose digits are at most 15; and a screen is a head line and at most 256 entries
+-- "Values are 8 words, .. entries 35, head lines 112 and byte 10. State memory keeps 16 words a row." CR 6: events "are 117 bytes". What follows
+-- from them: a value has a word more in a state, for its shape, whose digits are at most 15; and a screen is a head line and at most 256 entries
 figures : (maxLeaves ∷ eventBytes ∷ entryBytes ∷ headBytes ∷ stateWords ∷ valueLength ∷ maxDigits ∷ screenBytes ∷ [])
-    ≡ (8 ∷ 115 ∷ 35 ∷ 113 ∷ 16 ∷ 9 ∷ 15 ∷ 9073 ∷ [])
+    ≡ (8 ∷ 117 ∷ 35 ∷ 113 ∷ 16 ∷ 9 ∷ 15 ∷ 9073 ∷ [])
 figures = refl
 
 -- ---- an editor of 8 leaves of all kinds, then one with its halves exchanged. Leaf 8 left blank is refused, and so is a unit that is not 0; all
--- 8 are taken, and the step passes them on; then leaf 8 alone is changed; then an event of four leaves, 67 bytes, cannot be read
+-- 8 are taken, and the step passes them on; then leaf 8 alone is changed; then an event of four leaves, 69 bytes, cannot be read
 abbrev eight-sheet : List String
 eight-sheet =
     "   0   1                                    " ∷
@@ -47,11 +47,11 @@ eight-sheet =
 
 abbrev eight-touches : List String
 eight-touches =
-    "               0 1          11           1           0          14          15           0           0            " ∷
-    "               0 1          11           1           0          14          15           0           5          18" ∷
-    "               0 1          11           1           0          14          15           0           0         -18" ∷
-    "               0 1           0           0           0           0           0           0           0           8" ∷
-    "               0 1           0           0           0           0" ∷
+    " 1               0 1          11           1           0          14          15           0           0            " ∷
+    " 1               0 1          11           1           0          14          15           0           5          18" ∷
+    " 1               0 1          11           1           0          14          15           0           0         -18" ∷
+    " 1               0 1           0           0           0           0           0           0           0           8" ∷
+    " 1               0 1           0           0           0           0" ∷
     []
 
 abbrev eight-screens : List String
@@ -93,10 +93,10 @@ order-sheet =
 
 abbrev order-touches : List String
 order-touches =
-    "               0 1           2           1           3           1           4           5           6           1" ∷
-    "               0 1           2           1           3           1           4           5           6            " ∷
-    "               0 2           0           0           0           0           0           0           0           7" ∷
-    "               0 2           0           0           0           0           0           0           0           0" ∷
+    " 1               0 1           2           1           3           1           4           5           6           1" ∷
+    " 1               0 1           2           1           3           1           4           5           6            " ∷
+    " 1               0 2           0           0           0           0           0           0           0           7" ∷
+    " 1               0 2           0           0           0           0           0           0           0           0" ∷
     []
 
 abbrev order-screens : List String

@@ -2,6 +2,7 @@
 -- that is lent for it. Rests on the definitions of the calls (crates sheet and call_definitions) and on Heads.
 use mathlib.Core.Path.{_≡_}
 use mathlib.Core.Bool.{Bool, true, false, cond}
+use mathlib.Core.Option.{Option, none, some}
 use mathlib.Core.List.{List, _++_, map}
 use Prim.Native.Nat.{ℕ, zero, suc, _+_, _*_, _/_, _≤_}
 use lib.Dec.{eqb}
@@ -13,7 +14,7 @@ use Rattle.tophat.specs.Syntax.{maxLeaves}
 use Rattle.rows.specs.Rows.{maxRows}
 use Rattle.rows.specs.GroundNumbers.{notSized}
 use Rattle.formats.specs.Lines.{lineBytes}
-use Rattle.formats.specs.Touches.{entryBytes}
+use Rattle.formats.specs.Touches.{eventBytes, entryBytes, eventRole}
 use Rattle.formats.specs.Heads.{headBytes}
 use Rattle.sheet.specs.Sheet.{loaded}
 use Rattle.call_definitions.specs.Memory.{CallAnswer, LookAnswer}
@@ -21,6 +22,22 @@ use Rattle.call_definitions.specs.Calls.{startCall, lookCall, handleCall}
 use Rattle.screens.specs.declared.head.Head.{Head}
 use Rattle.screens.specs.declared.turn.Begun.{Begun}
 use Rattle.screens.specs.Heads.{headOver, headText}
+
+-- ---- the role of a look (CR 6: "The session program looks in the event's role, and in role 1 at the start or after a bad role or short
+-- event")
+
+abbrev pub startRole : ℕ
+startRole = 1
+
+unfoldable pub orStart : Option ℕ → ℕ
+orStart none = startRole
+orStart (some role) = role
+
+-- after an event: its role where it has all its bytes and its role's columns say 1 to 8, whatever else is wrong with it
+unfoldable pub roleOf : List ℕ → ℕ
+roleOf event = cond (eqb (length event) eventBytes) (orStart (eventRole event)) startRole
+
+-- ---- screens
 
 -- a head line, and one entry a row
 abbrev pub screenBytes : ℕ
@@ -58,8 +75,9 @@ shownWith answer strides out l = record {
   memory = headOver (take headBytes out ++ l .list) (headOf answer strides l);
 }
 
-unfoldable pub shownAfter : List ℤ → List ℤ → ℕ → ℕ → List ℕ → Screen
-shownAfter rows ws answer strides out = shownWith answer strides out (lookCall rows ws (replicate maxLeaves (pos 0)) (drop headBytes out))
+-- the look is in this role (CR 6)
+unfoldable pub shownAfter : List ℤ → List ℤ → ℕ → ℕ → ℕ → List ℕ → Screen
+shownAfter rows ws role answer strides out = shownWith answer strides out (lookCall rows ws role (replicate maxLeaves (pos 0)) (drop headBytes out))
 
 -- the code's answer and memory: those of the screen, which is a front of the memory
 pub record Drawn (a : Screen) (n : ℕ) (out : List ℕ) : Type 0 where
@@ -82,7 +100,7 @@ pub record Begins : Type 0 where
   pub screen : Screen
 
 abbrev pub startedBy : ℕ → List ℤ → List ℕ → CallAnswer → Begins
-startedBy zero rows out a = record { started = true; rows = rows; state = a .state; screen = shownAfter rows (a .state) (a .number) (a .strides) out }
+startedBy zero rows out a = record { started = true; rows = rows; state = a .state; screen = shownAfter rows (a .state) startRole (a .number) (a .strides) out }
 startedBy (suc g) rows out a = record { started = false; rows = rows; state = a .state; screen = refusedScreen (suc g) out }
 
 abbrev pub begunBy : ℕ → List ℤ → List ℤ → List ℕ → Begins
@@ -102,4 +120,4 @@ pub record Beginning (a : Begins) (r : Begun) (rs ws : List ℤ) (out : List ℕ
 -- ---- an event: the state it leaves, and the screen
 
 unfoldable pub touched : List ℤ → List ℤ → List ℕ → List ℕ → List ℤ × Screen
-touched rows ws event out = let a = handleCall rows ws event in (a .state, shownAfter rows (a .state) (a .number) (a .strides) out)
+touched rows ws event out = let a = handleCall rows ws event in (a .state, shownAfter rows (a .state) (roleOf event) (a .number) (a .strides) out)

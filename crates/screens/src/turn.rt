@@ -4,7 +4,7 @@ ghost use mathlib.Core.Bool.{false};
 ghost use Prim.Native.Nat.{_<_};
 ghost use lib.ListN.{length};
 ghost use Rattle.screens.specs.Heads.{fourDigits};
-ghost use Rattle.screens.specs.Screens.{screenBytes, Drawn, Beginning, refusedScreen, loadedCounted, shownAfter, begins, touched};
+ghost use Rattle.screens.specs.Screens.{screenBytes, Drawn, Beginning, refusedScreen, roleOf, loadedCounted, shownAfter, begins, touched};
 use super::head;
 use super::head::Head;
 use entries::LIST_BYTES;
@@ -12,8 +12,10 @@ use flow::look::fill;
 use flow::start::start;
 use flow::touch::handle;
 use formats::ENTRY_BYTES;
+use formats::EVENT_BYTES;
 use formats::HEAD_BYTES;
 use formats::LINE_BYTES;
+use formats::read_role;
 use rows::grounds::NOT_SIZED;
 use sheet::load;
 use tophat::MAX_LEAVES;
@@ -22,19 +24,36 @@ use word::copy_in;
 // A head line, and as many entries as a task can show.
 pub const SCREEN_BYTES: usize = HEAD_BYTES + LIST_BYTES;
 
+// The role that is looked in at the start, and after an event that is short or has no role (CR 6).
+const START_ROLE: u32 = 1;
+
 // Whether the flow was started, and how many bytes its first screen is.
 pub struct Begun {
     pub started: bool,
     pub bytes: usize,
 }
 
-// The screen after an answer: its head line, and the entries after it.
-fn show(rows: &[i32], state: &[i32], answer: u32, strides: u32, out: &mut [u8]) -> usize
+// The role that is looked in after an event.
+fn role_of(event: &[u8]) -> u32
+    ensures { λ r. ⌜ r ≡ roleOf (now (event .entry)) ⌝ }
+{
+    if event.len() != EVENT_BYTES {
+        return START_ROLE;
+    }
+    let role = read_role(event);
+    if role == 0 {
+        return START_ROLE;
+    }
+    role
+}
+
+// The screen after an answer, in a role: its head line, and the entries after it.
+fn show(rows: &[i32], state: &[i32], role: u32, answer: u32, strides: u32, out: &mut [u8]) -> usize
     requires { ⌜ (length (now out) ≡ screenBytes) × (answer < fourDigits) × (strides < fourDigits) ⌝ }
-    ensures { λ r. ⌜ Drawn (shownAfter (now (rows .entry)) (now (state .entry)) answer strides (now (out .entry))) r (now (out .exit)) ⌝ }
+    ensures { λ r. ⌜ Drawn (shownAfter (now (rows .entry)) (now (state .entry)) role answer strides (now (out .entry))) r (now (out .exit)) ⌝ }
 {
     let mut value = [0i32; MAX_LEAVES];
-    let seen = fill(rows, state, &mut value, &mut out[HEAD_BYTES..]);
+    let seen = fill(rows, state, role, &mut value, &mut out[HEAD_BYTES..]);
     let mut leaves = [0u32; MAX_LEAVES];
     copy_in(&value, &mut leaves);
     let bytes = seen.bytes;
@@ -102,18 +121,19 @@ pub fn begin(
     if a.number != 0 {
         return refuse(a.number, out);
     }
-    let bytes = show(rows, state, a.number, a.strides, out);
+    let bytes = show(rows, state, START_ROLE, a.number, a.strides, out);
     Begun {
         started: true,
         bytes: bytes,
     }
 }
 
-// Hands an event to the flow and puts the next screen over the front of `out`; how many bytes it is.
+// Hands an event to the flow and puts the next screen, in the event's role, over the front of `out`; how many bytes it is.
 pub fn touch(rows: &[i32], state: &mut [i32], event: &[u8], out: &mut [u8; SCREEN_BYTES]) -> usize
     ensures { λ _. ⌜ now (state .exit) ≡ touched (now (rows .entry)) (now (state .entry)) (now (event .entry)) (now (out .entry)) .0 ⌝ }
     ensures { λ r. ⌜ Drawn (touched (now (rows .entry)) (now (state .entry)) (now (event .entry)) (now (out .entry)) .1) r (now (out .exit)) ⌝ }
 {
     let a = handle(rows, state, event);
-    show(rows, state, a.number, a.strides, out)
+    let role = role_of(event);
+    show(rows, state, role, a.number, a.strides, out)
 }

@@ -5,8 +5,8 @@ use mathlib.Core.Logic.{inl, inr, ⊎-elim}
 use mathlib.Core.List.{List, []}
 use Prim.Native.Nat.{ℕ, _+_, _≤_}
 use native.Mathlib.Omega.{arith}
-use Rattle.tophat.specs.Syntax.{edit, enter, update, then, next, fail, and, or, xor, view, if, let'}
-use Rattle.rows.specs.Kinds.{eitherK, ifK, letK, taskK, thenK, failK, xorK, numberOf}
+use Rattle.tophat.specs.Syntax.{edit, enter, update, then, next, fail, and, or, xor, view, gate, if, let'}
+use Rattle.rows.specs.Kinds.{eitherK, ifK, letK, taskK, thenK, failK, xorK, gateK, numberOf}
 use Rattle.rows.specs.Rows.{word, OfKind, FromKind, UpToKind}
 use Rattle.state.specs.Holds.{Tree, leaf, under, fork, treeOf, Foot, Off, Split, Row, Clear, Same}
 use Rattle.state.specs.Words.{Laid}
@@ -61,6 +61,7 @@ module _ (rs : List ℕ) (i : ℕ) where
   clear-fork {ws} {ws₁} {ws₂} k q m n o ea eb ha hb p d (or a b) s = cleared-fork rs i 1 (treeOf a) 2 (treeOf b) (s .3) (at-operand rs ws ws₁ ea ha d a (s .1)) (at-operand rs ws₁ ws₂ eb hb d b (s .2)) p
   clear-fork {ws} {ws₁} {ws₂} k q m n o ea eb ha hb p d (xor a b) s = cleared-fork rs i 1 (treeOf a) 2 (treeOf b) (s .3) (at-operand rs ws ws₁ ea ha d a (s .1)) (at-operand rs ws₁ ws₂ eb hb d b (s .2)) p
   clear-fork {ws} {ws₁} {ws₂} k q m n o ea eb ha hb p d (view e) s = absurd (let z = s .0 in omega arith)
+  clear-fork {ws} {ws₁} {ws₂} k q m n o ea eb ha hb p d (gate r t b) s = absurd (let z = s .0 in omega arith)
   clear-fork {ws} {ws₁} {ws₂} k q m n o ea eb ha hb p d (if e a b) s = absurd (let z = s .0 in omega arith)
   clear-fork {ws} {ws₁} {ws₂} k q m n o ea eb ha hb p d (let' e b) s = absurd (let z = s .0 in omega arith)
 
@@ -76,17 +77,23 @@ module _ (rs : List ℕ) (i : ℕ) where
   clear-let {ws} {ws₁} {ws₂} q eb hb p d =
       on-code rs d i (eitherK letK) (λ c. Cleared rs ws ws₂ i (treeOf c)) q (λ e b s. cleared-under rs i 2 (treeOf b) (s .3) (at-operand rs ws ws₁ eb hb (d + 1) b (s .2)) p)
 
+  -- 50
+  pub clear-gate : {ws ws₁ ws₂ : List ℕ} {b : ℕ} → OfKind rs i (taskK gateK) → b ≡ word rs i 2 → ClearOk rs ws ws₁ b → Laid ws₁ ws₂ i [] → ClearOk rs ws ws₂ i
+  clear-gate {ws} {ws₁} {ws₂} q eb hb p d =
+      on-code rs d i (taskK gateK) (λ c. Cleared rs ws ws₂ i (treeOf c)) q (λ r n b s. cleared-under rs i 2 (treeOf b) (s .4) (at-operand rs ws ws₁ eb hb d b (s .3)) p)
+
   -- any other
-  pub clear-leaf : {ws ws₁ : List ℕ} → (OfKind rs i (eitherK ifK) → ⊥) → (OfKind rs i (eitherK letK) → ⊥) → (FromKind rs i (taskK thenK) → UpToKind rs i (taskK xorK) → (OfKind rs i (taskK failK) → ⊥) → ⊥) → Laid ws ws₁ i [] → ClearOk rs ws ws₁ i
-  clear-leaf x y z p d (edit e) s = cleared-leaf rs i p
-  clear-leaf x y z p d (enter τ) s = cleared-leaf rs i p
-  clear-leaf x y z p d (update u) s = cleared-leaf rs i p
-  clear-leaf x y z p d (then a b) s = let q = s .0 in absurd (z (omega arith) (omega arith) (λ w. omega arith))
-  clear-leaf x y z p d (next a b) s = let q = s .0 in absurd (z (omega arith) (omega arith) (λ w. omega arith))
-  clear-leaf x y z p d (fail τ) s = cleared-leaf rs i p
-  clear-leaf x y z p d (and a b) s = let q = s .0 in absurd (z (omega arith) (omega arith) (λ w. omega arith))
-  clear-leaf x y z p d (or a b) s = let q = s .0 in absurd (z (omega arith) (omega arith) (λ w. omega arith))
-  clear-leaf x y z p d (xor a b) s = let q = s .0 in absurd (z (omega arith) (omega arith) (λ w. omega arith))
-  clear-leaf x y z p d (view e) s = cleared-leaf rs i p
-  clear-leaf x y z p d (if e a b) s = absurd (x (s .0))
-  clear-leaf x y z p d (let' e b) s = absurd (y (s .0))
+  pub clear-leaf : {ws ws₁ : List ℕ} → (OfKind rs i (eitherK ifK) → ⊥) → (OfKind rs i (eitherK letK) → ⊥) → (OfKind rs i (taskK gateK) → ⊥) → (FromKind rs i (taskK thenK) → UpToKind rs i (taskK xorK) → (OfKind rs i (taskK failK) → ⊥) → ⊥) → Laid ws ws₁ i [] → ClearOk rs ws ws₁ i
+  clear-leaf x y w z p d (edit e) s = cleared-leaf rs i p
+  clear-leaf x y w z p d (enter τ) s = cleared-leaf rs i p
+  clear-leaf x y w z p d (update u) s = cleared-leaf rs i p
+  clear-leaf x y w z p d (then a b) s = let q = s .0 in absurd (z (omega arith) (omega arith) (λ e. omega arith))
+  clear-leaf x y w z p d (next a b) s = let q = s .0 in absurd (z (omega arith) (omega arith) (λ e. omega arith))
+  clear-leaf x y w z p d (fail τ) s = cleared-leaf rs i p
+  clear-leaf x y w z p d (and a b) s = let q = s .0 in absurd (z (omega arith) (omega arith) (λ e. omega arith))
+  clear-leaf x y w z p d (or a b) s = let q = s .0 in absurd (z (omega arith) (omega arith) (λ e. omega arith))
+  clear-leaf x y w z p d (xor a b) s = let q = s .0 in absurd (z (omega arith) (omega arith) (λ e. omega arith))
+  clear-leaf x y w z p d (view e) s = cleared-leaf rs i p
+  clear-leaf x y w z p d (gate r n b) s = absurd (w (s .0))
+  clear-leaf x y w z p d (if e a b) s = absurd (x (s .0))
+  clear-leaf x y w z p d (let' e b) s = absurd (y (s .0))

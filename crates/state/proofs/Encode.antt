@@ -9,8 +9,8 @@ use native.Mathlib.Omega.{arith}
 use lib.Dec.{eqb, T, eqb→eq, eqb-refl}
 use lib.ListN.{length, getD, length-replicate, take, length-take, List·getD-eq-default}
 use lib.Seq.{getD-take, ext-getD}
-use Rattle.tophat.specs.Syntax.{Code, edit, enter, update, then, next, fail, and, or, xor, view, if, let', vunit, Store}
-use Rattle.tophat.specs.Syntax.{TaskOf, filled, blank, entered, shared, before, after, failed, both, either, orLeft, orRight, unpicked, pickedLeft, pickedRight, ifTrue, ifFalse, bound}
+use Rattle.tophat.specs.Syntax.{Code, edit, enter, update, then, next, fail, and, or, xor, view, gate, if, let', vunit, Store}
+use Rattle.tophat.specs.Syntax.{TaskOf, filled, blank, entered, shared, before, after, failed, both, either, orLeft, orRight, unpicked, pickedLeft, pickedRight, gated, ifTrue, ifFalse, bound}
 use Rattle.rows.specs.Kinds.{cellK, numberOf}
 use Rattle.rows.specs.Rows.{word, opA, opB, opC, isKind}
 use Rattle.state.specs.Layout.{stateWords, place, at, valueWords, own, putWords, valued, writeTask, writeCells, encode}
@@ -156,6 +156,7 @@ module _ (rs x y : List ℕ) where
   holds-alike i (xor a b) (pickedLeft t) p q j = three (p .0) (q .0) (holds-alike (opA rs i) a t (p .1) (q .1) j) (dead-alike (opB rs i) (treeOf b) (p .2) (q .2) j)
   holds-alike i (xor a b) (pickedRight u) p q j = three (p .0) (q .0) (dead-alike (opA rs i) (treeOf a) (p .1) (q .1) j) (holds-alike (opB rs i) b u (p .2) (q .2) j)
   holds-alike i (view e) (filled v) p q j = here p q
+  holds-alike i (gate r n b) (gated k u) p q j = ⊎-elim (here (p .0) (q .0)) (holds-alike (opB rs i) b u (p .1) (q .1) j)
   holds-alike i (if e a b) (ifTrue t) p q j = three (p .0) (q .0) (holds-alike (opB rs i) a t (p .1) (q .1) j) (dead-alike (opC rs i) (treeOf b) (p .2) (q .2) j)
   holds-alike i (if e a b) (ifFalse u) p q j = three (p .0) (q .0) (dead-alike (opB rs i) (treeOf a) (p .1) (q .1) j) (holds-alike (opC rs i) b u (p .2) (q .2) j)
   holds-alike i (let' e b) (bound v u) p q j = ⊎-elim (here (p .0) (q .0)) (holds-alike (opB rs i) b u (p .1) (q .1) j)

@@ -6,8 +6,8 @@ use Prim.Native.Nat.{ℕ, _*_, _-_, _≤_}
 use native.Mathlib.Decide.{ℕ-discrete}
 use native.Mathlib.Omega.{arith}
 use lib.ListN.{length, getD, take, length-replicate}
-use Rattle.tophat.specs.Syntax.{Code, edit, enter, update, then, next, fail, and, or, xor, view, if, let', vunit, Store}
-use Rattle.tophat.specs.Syntax.{TaskOf, filled, blank, entered, shared, before, after, failed, both, either, orLeft, orRight, unpicked, pickedLeft, pickedRight, ifTrue, ifFalse, bound}
+use Rattle.tophat.specs.Syntax.{Code, edit, enter, update, then, next, fail, and, or, xor, view, gate, if, let', vunit, Store}
+use Rattle.tophat.specs.Syntax.{TaskOf, filled, blank, entered, shared, before, after, failed, both, either, orLeft, orRight, unpicked, pickedLeft, pickedRight, gated, ifTrue, ifFalse, bound}
 use Rattle.tophat.specs.Typing.{ValueTypes}
 use Rattle.rows.specs.Kinds.{cellK, numberOf}
 use Rattle.rows.specs.Rows.{word}
@@ -78,6 +78,7 @@ module _ (rs ws : List ℕ) where
   holds-tag i (xor a b) (pickedLeft t) p = let h = p .0 .words 0 (omega arith) in omega (arith, h)
   holds-tag i (xor a b) (pickedRight u) p = let h = p .0 .words 0 (omega arith) in omega (arith, h)
   holds-tag i (view e) (filled v) p = let h = p .words 0 (omega arith) in omega (arith, h)
+  holds-tag i (gate r n b) (gated k u) p = let h = p .0 .words 0 (omega arith) in omega (arith, h)
   holds-tag i (if e a b) (ifTrue t) p = let h = p .0 .words 0 (omega arith) in omega (arith, h)
   holds-tag i (if e a b) (ifFalse u) p = let h = p .0 .words 0 (omega arith) in omega (arith, h)
   holds-tag i (let' e b) (bound v u) p = let h = p .0 .words 0 (omega arith) in omega (arith, h)

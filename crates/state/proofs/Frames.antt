@@ -9,8 +9,8 @@ use native.Mathlib.Decide.{ℕ-discrete}
 use native.Mathlib.Omega.{arith}
 use lib.ListN.{length, getD, set}
 use lib.Seq.{getD-set-same, getD-set-other}
-use Rattle.tophat.specs.Syntax.{maxLeaves, Ty, leaves, Exp, Code, edit, enter, update, then, next, fail, and, or, xor, view, if, let', Val, vunit, Env, Store}
-use Rattle.tophat.specs.Syntax.{TaskOf, filled, blank, entered, shared, before, after, failed, both, either, orLeft, orRight, unpicked, pickedLeft, pickedRight, ifTrue, ifFalse, bound}
+use Rattle.tophat.specs.Syntax.{maxLeaves, Ty, leaves, Exp, Code, edit, enter, update, then, next, fail, and, or, xor, view, gate, if, let', Val, vunit, Env, Store}
+use Rattle.tophat.specs.Syntax.{TaskOf, filled, blank, entered, shared, before, after, failed, both, either, orLeft, orRight, unpicked, pickedLeft, pickedRight, gated, ifTrue, ifFalse, bound}
 use Rattle.tophat.specs.Typing.{ValueType, ValueTypes, v-cons, small-cons}
 use Rattle.rows.specs.Kinds.{eitherK, ifK, numberOf}
 use Rattle.rows.specs.Rows.{word, opA, opB, opC, FromKind}
@@ -80,6 +80,7 @@ holds-kept rs x y i (xor a b) unpicked h k = (k .row (inl refl) (h .0), clear-ke
 holds-kept rs x y i (xor a b) (pickedLeft t) h k = (k .row (inl refl) (h .0), holds-kept rs x y (opA rs i) a t (h .1) (inA k), clear-kept (h .2) (inB k))
 holds-kept rs x y i (xor a b) (pickedRight u) h k = (k .row (inl refl) (h .0), clear-kept (h .1) (inA k), holds-kept rs x y (opB rs i) b u (h .2) (inB k))
 holds-kept rs x y i (view e) (filled v) h k = k .row refl h
+holds-kept rs x y i (gate r n b) (gated m u) h k = (k .row (inl refl) (h .0), holds-kept rs x y (opB rs i) b u (h .1) (keeps-weak (λ j f. inr f) k))
 holds-kept rs x y i (if e a b) (ifTrue t) h k = (k .row (inl refl) (h .0), holds-kept rs x y (opB rs i) a t (h .1) (inA k), clear-kept (h .2) (inB k))
 holds-kept rs x y i (if e a b) (ifFalse u) h k = (k .row (inl refl) (h .0), clear-kept (h .1) (inA k), holds-kept rs x y (opC rs i) b u (h .2) (inB k))
 holds-kept rs x y i (let' e b) (bound v u) h k = (k .row (inl refl) (h .0), holds-kept rs x y (opB rs i) b u (h .1) (keeps-weak (λ j f. inr f) k))
@@ -125,6 +126,7 @@ placed rs d i (and a b) s = (high (s .0) (omega arith), placed rs d (opA rs i) a
 placed rs d i (or a b) s = (high (s .0) (omega arith), placed rs d (opA rs i) a (s .1), placed rs d (opB rs i) b (s .2), s .3)
 placed rs d i (xor a b) s = (high (s .0) (omega arith), placed rs d (opA rs i) a (s .1), placed rs d (opB rs i) b (s .2), s .3)
 placed rs d i (view e) s = high (s .0) (omega arith)
+placed rs d i (gate r n b) s = (high (s .0) (omega arith), placed rs d (opB rs i) b (s .3), s .4)
 placed rs d i (if e a b) s = (high (s .0) (omega arith), placed rs d (opB rs i) a (s .2), placed rs d (opC rs i) b (s .3), s .4)
 placed rs d i (let' e b) s = (high (s .0) (omega arith), placed rs (d + 1) (opB rs i) b (s .2), s .3)
 
@@ -244,6 +246,9 @@ module _ (rs : List ℕ) (d i : ℕ) where
 
   pub kid-let : (e : Exp) (b : Code) → Sits rs d i (let' e b) → Kid rs i 2 (treeOf b)
   kid-let e b s = kid rs i 2 (treeOf b) (placed rs d i (let' e b) s)
+
+  pub kid-gate : (r n : ℕ) (b : Code) → Sits rs d i (gate r n b) → Kid rs i 2 (treeOf b)
+  kid-gate r n b s = kid rs i 2 (treeOf b) (placed rs d i (gate r n b) s)
 
 -- ---- worlds
 

@@ -12,14 +12,14 @@ use lib.ListN.{length, getD, set, List·getD-eq-default}
 use lib.Seq.{getD-set-other}
 use mir.Syntax.{w32}
 use mir.Val.{ofZ}
-use Rattle.tophat.specs.Syntax.{maxLeaves, Ty, leaves, Code, edit, enter, update, then, next, fail, and, or, xor, view, if, let', Val, vunit, Store}
-use Rattle.tophat.specs.Syntax.{TaskOf, filled, blank, entered, before, after, both, either, orLeft, orRight, unpicked, pickedLeft, pickedRight, ifTrue, ifFalse, bound}
+use Rattle.tophat.specs.Syntax.{maxLeaves, Ty, leaves, Code, edit, enter, update, then, next, fail, and, or, xor, view, gate, if, let', Val, vunit, Store}
+use Rattle.tophat.specs.Syntax.{TaskOf, filled, blank, entered, before, after, both, either, orLeft, orRight, unpicked, pickedLeft, pickedRight, gated, ifTrue, ifFalse, bound}
 use Rattle.tophat.specs.Typing.{typeOf, ValueTypes, TaskType}
 use Rattle.tophat.specs.Leaves.{leavesOf}
 use Rattle.value.proofs.Meaning.{leaves-length, leaf-at}
 use Rattle.rows.specs.Kinds.{cellK}
 use Rattle.rows.specs.Rows.{opA, opB, opC, isKind}
-use Rattle.state.specs.Layout.{stateWords, place, at, valueWords, own, one, other, whole, putWords, tagged, valued, writeTask, writeCells, encode, encodeFailed}
+use Rattle.state.specs.Layout.{stateWords, place, at, valueWords, touchWords, own, one, other, whole, putWords, tagged, valued, writeTask, writeCells, encode, encodeFailed}
 use Rattle.state.proofs.Words.{zeroWords, padding, place-one}
 use Rattle.state.proofs.Writes.{Each}
 use Rattle.state.proofs.Typed.{Narrow, NarrowCells, each-narrow, store-narrow, short}
@@ -55,7 +55,7 @@ module _ (b : ℕ) where
 abbrev AtMost : ℕ → Val → Type 0
 AtMost k v = leaves (typeOf v) ≤ k
 
-module _ (k : ℕ) (most : k ≤ maxLeaves) where
+module _ (k : ℕ) (some : 1 ≤ k) (most : k ≤ maxLeaves) where
   -- each row is 0 behind a tag, a shape and k leaves
   abbrev ZeroBehind : List ℕ → Type 0
   ZeroBehind ws = ZeroFrom (2 + k) ws
@@ -75,6 +75,15 @@ module _ (k : ℕ) (most : k ≤ maxLeaves) where
 
   value-behind : {ws : List ℕ} (i x : ℕ) (v : Val) → AtMost k v → ZeroBehind ws → ZeroBehind (valued ws i x v)
   value-behind i x v l g = zero-put (2 + k) (x ∷ valueWords v) i 0 (let s = short v (omega arith) in omega arith) (λ q h. leaf-zero v l q (omega arith) x) g
+
+  touches-behind : {ws : List ℕ} (i m : ℕ) → ZeroBehind ws → ZeroBehind (putWords ws i 0 (own ∷ touchWords m))
+  touches-behind i m g = zero-put (2 + k) (own ∷ touchWords m) i 0 (omega arith) (λ q h. none q (omega arith)) g
+    where
+      none : (q : ℕ) → 2 + k ≤ q → getD (own ∷ touchWords m) q 0 ≡ 0
+      none zero h = absurd (omega arith)
+      none (suc zero) h = absurd (omega arith)
+      none (suc (suc zero)) h = absurd (omega arith)
+      none (suc (suc (suc q))) h = refl
 
   module _ (rs : List ℕ) where
     task-behind : (i : ℕ) (c : Code) (t : TaskOf c) {ws : List ℕ} → Each (AtMost k) c t → ZeroBehind ws → ZeroBehind (writeTask rs i c t ws)
@@ -96,6 +105,7 @@ module _ (k : ℕ) (most : k ≤ maxLeaves) where
     task-behind i (xor a b) (pickedLeft t) f g = task-behind (opA rs i) a t f (tag-behind i one g)
     task-behind i (xor a b) (pickedRight u) f g = task-behind (opB rs i) b u f (tag-behind i other g)
     task-behind i (view e) (filled v) f g = value-behind i own v f g
+    task-behind i (gate r n b) (gated m u) f g = task-behind (opB rs i) b u f (touches-behind i m g)
     task-behind i (if e a b) (ifTrue t) f g = task-behind (opB rs i) a t f (tag-behind i one g)
     task-behind i (if e a b) (ifFalse u) f g = task-behind (opC rs i) b u f (tag-behind i other g)
     task-behind i (let' e b) (bound v u) f g = task-behind (opB rs i) b u (f .1) (value-behind i one v (f .0) g)
@@ -111,7 +121,7 @@ module _ (k : ℕ) (most : k ≤ maxLeaves) where
 
     -- ---- a state of a flow of narrow types
 
-    module _ (some : 1 ≤ k) {Σ : List Ty} (cells : NarrowCells k Σ) (n : ℕ) {s : Store} (h : ValueTypes s Σ) where
+    module _ {Σ : List Ty} (cells : NarrowCells k Σ) (n : ℕ) {s : Store} (h : ValueTypes s Σ) where
       first-behind : ZeroBehind (writeCells rs n s (zeroWords (n * stateWords)))
       first-behind = cells-behind n s (store-narrow (AtMost k) (λ v l. l) some h cells) (record { words = λ i m p q. padding [] (n * stateWords) (place i m) })
 
@@ -128,4 +138,4 @@ module _ (k : ℕ) (most : k ≤ maxLeaves) where
 -- words 6 to 15 of every row are 0
 pub same-words-under-4 : {Σ : List Ty} {c : Code} {t : TaskOf c} {s : Store} {τ : Ty} → Narrow 4 Σ [] c → NarrowCells 4 Σ → TaskType Σ [] c t τ → ValueTypes s Σ
     → (rs : List ℕ) (n i m : ℕ) → 6 ≤ m → m < stateWords → at (encode rs n c t s) i m ≡ 0
-same-words-under-4 d g e h rs n = narrow-words 4 (omega arith) rs (omega arith) g n h d e .words
+same-words-under-4 d g e h rs n = narrow-words 4 (omega arith) (omega arith) rs g n h d e .words

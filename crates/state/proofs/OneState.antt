@@ -8,10 +8,10 @@ use native.Mathlib.Decide.{ℕ-discrete}
 use native.Mathlib.Omega.{arith}
 use lib.ListN.{length, getD}
 use lib.Seq.{ext-getD}
-use Rattle.tophat.specs.Syntax.{maxLeaves, Ty, unit, truth, number, leaves, Code, edit, enter, update, then, next, fail, and, or, xor, view, if, let', Val, vunit, Store}
-use Rattle.tophat.specs.Syntax.{TaskOf, filled, entered, before, after, both, either, orLeft, orRight, pickedLeft, pickedRight, ifTrue, ifFalse, bound}
+use Rattle.tophat.specs.Syntax.{maxLeaves, Ty, unit, truth, number, leaves, Code, edit, enter, update, then, next, fail, and, or, xor, view, gate, if, let', Val, vunit, Store}
+use Rattle.tophat.specs.Syntax.{TaskOf, filled, entered, before, after, both, either, orLeft, orRight, pickedLeft, pickedRight, gated, ifTrue, ifFalse, bound}
 use Rattle.tophat.specs.Typing.{ValueType, v-unit, v-truth, v-number, v-pair, ValueTypes, v-nil, v-cons, TaskType, k-filled, k-blank, k-entered, k-shared, k-then-before, k-then-after, typeOf, AllSmall, small-nil, small-cons}
-use Rattle.tophat.specs.Typing.{k-next-before, k-next-after, k-failed, k-both, k-either, k-or-left, k-or-right, k-unpicked, k-picked-left, k-picked-right, k-viewed, k-if-true, k-if-false, k-bound}
+use Rattle.tophat.specs.Typing.{k-next-before, k-next-after, k-failed, k-both, k-either, k-or-left, k-or-right, k-unpicked, k-picked-left, k-picked-right, k-viewed, k-gated, k-if-true, k-if-false, k-bound}
 use Rattle.tophat.proofs.Basics.{some-is}
 use Rattle.tophat.proofs.TypeLeaves.{type-leaves, task-type-leaves}
 use Rattle.tophat.proofs.Leaves.{type-of}
@@ -91,6 +91,8 @@ module _ (rs ws : List ℕ) {Σ : List Ty} (g : AllSmall Σ) where
   holds-one i (xor a b) (k-picked-right d e) (k-picked-left d₁ e₁) h h₁ p q = clash (p .0) (q .0) (λ e. omega arith)
   holds-one i (xor a b) (k-picked-right d e) (k-picked-right d₁ e₁) h h₁ p q = ap pickedRight (holds-one (opB rs i) b e e₁ h h₁ (p .2) (q .2))
   holds-one i (view e) (k-viewed d v) (k-viewed d₁ v₁) h h₁ p q = ap filled (row-value v (type-leaves d g h) v₁ (type-leaves d₁ g h₁) p q)
+  holds-one i (gate r n b) (k-gated l d) (k-gated l₁ d₁) h h₁ p q =
+      ap₂ gated (sym (p .0 .words 2 (omega arith)) ∙ q .0 .words 2 (omega arith)) (holds-one (opB rs i) b d d₁ h h₁ (p .1) (q .1))
   holds-one i (if x a b) (k-if-true z d e) (k-if-true z₁ d₁ e₁) h h₁ p q = ap ifTrue (holds-one (opB rs i) a d d₁ h h₁ (p .1) (q .1))
   holds-one i (if x a b) (k-if-true z d e) (k-if-false z₁ d₁ e₁) h h₁ p q = clash (p .0) (q .0) (λ e. omega arith)
   holds-one i (if x a b) (k-if-false z d e) (k-if-true z₁ d₁ e₁) h h₁ p q = clash (p .0) (q .0) (λ e. omega arith)

@@ -1,22 +1,22 @@
 -- `decode` reads a state from its writing, and from nothing else (01, ground 22): it gives a task and a store exactly where
 -- they are well typed and the words are their writing. Rests on SitsOf, Encode, OneState and the calculus' typing.
 use mathlib.Core.Path.{_≡_, refl, sym, ap, ap₂, _∙_, subst}
-use mathlib.Core.Bool.{Bool, true, false, cond, false≢true}
+use mathlib.Core.Bool.{Bool, true, false, _&&_, cond, false≢true}
 use mathlib.Core.Option.{Option, none, some, bind}
 use mathlib.Core.Logic.{_↔_, ⊎-elim}
 use mathlib.Core.List.{List, [], _∷_, _++_}
 use Prim.Native.Nat.{ℕ, zero, suc, _-_, _≤_, _<_}
 use native.Mathlib.Nat.{eq-or-lt-of-le, le-of-suc-le-suc}
 use native.Mathlib.Omega.{arith}
-use lib.Dec.{eqb}
+use lib.Dec.{eqb, leb}
 use lib.ListN.{length, getD, take, length-append, List·getD-append}
 use lib.Seq.{take-all, take-suc, getD-append-seam}
-use borrow.Author.Tests.{eqb-true, eq-eqb}
+use borrow.Author.Tests.{eqb-true, eq-eqb, leb-true, le-leb}
 use Rattle.match_laws.proofs.Ranges.{and-left, and-right}
-use Rattle.tophat.specs.Syntax.{maxLeaves, Ty, unit, truth, number, leaves, Code, edit, enter, update, then, next, fail, and, or, xor, view, if, let', Val, vunit, Store, TaskOf}
-use Rattle.tophat.specs.Typing.{CodeType, t-edit, t-enter, t-update, t-then, t-next, t-fail, t-and, t-or, t-xor, t-view, t-if-task, t-let-task, ValueType, v-unit, ValueTypes, v-nil, v-cons, AllSmall, small-nil, small-cons}
+use Rattle.tophat.specs.Syntax.{maxLeaves, Ty, unit, truth, number, leaves, Code, edit, enter, update, then, next, fail, and, or, xor, view, gate, if, let', Val, vunit, Store, TaskOf}
+use Rattle.tophat.specs.Typing.{CodeType, t-edit, t-enter, t-update, t-then, t-next, t-fail, t-and, t-or, t-xor, t-view, t-gate, t-if-task, t-let-task, ValueType, v-unit, ValueTypes, v-nil, v-cons, AllSmall, small-nil, small-cons}
 use Rattle.tophat.specs.Typing.{TaskType, k-filled, k-blank, k-entered, k-shared, k-then-before, k-then-after, k-next-before, k-next-after, k-failed, k-both, k-either, k-or-left, k-or-right}
-use Rattle.tophat.specs.Typing.{k-unpicked, k-picked-left, k-picked-right, k-viewed, k-if-true, k-if-false, k-bound}
+use Rattle.tophat.specs.Typing.{k-unpicked, k-picked-left, k-picked-right, k-viewed, k-gated, k-if-true, k-if-false, k-bound}
 use Rattle.tophat.proofs.Basics.{no-some, All, all-none, all-some, all-is}
 use Rattle.tophat.proofs.TypingAgrees.{infer-is, infer-task-is, bind-all}
 use Rattle.tophat.proofs.TypeLeaves.{type-leaves, task-type-leaves}
@@ -30,10 +30,10 @@ use Rattle.rows.specs.ComputeTrees.{cellType, cellTypes}
 use Rattle.rows.proofs.CellsAt.{cells-small}
 use Rattle.rows.proofs.TreesAgree.{cells-are}
 use Rattle.rows.specs.Accepted.{AcceptedRows}
-use Rattle.state.specs.Layout.{at, own, one, other, valueWords, encode}
+use Rattle.state.specs.Layout.{at, own, one, other, valueWords, touchWords, encode}
 use Rattle.state.specs.Holds.{Row, Holds, Stores}
 use Rattle.state.specs.Words.{valueAt}
-use Rattle.state.specs.Reading.{readValue, byTag, readTask, cellAt, readStore, same, decode}
+use Rattle.state.specs.Reading.{readValue, readTouches, byTag, readTask, cellAt, readStore, same, decode}
 use Rattle.state.proofs.Words.{value-at}
 use Rattle.state.specs.Writing.{Writing}
 use Rattle.state.proofs.OneState.{typed-at, only-unit, types-length}
@@ -59,6 +59,21 @@ value-all ws i τ = cond-all (eqb (valueAt ws i .shape) (asShape τ)) (λ e. all
 pub value-read : {ws : List ℕ} {i x : ℕ} {v : Val} {τ : Ty} → Row ws i (x ∷ valueWords v) → ValueType v τ → leaves τ ≤ maxLeaves → readValue ws i τ ≡ some v
 unfolding readValue
 value-read {ws} {i} {v = v} {τ = τ} r t l = value-in (valueAt ws i) τ v t (value-at r t l)
+
+-- ---- touches left
+
+touches-all : (ws : List ℕ) (i n : ℕ) → All (λ k. k ≤ n) (readTouches ws i n)
+unfolding readTouches
+touches-all ws i n =
+    cond-all (eqb (at ws i 1) (asShape number) && leb (at ws i 2) n) (λ e. all-some (leb-true (at ws i 2) n (and-right (eqb (at ws i 1) (asShape number)) _ e))) (λ e. all-none)
+
+pub touches-read : {ws : List ℕ} {i k n : ℕ} → Row ws i (own ∷ touchWords k) → k ≤ n → readTouches ws i n ≡ some k
+unfolding readTouches
+touches-read {ws} {i} {k} {n} r l =
+    let e = r .words 1 (omega arith) in
+    let f = r .words 2 (omega arith) in
+    let u = eq-eqb (asShape number) (asShape number) refl in
+    rw (e, f, le-leb k n l, u)
 
 -- ---- a task
 
@@ -94,6 +109,7 @@ module _ (rs ws : List ℕ) {Σ : List Ty} where
       (bind-all (read-all (opA rs i) d) λ t k. all-some (k-picked-left k e))
       (bind-all (read-all (opB rs i) e) λ u m. all-some (k-picked-right d m))
   read-all i (t-view d) = tag-all ws i (let q = infer-is d in rw q (bind-all (value-all ws i _) λ v k. all-some (k-viewed d k))) all-none all-none
+  read-all i (t-gate {n = n} d) = tag-all ws i (bind-all (touches-all ws i n) λ k l. bind-all (read-all (opB rs i) d) λ u m. all-some (k-gated l m)) all-none all-none
   read-all i (t-if-task x d e) = tag-all ws i
       all-none
       (bind-all (read-all (opB rs i) d) λ t k. all-some (k-if-true x k e))
@@ -140,6 +156,7 @@ module _ (rs ws : List ℕ) {Σ : List Ty} where
     holds-read i (xor a b) (k-picked-left d e) h p = let k = tag (p .0) in let q = holds-read (opA rs i) a d h (p .1) in rw (k, q)
     holds-read i (xor a b) (k-picked-right d e) h p = let k = tag (p .0) in let q = holds-read (opB rs i) b e h (p .2) in rw (k, q)
     holds-read i (view e) (k-viewed d v) h p = let k = tag p in let q = infer-is d in let r = value-read p v (type-leaves d g h) in rw (k, q, r)
+    holds-read i (gate r n b) (k-gated l d) h p = let k = tag (p .0) in let q = touches-read (p .0) l in let u = holds-read (opB rs i) b d h (p .1) in rw (k, q, u)
     holds-read i (if x a b) (k-if-true z d e) h p = let k = tag (p .0) in let q = holds-read (opB rs i) a d h (p .1) in rw (k, q)
     holds-read i (if x a b) (k-if-false z d e) h p = let k = tag (p .0) in let q = holds-read (opC rs i) b e h (p .2) in rw (k, q)
     holds-read i (let' x b) (k-bound d v e) h p =

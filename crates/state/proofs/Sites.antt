@@ -7,9 +7,9 @@ use Prim.Native.Nat.{ℕ}
 use native.Mathlib.Omega.{arith}
 use lib.IntN.{ℤ}
 use Rattle.tophat.specs.Syntax.{Ty, Op, Exp, eunit, etruth, enumber, ebinder, eop, eif, epair, efst, esnd, ederef, eassign, elet}
-use Rattle.tophat.specs.Syntax.{Code, edit, enter, update, then, next, fail, and, or, xor, view, if, let'}
+use Rattle.tophat.specs.Syntax.{Code, edit, enter, update, then, next, fail, and, or, xor, view, gate, if, let'}
 use Rattle.rows.specs.Kinds.{Kind, typeK, cellK, plainK, eunitK, etruthK, enumberK, ebinderK, eopK, epairK, efstK, esndK, ederefK, eassignK}
-use Rattle.rows.specs.Kinds.{eitherK, ifK, letK, taskK, editK, enterK, updateK, thenK, nextK, failK, andK, orK, xorK, viewK}
+use Rattle.rows.specs.Kinds.{eitherK, ifK, letK, taskK, editK, enterK, updateK, thenK, nextK, failK, andK, orK, xorK, viewK, gateK}
 use Rattle.rows.specs.Rows.{OfKind, FromKind, UpToKind}
 use Rattle.rows.proofs.KindNumbers.{one-kind}
 use Rattle.state.specs.Holds.{SitsExp, Sits}
@@ -82,6 +82,7 @@ OnCode Q (taskK andK) = (a b : Code) → Q (and a b)
 OnCode Q (taskK orK) = (a b : Code) → Q (or a b)
 OnCode Q (taskK xorK) = (a b : Code) → Q (xor a b)
 OnCode Q (taskK viewK) = (e : Exp) → Q (view e)
+OnCode Q (taskK gateK) = (r n : ℕ) (b : Code) → Q (gate r n b)
 OnCode Q (eitherK ifK) = (e : Exp) (a b : Code) → Q (if e a b)
 OnCode Q (eitherK letK) = (e : Exp) (b : Code) → Q (let' e b)
 OnCode Q (typeK k) = Unit {0}
@@ -103,5 +104,6 @@ module _ (rs : List ℕ) (d i : ℕ) (k : Kind) (P : Code → Type 0) (q : OfKin
   on-code (or a b) s = code-as (taskK orK) (s .0) a b s
   on-code (xor a b) s = code-as (taskK xorK) (s .0) a b s
   on-code (view e) s = code-as (taskK viewK) (s .0) e s
+  on-code (gate r n b) s = code-as (taskK gateK) (s .0) r n b s
   on-code (if e a b) s = code-as (eitherK ifK) (s .0) e a b s
   on-code (let' e b) s = code-as (eitherK letK) (s .0) e b s

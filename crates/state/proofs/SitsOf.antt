@@ -8,12 +8,12 @@ use native.Mathlib.Decide.{decLt}
 use native.Mathlib.Omega.{arith}
 use native.Mathlib.Numerals.{add-one}
 use lib.ListN.{length}
-use Rattle.tophat.specs.Syntax.{Ty, Exp, Code, edit, enter, update, then, next, fail, and, or, xor, view, if, let', TaskOf, Store}
+use Rattle.tophat.specs.Syntax.{Ty, Exp, Code, edit, enter, update, then, next, fail, and, or, xor, view, gate, if, let', TaskOf, Store}
 use Rattle.tophat.specs.Typing.{ValueTypes, v-nil, TaskType, small-nil}
 use Rattle.rows.specs.Rows.{maxRows, word, opA, opB, opC, LowWords}
 use Rattle.rows.specs.Enclosing.{maxBinders}
 use Rattle.rows.specs.Trees.{ReadsCell, r-cell, ReadsExp, r-eunit, r-etruth, r-enumber, r-ebinder, r-eop, r-eif, r-epair, r-efst, r-esnd, r-ederef, r-eassign, r-elet}
-use Rattle.rows.specs.Trees.{ReadsCode, r-edit, r-enter, r-update, r-then, r-next, r-fail, r-and, r-or, r-xor, r-view, r-if, r-let}
+use Rattle.rows.specs.Trees.{ReadsCode, r-edit, r-enter, r-update, r-then, r-next, r-fail, r-and, r-or, r-xor, r-view, r-gate, r-if, r-let}
 use Rattle.rows.specs.Fits.{FitsExp, FitsCode}
 use Rattle.rows.proofs.TaskFoot.{TaskFoot, Split as Apart, Splits}
 use Rattle.rows.proofs.CellsAt.{cells-small}
@@ -61,6 +61,7 @@ module _ (rs : List ℕ) where
   tree-foot i (or a b) j f = ⊎-elim inl (λ g. inr (⊎-elim (λ h. inl (tree-foot (opA rs i) a j h)) (λ h. inr (tree-foot (opB rs i) b j h)) g)) f
   tree-foot i (xor a b) j f = ⊎-elim inl (λ g. inr (⊎-elim (λ h. inl (tree-foot (opA rs i) a j h)) (λ h. inr (tree-foot (opB rs i) b j h)) g)) f
   tree-foot i (view e) j f = f
+  tree-foot i (gate r n b) j f = ⊎-elim inl (λ g. inr (tree-foot (opB rs i) b j g)) f
   tree-foot i (if e a b) j f = ⊎-elim inl (λ g. inr (⊎-elim (λ h. inl (tree-foot (opB rs i) a j h)) (λ h. inr (tree-foot (opC rs i) b j h)) g)) f
   tree-foot i (let' e b) j f = ⊎-elim inl (λ g. inr (tree-foot (opB rs i) b j g)) f
 
@@ -82,6 +83,7 @@ module _ (rs : List ℕ) where
   sits d {i} (r-or {a = a} {b = b} k x y g h) f s = (k, sits d g (f .0) (s .1), sits d h (f .1) (s .2), split i 1 2 a b (s .0))
   sits d {i} (r-xor {a = a} {b = b} k x y g h) f s = (k, sits d g (f .0) (s .1), sits d h (f .1) (s .2), split i 1 2 a b (s .0))
   sits d (r-view k x a) f s = (k, sits-exp d a f)
+  sits d {i} (r-gate {b = b} k x g) f s = (k, refl, refl, sits d g f (s .1), record { off = λ j h. s .0 .below j (tree-foot (opB rs i) b j h) })
   sits d {i} (r-if {b = a} {c = b} k x y z e g h) f s = (k, sits-exp d e (f .0), sits d g (f .1) (s .1), sits d h (f .2) (s .2), split i 2 3 a b (s .0))
   sits d {i} (r-let {b = b} k x y e g) f s =
       (k, sits-exp d e (f .0), sits (d + 1) g (under-binder d b (f .2)) (s .1), record { off = λ j h. s .0 .below j (tree-foot (opB rs i) b j h) }, f .1)
@@ -107,7 +109,7 @@ module _ (rs : List ℕ) (n : ℕ) (a : AcceptedRows rs n) where
         by j (yes k) = facts a .low j k
         by j (no m) =
             let z = rest j (omega arith) in
-            record { lowA = λ h. absurd (omega arith); lowB = λ h. absurd (omega arith); lowC = λ h. absurd (omega arith) }
+            record { lowA = λ h u. absurd (omega arith); lowB = λ h. absurd (omega arith); lowC = λ h u. absurd (omega arith) }
 
     -- a state of the flow is written in one way
     module _ {t : TaskOf (a .code)} {s : Store} {τ : Ty} (k : TaskType (a .cells) [] (a .code) t τ) (h : ValueTypes s (a .cells)) where

@@ -5,11 +5,11 @@ use mathlib.Core.List.{List, _∷_}
 use Prim.Native.Nat.{ℕ, zero, suc, _≤_}
 use native.Mathlib.Omega.{arith}
 use lib.ListN.{getD}
-use Rattle.tophat.specs.Syntax.{maxLeaves, Ty, leaves, Exp, Code, edit, enter, update, then, next, fail, and, or, xor, view, if, let', Val, vunit, TaskOf, Store}
+use Rattle.tophat.specs.Syntax.{maxLeaves, Ty, leaves, Exp, Code, edit, enter, update, then, next, fail, and, or, xor, view, gate, if, let', Val, vunit, TaskOf, Store}
 use Rattle.tophat.specs.Typing.{At, here, there, HasType, ValueType, typeOf, v-unit, ValueTypes, v-nil, v-cons, AllSmall, small-cons}
-use Rattle.tophat.specs.Typing.{CodeType, t-edit, t-enter, t-update, t-then, t-next, t-fail, t-and, t-or, t-xor, t-view, t-if-task, t-let-task}
+use Rattle.tophat.specs.Typing.{CodeType, t-edit, t-enter, t-update, t-then, t-next, t-fail, t-and, t-or, t-xor, t-view, t-gate, t-if-task, t-let-task}
 use Rattle.tophat.specs.Typing.{TaskType, k-filled, k-blank, k-entered, k-shared, k-then-before, k-then-after, k-next-before, k-next-after}
-use Rattle.tophat.specs.Typing.{k-failed, k-both, k-either, k-or-left, k-or-right, k-unpicked, k-picked-left, k-picked-right, k-viewed, k-if-true, k-if-false, k-bound}
+use Rattle.tophat.specs.Typing.{k-failed, k-both, k-either, k-or-left, k-or-right, k-unpicked, k-picked-left, k-picked-right, k-viewed, k-gated, k-if-true, k-if-false, k-bound}
 use Rattle.tophat.proofs.Leaves.{type-of}
 use Rattle.tophat.proofs.TypingAgrees.{one-type, one-task-type}
 use Rattle.tophat.proofs.TypeLeaves.{at-leaves, type-leaves, task-type-leaves}
@@ -32,6 +32,7 @@ pub data Narrow (k : ℕ) (Σ : List Ty) : List Ty → Code → Type 0 where
   n-or : {Γ : List Ty} {a b : Code} → Narrow k Σ Γ a → Narrow k Σ Γ b → Narrow k Σ Γ (or a b)
   n-xor : {Γ : List Ty} {a b : Code} → Narrow k Σ Γ a → Narrow k Σ Γ b → Narrow k Σ Γ (xor a b)
   n-view : {Γ : List Ty} {e : Exp} {τ : Ty} → HasType Σ Γ e τ → leaves τ ≤ k → Narrow k Σ Γ (view e)
+  n-gate : {Γ : List Ty} {r n : ℕ} {b : Code} → Narrow k Σ Γ b → Narrow k Σ Γ (gate r n b)
   n-if : {Γ : List Ty} {e : Exp} {a b : Code} → Narrow k Σ Γ a → Narrow k Σ Γ b → Narrow k Σ Γ (if e a b)
   n-let : {Γ : List Ty} {e : Exp} {b : Code} {τ : Ty} → HasType Σ Γ e τ → leaves τ ≤ k → Narrow k Σ (τ ∷ Γ) b → Narrow k Σ Γ (let' e b)
 
@@ -51,6 +52,7 @@ all-narrow (t-and d e l) g h = n-and (all-narrow d g h) (all-narrow e g h)
 all-narrow (t-or d e) g h = n-or (all-narrow d g h) (all-narrow e g h)
 all-narrow (t-xor d e) g h = n-xor (all-narrow d g h) (all-narrow e g h)
 all-narrow (t-view d) g h = n-view d (type-leaves d g h)
+all-narrow (t-gate d) g h = n-gate (all-narrow d g h)
 all-narrow (t-if-task x d e) g h = n-if (all-narrow d g h) (all-narrow e g h)
 all-narrow (t-let-task d e) g h = let l = type-leaves d g h in n-let d l (all-narrow e g (small-cons l h))
 
@@ -79,6 +81,7 @@ module _ {k : ℕ} (P : Val → Type 0) (p : (v : Val) → leaves (typeOf v) ≤
   each-narrow (n-xor m n) (k-picked-left t e) = each-narrow m t
   each-narrow (n-xor m n) (k-picked-right e u) = each-narrow n u
   each-narrow (n-view d l) (k-viewed e v) = typed v (one-type d e) l
+  each-narrow (n-gate n) (k-gated l u) = each-narrow n u
   each-narrow (n-if m n) (k-if-true b t e) = each-narrow m t
   each-narrow (n-if m n) (k-if-false b e u) = each-narrow n u
   each-narrow {Σ} {Γ} (n-let {b = b} d l n) (k-bound e v u) = (typed v (one-type d e) l, each-narrow (subst (λ τ. Narrow k Σ (τ ∷ Γ) b) (one-type d e) n) u)

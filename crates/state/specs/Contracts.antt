@@ -1,7 +1,7 @@
 -- What the engine's functions ensure, for whatever the rows and words read as: they give what the calculus' functions give,
 -- and change nothing else. `..At` is at one code, `..Ok` at whatever code sits at the row. Rests on Holds.
 use mathlib.Core.Path.{_≡_}
-use mathlib.Core.Bool.{Bool, true, false}
+use mathlib.Core.Bool.{Bool}
 use mathlib.Core.Option.{Option, none, some}
 use mathlib.Core.List.{List}
 use Prim.Native.Nat.{ℕ, _<_, _≤_}
@@ -9,10 +9,12 @@ use Rattle.decimal.specs.Path.{Path}
 use Rattle.tophat.specs.Syntax.{Ty, Exp, Code, Val, TaskOf, Env, Store}
 use Rattle.tophat.specs.Typing.{HasType, CodeType, TaskType, ValueTypes, AllSmall}
 use Rattle.tophat.specs.Normalising.{value}
+use Rattle.tophat.specs.Roles.{verdict}
 use Rattle.tophat.specs.Handling.{Action}
 use Rattle.tophat.proofs.ComputeEvaluation.{eval, overflows, evaluate, overflowsTask}
 use Rattle.tophat.proofs.ComputeNormalising.{failing, stride, normalise}
-use Rattle.tophat.proofs.ComputeHandling.{handle}
+use Rattle.tophat.proofs.ComputeHandling.{Taken, handle}
+use Rattle.rows.specs.GroundNumbers.{notHandled}
 use Rattle.rows.specs.Rows.{maxRows, LowWords}
 use Rattle.rows.specs.Enclosing.{maxBinders}
 use Rattle.value.specs.declared.Evaluation.{Evaluation}
@@ -68,17 +70,17 @@ module _ (rs ws ws₁ : List ℕ) (i : ℕ) (env : List ℕ) (d : ℕ) where
   abbrev pub NormaliseOk : ℕ → Type 0
   NormaliseOk r = (c : Code) → Sits rs d i c → NormaliseAt r c
 
-  -- refused, with every word as it was, or taken
-  abbrev pub Handled : (c : Code) → Bool → Option (TaskOf c × Store) → Type 0
-  Handled c r none = (r ≡ false) × (ws₁ ≡ ws)
-  Handled c r (some q) = (r ≡ true) × Ran rs ws ws₁ i c (q .0) (q .1)
+  -- no step derived, with every word as it was, or the words of the step that is, and the verdict of the rows of kind 50 passed (CR 6)
+  abbrev pub Handled : (c : Code) → (role r : ℕ) → Option (Taken (TaskOf c)) → Type 0
+  Handled c role r none = (r ≡ notHandled) × (ws₁ ≡ ws)
+  Handled c role r (some q) = (r ≡ verdict role (q .2)) × Ran rs ws ws₁ i c (q .0) (q .1)
 
-  abbrev pub HandleAt : Path → Action → Bool → Code → Type 0
-  HandleAt p x r c = (Σ Γ : List Ty) (τ : Ty) (s : Store) (ρ : Env) (t : TaskOf c) → TaskType Σ Γ c t τ → World rs ws env d Σ Γ s ρ → Holds rs ws i c t
-      → Handled c r (handle c ρ s t p x)
+  abbrev pub HandleAt : ℕ → Path → Action → ℕ → Code → Type 0
+  HandleAt role p x r c = (Σ Γ : List Ty) (τ : Ty) (s : Store) (ρ : Env) (t : TaskOf c) → TaskType Σ Γ c t τ → World rs ws env d Σ Γ s ρ → Holds rs ws i c t
+      → Handled c role r (handle c ρ s t p x)
 
-  abbrev pub HandleOk : Path → Action → Bool → Type 0
-  HandleOk p x r = (c : Code) → Sits rs d i c → HandleAt p x r c
+  abbrev pub HandleOk : ℕ → Path → Action → ℕ → Type 0
+  HandleOk role p x r = (c : Code) → Sits rs d i c → HandleAt role p x r c
 
 -- ---- what reads the words and leaves them
 

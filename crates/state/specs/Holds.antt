@@ -10,14 +10,14 @@ use lib.ListN.{length, getD}
 use mir.Syntax.{w32}
 use mir.Val.{toZ}
 use Rattle.tophat.specs.Syntax.{maxLeaves, Ty, Exp, eunit, etruth, enumber, ebinder, eop, eif, epair, efst, esnd, ederef, eassign, elet}
-use Rattle.tophat.specs.Syntax.{Code, edit, enter, update, then, next, fail, and, or, xor, view, if, let', vunit, Env, Store}
-use Rattle.tophat.specs.Syntax.{TaskOf, filled, blank, entered, shared, before, after, failed, both, either, orLeft, orRight, unpicked, pickedLeft, pickedRight, ifTrue, ifFalse, bound}
+use Rattle.tophat.specs.Syntax.{Code, edit, enter, update, then, next, fail, and, or, xor, view, gate, if, let', vunit, Env, Store}
+use Rattle.tophat.specs.Syntax.{TaskOf, filled, blank, entered, shared, before, after, failed, both, either, orLeft, orRight, unpicked, pickedLeft, pickedRight, gated, ifTrue, ifFalse, bound}
 use Rattle.tophat.specs.Typing.{ValueTypes, AllSmall}
-use Rattle.rows.specs.Kinds.{cellK, plainK, eunitK, etruthK, enumberK, ebinderK, eopK, epairK, efstK, esndK, ederefK, eassignK, eitherK, ifK, letK, taskK, editK, enterK, updateK, thenK, nextK, failK, andK, orK, xorK, viewK}
+use Rattle.rows.specs.Kinds.{cellK, plainK, eunitK, etruthK, enumberK, ebinderK, eopK, epairK, efstK, esndK, ederefK, eassignK, eitherK, ifK, letK, taskK, editK, enterK, updateK, thenK, nextK, failK, andK, orK, xorK, viewK, gateK}
 use Rattle.rows.specs.Rows.{word, opA, opB, opC, OfKind}
 use Rattle.rows.specs.Enclosing.{maxBinders}
 use Rattle.rows.specs.Trees.{ReadsType, operatorOf}
-use Rattle.state.specs.Layout.{stateWords, at, own, one, other, valueWords}
+use Rattle.state.specs.Layout.{stateWords, at, own, one, other, valueWords, touchWords}
 
 -- ---- rows that a task takes
 
@@ -38,6 +38,7 @@ treeOf (and a b) = fork 1 (treeOf a) 2 (treeOf b)
 treeOf (or a b) = fork 1 (treeOf a) 2 (treeOf b)
 treeOf (xor a b) = fork 1 (treeOf a) 2 (treeOf b)
 treeOf (view e) = leaf
+treeOf (gate r n b) = under 2 (treeOf b)
 treeOf (if e a b) = fork 2 (treeOf a) 3 (treeOf b)
 treeOf (let' e b) = under 2 (treeOf b)
 
@@ -86,6 +87,7 @@ Sits rs d i (and a b) = OfKind rs i (taskK andK) × Sits rs d (opA rs i) a × Si
 Sits rs d i (or a b) = OfKind rs i (taskK orK) × Sits rs d (opA rs i) a × Sits rs d (opB rs i) b × Split rs i 1 (treeOf a) 2 (treeOf b)
 Sits rs d i (xor a b) = OfKind rs i (taskK xorK) × Sits rs d (opA rs i) a × Sits rs d (opB rs i) b × Split rs i 1 (treeOf a) 2 (treeOf b)
 Sits rs d i (view e) = OfKind rs i (taskK viewK) × SitsExp rs d (opA rs i) e
+Sits rs d i (gate r n b) = OfKind rs i (taskK gateK) × (opA rs i ≡ r) × (opC rs i ≡ n) × Sits rs d (opB rs i) b × Off rs i 2 (treeOf b)
 Sits rs d i (if e a b) = OfKind rs i (eitherK ifK) × SitsExp rs d (opA rs i) e × Sits rs d (opB rs i) a × Sits rs d (opC rs i) b × Split rs i 2 (treeOf a) 3 (treeOf b)
 Sits rs d i (let' e b) = OfKind rs i (eitherK letK) × SitsExp rs d (opA rs i) e × Sits rs (d + 1) (opB rs i) b × Off rs i 2 (treeOf b) × (d < maxBinders)
 
@@ -117,6 +119,7 @@ Holds rs ws i (xor a b) unpicked = Row ws i (own ∷ []) × Clear rs ws (opA rs 
 Holds rs ws i (xor a b) (pickedLeft t) = Row ws i (one ∷ []) × Holds rs ws (opA rs i) a t × Clear rs ws (opB rs i) (treeOf b)
 Holds rs ws i (xor a b) (pickedRight u) = Row ws i (other ∷ []) × Clear rs ws (opA rs i) (treeOf a) × Holds rs ws (opB rs i) b u
 Holds rs ws i (view e) (filled v) = Row ws i (own ∷ valueWords v)
+Holds rs ws i (gate r n b) (gated k u) = Row ws i (own ∷ touchWords k) × Holds rs ws (opB rs i) b u
 Holds rs ws i (if e a b) (ifTrue t) = Row ws i (one ∷ []) × Holds rs ws (opB rs i) a t × Clear rs ws (opC rs i) (treeOf b)
 Holds rs ws i (if e a b) (ifFalse u) = Row ws i (other ∷ []) × Clear rs ws (opB rs i) (treeOf a) × Holds rs ws (opC rs i) b u
 Holds rs ws i (let' e b) (bound v u) = Row ws i (one ∷ valueWords v) × Holds rs ws (opB rs i) b u

@@ -5,8 +5,8 @@ use mathlib.Core.Bool.{cond}
 use mathlib.Core.List.{List, [], _∷_}
 use Prim.Native.Nat.{ℕ, zero, suc, _+_, _*_, _-_}
 use lib.ListN.{getD, set, replicate}
-use Rattle.tophat.specs.Syntax.{Code, edit, enter, update, then, next, fail, and, or, xor, view, if, let', Val, vunit, Store}
-use Rattle.tophat.specs.Syntax.{TaskOf, filled, blank, entered, before, after, both, either, orLeft, orRight, unpicked, pickedLeft, pickedRight, ifTrue, ifFalse, bound}
+use Rattle.tophat.specs.Syntax.{number, Code, edit, enter, update, then, next, fail, and, or, xor, view, gate, if, let', Val, vunit, Store}
+use Rattle.tophat.specs.Syntax.{TaskOf, filled, blank, entered, before, after, both, either, orLeft, orRight, unpicked, pickedLeft, pickedRight, gated, ifTrue, ifFalse, bound}
 use Rattle.tophat.specs.Typing.{typeOf}
 use Rattle.shape.specs.Shape.{asShape}
 use Rattle.value.specs.Values.{leafBits}
@@ -27,6 +27,10 @@ at ws i m = getD ws (place i m) 0
 -- the words of a value: its shape, and its leaves' bits, unused ones 0
 unfoldable pub valueWords : Val → List ℕ
 valueWords v = asShape (typeOf v) ∷ leafBits v
+
+-- the words of the touches that a row of kind 50 has left: those of a number (CR 6)
+abbrev pub touchWords : ℕ → List ℕ
+touchWords k = asShape number ∷ k ∷ []
 
 -- tags: 1, the row's own form; 2 and 3, the first and the second of two things that it may have become; 4, the last row where it failed as
 -- a whole (CR 3)
@@ -73,6 +77,7 @@ writeTask rs i (xor a b) unpicked ws = tagged ws i own
 writeTask rs i (xor a b) (pickedLeft t) ws = writeTask rs (opA rs i) a t (tagged ws i one)
 writeTask rs i (xor a b) (pickedRight u) ws = writeTask rs (opB rs i) b u (tagged ws i other)
 writeTask rs i (view e) (filled v) ws = valued ws i own v
+writeTask rs i (gate r n b) (gated k u) ws = writeTask rs (opB rs i) b u (putWords ws i 0 (own ∷ touchWords k))
 writeTask rs i (if e a b) (ifTrue t) ws = writeTask rs (opB rs i) a t (tagged ws i one)
 writeTask rs i (if e a b) (ifFalse u) ws = writeTask rs (opC rs i) b u (tagged ws i other)
 writeTask rs i (let' e b) (bound v u) ws = writeTask rs (opB rs i) b u (valued ws i one v)

@@ -4,10 +4,11 @@ use mathlib.Core.Bool.{Bool, true, false, _&&_, cond}
 use mathlib.Core.Option.{Option, none, some, bind}
 use mathlib.Core.List.{List, [], _∷_, _++_}
 use Prim.Native.Nat.{ℕ, zero, suc, _-_}
-use lib.Dec.{eqb}
-use Rattle.tophat.specs.Syntax.{Ty, Code, edit, enter, update, then, next, fail, and, or, xor, view, if, let', Val, vunit, Store}
-use Rattle.tophat.specs.Syntax.{TaskOf, filled, blank, entered, shared, before, after, failed, both, either, orLeft, orRight, unpicked, pickedLeft, pickedRight, ifTrue, ifFalse, bound}
+use lib.Dec.{eqb, leb}
+use Rattle.tophat.specs.Syntax.{Ty, number, Code, edit, enter, update, then, next, fail, and, or, xor, view, gate, if, let', Val, vunit, Store}
+use Rattle.tophat.specs.Syntax.{TaskOf, filled, blank, entered, shared, before, after, failed, both, either, orLeft, orRight, unpicked, pickedLeft, pickedRight, gated, ifTrue, ifFalse, bound}
 use Rattle.tophat.proofs.ComputeTyping.{infer, inferTask}
+use Rattle.shape.specs.Shape.{asShape}
 use Rattle.value.specs.Fits.{valueIn}
 use Rattle.rows.specs.Kinds.{cellK}
 use Rattle.rows.specs.Rows.{opA, opB, opC, isKind}
@@ -18,6 +19,10 @@ use Rattle.state.specs.Words.{valueAt}
 -- the value of the type that row i holds
 unfoldable pub readValue : List ℕ → ℕ → Ty → Option Val
 readValue ws i τ = valueIn (valueAt ws i) τ
+
+-- the touches left that row i holds, at most n (CR 6)
+unfoldable pub readTouches : List ℕ → ℕ → ℕ → Option ℕ
+readTouches ws i n = cond (eqb (at ws i 1) (asShape number) && leb (at ws i 2) n) (some (at ws i 2)) none
 
 -- one of three readings, by the row's tag
 unfoldable pub byTag : {X : Type 0} → List ℕ → ℕ → Option X → Option X → Option X → Option X
@@ -48,6 +53,7 @@ readTask rs ws Σ Γ i (xor a b) = byTag ws i
     (bind (readTask rs ws Σ Γ (opA rs i) a) λ t. some (pickedLeft t))
     (bind (readTask rs ws Σ Γ (opB rs i) b) λ u. some (pickedRight u))
 readTask rs ws Σ Γ i (view e) = byTag ws i (bind (infer Σ Γ e) λ τ. bind (readValue ws i τ) λ v. some (filled v)) none none
+readTask rs ws Σ Γ i (gate r n b) = byTag ws i (bind (readTouches ws i n) λ k. bind (readTask rs ws Σ Γ (opB rs i) b) λ u. some (gated k u)) none none
 readTask rs ws Σ Γ i (if e a b) = byTag ws i
     none
     (bind (readTask rs ws Σ Γ (opB rs i) a) λ t. some (ifTrue t))

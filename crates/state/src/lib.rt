@@ -9,6 +9,7 @@ use rows::ROWS_WORDS;
 use rows::get;
 use rows::operand;
 use tophat::MAX_LEAVES;
+use tophat::NUMBER;
 use value::NO_VALUE;
 use value::Value;
 ghost use mathlib.Core.Path.{_≡_};
@@ -17,7 +18,7 @@ ghost use Prim.Native.Nat.{_<_, _≤_};
 ghost use lib.ListN.{length, getD, set};
 ghost use Rattle.rows.specs.Rows.{maxRows, word};
 ghost use Rattle.rows.specs.Enclosing.{maxBinders};
-ghost use Rattle.state.specs.Layout.{stateWords, place, at};
+ghost use Rattle.state.specs.Layout.{stateWords, place, at, own, touchWords};
 ghost use Rattle.state.specs.Holds.{valueLength, slotPlace, slot};
 ghost use Rattle.state.specs.Words.{wordsOf, Laid, valueAt, binderAt, Pushed};
 ghost use Rattle.state.specs.Contracts.{Fine, ClearOk};
@@ -104,6 +105,24 @@ pub fn put_value(state: &mut [u32; STATE_SIZE], row: usize, tag: u32, v: Value)
     for k in 0..MAX_LEAVES {
         put(state, row, LEAVES + k, leaves[k]);
     }
+}
+
+// The row is live, and holds the touches that a row of kind 50 has left (CR 6).
+pub fn put_touches(state: &mut [u32; STATE_SIZE], row: usize, touches: u32)
+    requires { ⌜ row < maxRows ⌝ }
+    ensures { λ _. ⌜ Laid (now (state .entry)) (now (state .exit)) row (own ∷ touchWords touches) ⌝ }
+{
+    put_tag(state, row, OWN);
+    put(state, row, SHAPE, NUMBER);
+    put(state, row, LEAVES, touches);
+}
+
+// Those touches.
+pub fn read_touches(state: &[u32; STATE_SIZE], row: usize) -> u32
+    requires { ⌜ row < maxRows ⌝ }
+    ensures { λ r. ⌜ r ≡ at (now (state .entry)) row 2 ⌝ }
+{
+    read(state, row, LEAVES)
 }
 
 // The value that the row holds.
@@ -196,7 +215,7 @@ pub fn clear(rows: &[u32; ROWS_WORDS], state: &mut [u32; STATE_SIZE], row: usize
             clear_row(state, row);
             return;
         }
-        31 => {
+        31 | 50 => {
             let b = operand(rows, row, 2);
             clear(rows, state, b);
             clear_row(state, row);

@@ -5,15 +5,15 @@ use mathlib.Core.Bool.{Bool, true, false, not, cond, false≢true}
 use mathlib.Core.Logic.{⊎-elim}
 use mathlib.Core.Option.{Option, none, some, bind}
 use mathlib.Core.List.{List, [], _∷_, _++_}
-use Prim.Native.Nat.{ℕ, zero, suc, _+_, _-_, _<_}
+use Prim.Native.Nat.{ℕ, zero, suc, _+_, _-_, _<_, _≤_}
 use native.Mathlib.Nat.{eq-or-lt-of-le, le-of-suc-le-suc}
 use native.Mathlib.Numerals.{add-one}
 use native.Mathlib.Omega.{arith}
 use lib.ListN.{getD, length-append, List·getD-append}
 use lib.Seq.{getD-append-seam}
-use borrow.Author.Tests.{not-true, not-false, eq-eqb, ne-eqb}
+use borrow.Author.Tests.{not-true, not-false, eq-eqb, ne-eqb, le-leb, lt-leb}
 use Rattle.word.specs.Word.{AllBits}
-use Rattle.tophat.specs.Syntax.{Val, vunit, Store}
+use Rattle.tophat.specs.Syntax.{number, Val, vunit, Store}
 use Rattle.shape.specs.Shape.{asShape}
 use Rattle.rows.specs.Kinds.{cellK, numberOf}
 use Rattle.rows.specs.Rows.{word}
@@ -22,14 +22,14 @@ use Rattle.value.specs.declared.Value.{Value}
 use Rattle.value.specs.Values.{asValue}
 use Rattle.value.specs.Fits.{Got, got-none, got-some, valueFor, fitsIn}
 use Rattle.value.proofs.Fitting.{fits-got}
-use Rattle.state.specs.Layout.{own, valueWords}
+use Rattle.state.specs.Layout.{at, own, valueWords, touchWords}
 use Rattle.state.specs.Holds.{Cell, Row}
 use Rattle.state.specs.Words.{wordsOf, Laid, valueAt}
-use Rattle.state.specs.Reading.{readValue, readStore}
+use Rattle.state.specs.Reading.{readValue, readTouches, readStore}
 use Rattle.state.proofs.Words.{laid-as}
 use Rattle.state.proofs.Frames.{same-refl, same-trans, same-weak, same-row}
 use Rattle.state.proofs.Reading.{cell-small}
-use Rattle.state_check.specs.Copies.{ValueOk, CopyCell, CellOk, CopyCells, CellsOk}
+use Rattle.state_check.specs.Copies.{ValueOk, TouchesOk, CopyCell, CellOk, CopyCells, CellsOk}
 use Rattle.state_check.proofs.Copying.{got-map, got-bind, got-as, value-ok}
 
 -- ---- a value
@@ -48,6 +48,31 @@ module _ (ws : List ℕ) (i s : ℕ) {v : Value} {q : Bool} (h : v ≡ valueAt w
       no : {X : Type 0} {Q R : X → Type 0} {o : Option X} → Got q Q o → Got false R o
       no (got-none z) = got-none refl
       no (got-some z g) = absurd (false≢true (sym e ∙ z))
+
+-- ---- touches left
+
+module _ (ws : List ℕ) (i n : ℕ) {s : ℕ} (hs : s ≡ at ws i 1) where
+  shape-off : (s ≡ asShape number → ⊥) → readTouches ws i n ≡ none
+  unfolding readTouches
+  shape-off o = let e = ne-eqb (at ws i 1) (asShape number) (λ z. o (hs ∙ z)) in rw e
+
+  pub touches-shape : {y : List ℕ} → (s ≡ asShape number → ⊥) → TouchesOk ws y y i n false
+  touches-shape {y} o = record { got = subst (Got false (λ k. Laid y y i (own ∷ touchWords k))) (sym (shape-off o)) (got-none refl) }
+
+  module _ {k : ℕ} (hk : k ≡ at ws i 2) (is : s ≡ asShape number) where
+    pub touches-more : {y : List ℕ} → n < k → TouchesOk ws y y i n false
+    unfolding readTouches
+    touches-more {y} l = record { got = subst (Got false (λ k. Laid y y i (own ∷ touchWords k))) (sym none-read) (got-none refl) }
+      where
+        none-read : readTouches ws i n ≡ none
+        none-read = let e = eq-eqb (at ws i 1) (asShape number) (sym hs ∙ is) in let f = lt-leb (at ws i 2) n (subst (λ m. n < m) hk l) in rw (e, f)
+
+    pub touches-yes : {y y₁ : List ℕ} → k ≤ n → Laid y y₁ i (own ∷ touchWords k) → TouchesOk ws y y₁ i n true
+    unfolding readTouches
+    touches-yes {y} {y₁} l p = record { got = subst (Got true (λ k. Laid y y₁ i (own ∷ touchWords k))) (sym some-read) (got-some refl p) }
+      where
+        some-read : readTouches ws i n ≡ some k
+        some-read = let e = eq-eqb (at ws i 1) (asShape number) (sym hs ∙ is) in let f = le-leb (at ws i 2) n (subst (λ m. m ≤ n) hk l) in rw (e, f) (ap some (sym hk))
 
 -- ---- a cell
 

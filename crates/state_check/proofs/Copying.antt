@@ -10,13 +10,13 @@ use native.Mathlib.Numerals.{add-one}
 use lib.Dec.{eqb}
 use lib.ListN.{length, set}
 use borrow.Author.Tests.{eqb-true}
-use Rattle.tophat.specs.Syntax.{maxLeaves, Ty, leaves, Code, Val, TaskOf, entered, before, after, both, either, orLeft, orRight, pickedLeft, pickedRight, ifTrue, ifFalse, bound}
+use Rattle.tophat.specs.Syntax.{maxLeaves, Ty, leaves, Code, gate, Val, TaskOf, entered, before, after, both, either, orLeft, orRight, pickedLeft, pickedRight, gated, ifTrue, ifFalse, bound}
 use Rattle.tophat.proofs.ComputeTyping.{infer, inferTask}
 use Rattle.shape.specs.Shape.{asShape, maybeShape}
 use Rattle.rows.specs.Kinds.{kindOf}
 use Rattle.rows.specs.Rows.{word, opA, opB, opC}
 use Rattle.rows.specs.Enclosing.{maxBinders}
-use Rattle.rows.specs.Trees.{ReadsCode, r-edit, r-enter, r-update, r-then, r-next, r-fail, r-and, r-or, r-xor, r-view, r-if, r-let}
+use Rattle.rows.specs.Trees.{ReadsCode, r-edit, r-enter, r-update, r-then, r-next, r-fail, r-and, r-or, r-xor, r-view, r-gate, r-if, r-let}
 use Rattle.rows.specs.Fits.{FitsCode}
 use Rattle.typing.specs.RowTypes.{typeOf}
 use Rattle.typing.specs.BinderShapes.{BinderShapes}
@@ -24,14 +24,14 @@ use Rattle.typing.proofs.Steps.{Good, around-more}
 use Rattle.typing.proofs.Agree.{type-good, exp-good, code-good}
 use Rattle.value.specs.Fits.{Got, got-none, got-some, valueFor}
 use Rattle.value.proofs.Fitting.{for-type, for-none}
-use Rattle.state.specs.Layout.{at, own, one, other, valueWords}
+use Rattle.state.specs.Layout.{at, own, one, other, valueWords, touchWords}
 use Rattle.state.specs.Holds.{treeOf, Sits, Clear}
 use Rattle.state.specs.Words.{Laid, valueAt}
-use Rattle.state.specs.Reading.{readValue, byTag, readTask}
+use Rattle.state.specs.Reading.{readValue, readTouches, byTag, readTask}
 use Rattle.state_check.specs.declared.Part.{Part}
-use Rattle.state_check.specs.declared.Part.the-variants.{Bad, Alone, Filled, Below, Bound, Two}
+use Rattle.state_check.specs.declared.Part.the-variants.{Bad, Alone, Filled, Below, Bound, Two, Gate}
 use Rattle.state_check.specs.Parts.{taggedPart, partFrom, partOf}
-use Rattle.state_check.specs.Copies.{Sheet, Site, Copy, CopyOk, ValueOk}
+use Rattle.state_check.specs.Copies.{Sheet, Site, Copy, CopyOk, ValueOk, TouchesOk}
 use Rattle.state_check.proofs.Laying.{clear-under, below, clear-a, clear-b, neither, left, right, two}
 
 -- ---- answers
@@ -73,6 +73,7 @@ pub data Step (rs ws y y₁ : List ℕ) (i : ℕ) (env : List ℕ) (d : ℕ) (r 
       → (q ≡ true → d < maxBinders → CopyOk rs ws z y₁ b (set env d (typeOf rs env d a)) (d + 1) r) → Step rs ws y y₁ i env d r (Bound a b)
   s-two : {a b : ℕ} {z z₁ : List ℕ} {q : Bool} → Laid y z i (at ws i 0 ∷ []) → CopyOk rs ws z z₁ a env d q → (q ≡ false → r ≡ false)
       → (q ≡ true → CopyOk rs ws z₁ y₁ b env d r) → Step rs ws y y₁ i env d r (Two a b)
+  s-gate : {b m : ℕ} {z : List ℕ} {q : Bool} → TouchesOk ws y z i m q → (q ≡ false → r ≡ false) → (q ≡ true → CopyOk rs ws z y₁ b env d r) → Step rs ws y y₁ i env d r (Gate b m)
 
 module _ (rs ws y y₁ : List ℕ) (i : ℕ) (env : List ℕ) (d : ℕ) (r : Bool) where
   abbrev St : Part → Type 0
@@ -153,6 +154,12 @@ module _ (rs ws y y₁ : List ℕ) (i : ℕ) (env : List ℕ) (d : ℕ) (r : Boo
           let p = tag-as e l in
           got-bind (ok n Σ Γ a sh sa (ca _ p)) m (λ q t c. got-map (K t) (λ u c₁. f _ _ t u p c c₁) (more q n Σ Γ b sh sb (cb _ _ t p c)))
 
+    gate-of : {X : Type 0} {R : X → Type 0} {k m : ℕ} {b : Code} (K : ℕ → TaskOf b → X) → Site rs n Γ env d k b → ((z xs : List ℕ) → Laid y z i xs → Clear rs z k (treeOf b))
+        → ((z : List ℕ) (w : ℕ) (u : TaskOf b) → Laid y z i (own ∷ touchWords w) → Copy rs z y₁ k b u → R (K w u))
+        → St (Gate k m) → Got r R (bind (readTouches ws i m) λ w. bind (readTask rs ws Σ Γ k b) λ u. some (K w u))
+    gate-of {b = b} K st cl f (s-gate h m more) =
+        got-bind (h .got) m (λ q w p. got-map (K w) (λ u c. f _ w u p c) (more q n Σ Γ b sh st (cl _ _ p)))
+
     -- ---- the codes
 
     -- the part of a row of kind k
@@ -196,6 +203,9 @@ module _ (rs ws y y₁ : List ℕ) (i : ℕ) (env : List ℕ) (d : ℕ) (r : Boo
     at-code (r-view {a = e} k x g) st cl s = tags
         (λ t. filled-of (infer Σ Γ e) (at-depth (opA rs i) st (exp-good rs n Σ (sh .known) (sh .small) g (let m = st .low in omega arith) env Γ (st .around) (st .fits))) t (λ τ w z p. got-some z (record { holds = p .row; same = p .same })))
         (λ _. none-held) (λ _. none-held) (part-as (st .sits .0) s)
+    at-code (r-gate {b = b} k x g) st cl s = let q = st .sits in tags
+        (λ _. gate-of {R = Copy rs y y₁ i (gate (opA rs i) (opC rs i) b)} gated (child (opB rs i) st x g (st .fits) (q .3)) (λ _ _ p. clear-under b (q .4) p cl) (λ _ w u p c. let z = below b (q .4) p c in record { holds = z .0; same = z .1 }))
+        (λ _. none-held) (λ _. none-held) (part-as (q .0) s)
     at-code (r-if {b = a} {c = b} k x l m z g h) st cl s = let f = st .fits in let q = st .sits in tags
         (λ _. none-held)
         (λ e. below-of ifTrue e (child (opB rs i) st l g (f .1) (q .2)) (λ _ p. clear-a a b (q .4) p cl) (λ _ t p c. let z = left a b (q .4) p cl c in record { holds = z .0; same = z .1 }))
@@ -248,3 +258,10 @@ module _ (rs ws y : List ℕ) (i : ℕ) (env : List ℕ) (d x : ℕ) (p : Part) 
 
     pub copy-first : {z z₁ : List ℕ} {q : Bool} → Laid y z i (x ∷ []) → CopyOk rs ws z z₁ a env d q → q ≡ false → CopyOk rs ws y z₁ i env d false
     copy-first l h q = copied e (s-two (tag-is l) h (λ _. refl) (λ n. absurd (false≢true (sym q ∙ n))))
+
+  module _ {b m : ℕ} (e : p ≡ Gate b m) where
+    pub copy-gate : {z y₁ : List ℕ} {q r : Bool} → TouchesOk ws y z i m q → q ≡ true → CopyOk rs ws z y₁ b env d r → CopyOk rs ws y y₁ i env d r
+    copy-gate h q ok = copied e (s-gate h (λ n. absurd (false≢true (sym n ∙ q))) (λ _. ok))
+
+    pub copy-ungated : {z : List ℕ} {q : Bool} → TouchesOk ws y z i m q → q ≡ false → CopyOk rs ws y z i env d false
+    copy-ungated h q = copied e (s-gate h (λ _. refl) (λ n. absurd (false≢true (sym q ∙ n))))

@@ -10,8 +10,8 @@ use types.Run.{OneOf}
 use borrow.Author.Tests.{eq-eqb, ne-eqb}
 use Rattle.match_laws.proofs.Ranges.{AllOf, one-of, NoneOf, in-gap, within}
 use Rattle.shape.proofs.Puts.{by-test}
-use Rattle.rows.specs.Kinds.{Kind, typeK, cellK, plainK, eitherK, ifK, letK, taskK, editK, enterK, updateK, thenK, nextK, failK, andK, orK, xorK, viewK, kindOf, numberOf}
-use Rattle.rows.specs.Rows.{word, opA, opB, opC}
+use Rattle.rows.specs.Kinds.{Kind, typeK, cellK, plainK, eitherK, ifK, letK, taskK, editK, enterK, updateK, thenK, nextK, failK, andK, orK, xorK, viewK, gateK, kindOf, numberOf}
+use Rattle.rows.specs.Rows.{word, opA, opB, opC, LowWords}
 use Rattle.rows.specs.Enclosing.{maxBinders}
 use Rattle.rows.proofs.Basics.{no}
 use Rattle.rows.proofs.KindNumbers.{number-kind, by-kind, kind-beyond}
@@ -19,7 +19,7 @@ use Rattle.state.specs.Layout.{own, one, other}
 use Rattle.state.specs.Contracts.{Fine}
 use Rattle.state.proofs.Calls.{fine-at}
 use Rattle.state_check.specs.declared.Part.{Part}
-use Rattle.state_check.specs.declared.Part.the-variants.{Bad, Alone, Filled, Below, Bound, Two}
+use Rattle.state_check.specs.declared.Part.the-variants.{Bad, Alone, Filled, Below, Bound, Two, Gate}
 use Rattle.state_check.specs.Parts.{taggedPart, partBy, partFrom, partOf, Lower}
 
 -- ---- by the tag
@@ -41,7 +41,7 @@ module _ (x : ℕ) (p q r : Part) where
 
 -- their numbers, the last first
 abbrev pub armKeys : List (List ℕ)
-armKeys = (48 ∷ []) ∷ (47 ∷ []) ∷ (46 ∷ []) ∷ (42 ∷ 45 ∷ []) ∷ (41 ∷ []) ∷ (40 ∷ 49 ∷ []) ∷ (31 ∷ []) ∷ (25 ∷ []) ∷ []
+armKeys = (50 ∷ []) ∷ (48 ∷ []) ∷ (47 ∷ []) ∷ (46 ∷ []) ∷ (42 ∷ 45 ∷ []) ∷ (41 ∷ []) ∷ (40 ∷ 49 ∷ []) ∷ (31 ∷ []) ∷ (25 ∷ []) ∷ []
 
 abbrev isBad : Part → Bool
 isBad Bad = true
@@ -50,6 +50,7 @@ isBad (Filled a) = false
 isBad (Below k) = false
 isBad (Bound a b) = false
 isBad (Two a b) = false
+isBad (Gate b c) = false
 
 bad-is : (p : Part) → isBad p ≡ true → Bad ≡ p
 bad-is Bad h = refl
@@ -58,6 +59,7 @@ bad-is (Filled a) h = no h
 bad-is (Below k) h = no h
 bad-is (Bound a b) h = no h
 bad-is (Two a b) h = no h
+bad-is (Gate b c) h = no h
 
 module _ (x a b c : ℕ) where
   abbrev pub Is : Part → ℕ → Type 0
@@ -91,22 +93,25 @@ module _ (x a b c : ℕ) where
     by : (p q r : Part) → L p → L q → L r → L (taggedPart x p q r)
     by p q r h g f = by-test L (eqb x own) (λ _. h) (λ _. by-test L (eqb x one) (λ _. g) (λ _. by-test L (eqb x other) (λ _. f) (λ _. tt)))
 
-    abbrev Low : ℕ → Type 0
-    Low k = numberOf (eitherK ifK) ≤ k → (a < i) × (b < i) × (c < i)
+    -- what the operands of a kind's number are: below the row, at 50 B alone
+    pub record Low (k : ℕ) : Type 0 where
+      pub inB : numberOf (eitherK ifK) ≤ k → b < i
+      pub all : numberOf (eitherK ifK) ≤ k → k ≤ numberOf (taskK viewK) → (a < i) × (b < i) × (c < i)
 
     kind-lower : (k : Kind) → Low (numberOf k) → L (partBy (some k) x a b c)
-    kind-lower (eitherK ifK) low = let l = low (omega arith) in by Bad (Below b) (Below c) tt (l .1) (l .2)
-    kind-lower (eitherK letK) low = let l = low (omega arith) in by Bad (Bound a b) Bad tt (l .0, l .1) tt
-    kind-lower (taskK editK) low = let l = low (omega arith) in by (Filled a) Bad Bad (l .0) tt tt
-    kind-lower (taskK enterK) low = let l = low (omega arith) in by Alone (Filled a) Bad tt (l .0) tt
+    kind-lower (eitherK ifK) low = let l = low .all (omega arith) (omega arith) in by Bad (Below b) (Below c) tt (l .1) (l .2)
+    kind-lower (eitherK letK) low = let l = low .all (omega arith) (omega arith) in by Bad (Bound a b) Bad tt (l .0, l .1) tt
+    kind-lower (taskK editK) low = let l = low .all (omega arith) (omega arith) in by (Filled a) Bad Bad (l .0) tt tt
+    kind-lower (taskK enterK) low = let l = low .all (omega arith) (omega arith) in by Alone (Filled a) Bad tt (l .0) tt
     kind-lower (taskK updateK) low = by Alone Bad Bad tt tt tt
-    kind-lower (taskK thenK) low = let l = low (omega arith) in by (Below a) (Bound a b) Bad (l .0) (l .0, l .1) tt
-    kind-lower (taskK nextK) low = let l = low (omega arith) in by (Below a) (Bound a b) Bad (l .0) (l .0, l .1) tt
+    kind-lower (taskK thenK) low = let l = low .all (omega arith) (omega arith) in by (Below a) (Bound a b) Bad (l .0) (l .0, l .1) tt
+    kind-lower (taskK nextK) low = let l = low .all (omega arith) (omega arith) in by (Below a) (Bound a b) Bad (l .0) (l .0, l .1) tt
     kind-lower (taskK failK) low = by Alone Bad Bad tt tt tt
-    kind-lower (taskK andK) low = let l = low (omega arith) in by (Two a b) Bad Bad (l .0, l .1) tt tt
-    kind-lower (taskK orK) low = let l = low (omega arith) in by (Two a b) (Below a) (Below b) (l .0, l .1) (l .0) (l .1)
-    kind-lower (taskK xorK) low = let l = low (omega arith) in by Alone (Below a) (Below b) tt (l .0) (l .1)
-    kind-lower (taskK viewK) low = let l = low (omega arith) in by (Filled a) Bad Bad (l .0) tt tt
+    kind-lower (taskK andK) low = let l = low .all (omega arith) (omega arith) in by (Two a b) Bad Bad (l .0, l .1) tt tt
+    kind-lower (taskK orK) low = let l = low .all (omega arith) (omega arith) in by (Two a b) (Below a) (Below b) (l .0, l .1) (l .0) (l .1)
+    kind-lower (taskK xorK) low = let l = low .all (omega arith) (omega arith) in by Alone (Below a) (Below b) tt (l .0) (l .1)
+    kind-lower (taskK viewK) low = let l = low .all (omega arith) (omega arith) in by (Filled a) Bad Bad (l .0) tt tt
+    kind-lower (taskK gateK) low = by (Gate b c) Bad Bad (low .inB (omega arith)) tt tt
     kind-lower (typeK k) low = tt
     kind-lower cellK low = tt
     kind-lower (plainK k) low = tt
@@ -122,13 +127,14 @@ pub part-is : {rs : List ℕ} {i d : ℕ} (x k a b c : ℕ) (p : Part) → Fine 
     → (p ≡ partOf rs i x) × Lower p i
 part-is {rs} {i} x k a b c p f hk ha hb hc e = (e ∙ (λ t. partFrom (hk t) x (ha t) (hb t) (hc t)), subst (λ q. Lower q i) (sym e) (part-lower x a b c i k low))
   where
-    low : numberOf (eitherK ifK) ≤ k → (a < i) × (b < i) × (c < i)
-    low h =
-        let w = f .lower i (f .low) in
-        let p = w .lowA (omega arith) in
-        let q = w .lowB (omega arith) in
-        let r = w .lowC (omega arith) in
-        (omega arith, omega arith, omega arith)
+    w : LowWords rs i
+    w = f .lower i (f .low)
+
+    low : Low x a b c i k
+    low = record {
+      inB = λ h. let q = w .lowB (omega arith) in omega arith;
+      all = λ h u. let p = w .lowA (omega arith) (omega arith) in let q = w .lowB (omega arith) in let r = w .lowC (omega arith) (omega arith) in (omega arith, omega arith, omega arith);
+    }
 
 -- what a call of copy_task at a lower row asks
 pub call-lower : {rs : List ℕ} {i d t : ℕ} → (i ≡ t) × Fine rs i d → (k d₁ : ℕ) → k < i → d₁ ≤ maxBinders → (k < t) × Fine rs k d₁

@@ -12,10 +12,10 @@ use Rattle.rows.specs.Trees.{ReadsType, ReadsCell, ReadsCode}
 use Rattle.rows.specs.Fits.{FitsCode}
 use Rattle.typing.specs.BinderShapes.{BinderShapes}
 use Rattle.value.specs.Fits.{Got, valueFor}
-use Rattle.state.specs.Layout.{own, valueWords}
+use Rattle.state.specs.Layout.{own, valueWords, touchWords}
 use Rattle.state.specs.Holds.{treeOf, Foot, Sits, Cell, Row, Clear, Holds, Same}
 use Rattle.state.specs.Words.{Laid, valueAt}
-use Rattle.state.specs.Reading.{readTask, cellAt, readStore}
+use Rattle.state.specs.Reading.{readTouches, readTask, cellAt, readStore}
 
 -- the cells have the types Σ, and no type passes maxLeaves
 pub record Sheet (rs : List ℕ) (n : ℕ) (Σ : List Ty) : Type 0 where
@@ -43,6 +43,10 @@ CopyOk rs ws y y₁ i env d r = (n : ℕ) (Σ Γ : List Ty) (c : Code) → Sheet
 -- the value of the type with shape s, in the row with the tag x
 pub record ValueOk (ws y y₁ : List ℕ) (i x s : ℕ) (r : Bool) : Type 0 where
   pub got : Got r (λ v. Laid y y₁ i (x ∷ valueWords v)) (valueFor (valueAt ws i) s)
+
+-- the touches left in the row, at most n (CR 6)
+pub record TouchesOk (ws y y₁ : List ℕ) (i n : ℕ) (r : Bool) : Type 0 where
+  pub got : Got r (λ k. Laid y y₁ i (own ∷ touchWords k)) (readTouches ws i n)
 
 -- what stands at row i of the store, in its row where that is a cell
 pub record CopyCell (rs y y₁ : List ℕ) (i : ℕ) (v : Val) : Type 0 where

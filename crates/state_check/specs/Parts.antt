@@ -1,14 +1,14 @@
--- A state row by what reading it does: 6 ways for the 20 forms of tasks, by the row's kind and its tag. Rests on crate state.
+-- A state row by what reading it does: 7 ways for the 21 forms of tasks, by the row's kind and its tag. Rests on crate state.
 use mathlib.Core.Bool.{cond}
 use mathlib.Core.Option.{Option, none, some}
 use mathlib.Core.List.{List}
 use Prim.Native.Nat.{ℕ, _<_}
 use lib.Dec.{eqb}
-use Rattle.rows.specs.Kinds.{Kind, typeK, cellK, plainK, eitherK, ifK, letK, taskK, editK, enterK, updateK, thenK, nextK, failK, andK, orK, xorK, viewK, kindOf}
+use Rattle.rows.specs.Kinds.{Kind, typeK, cellK, plainK, eitherK, ifK, letK, taskK, editK, enterK, updateK, thenK, nextK, failK, andK, orK, xorK, viewK, gateK, kindOf}
 use Rattle.rows.specs.Rows.{word, opA, opB, opC}
 use Rattle.state.specs.Layout.{own, one, other}
 use Rattle.state_check.specs.declared.Part.{Part}
-use Rattle.state_check.specs.declared.Part.the-variants.{Bad, Alone, Filled, Below, Bound, Two}
+use Rattle.state_check.specs.declared.Part.the-variants.{Bad, Alone, Filled, Below, Bound, Two, Gate}
 
 -- one of three parts, by the tag
 abbrev pub taggedPart : ℕ → Part → Part → Part → Part
@@ -28,6 +28,7 @@ partBy (some (taskK andK)) x a b c = taggedPart x (Two a b) Bad Bad
 partBy (some (taskK orK)) x a b c = taggedPart x (Two a b) (Below a) (Below b)
 partBy (some (taskK xorK)) x a b c = taggedPart x Alone (Below a) (Below b)
 partBy (some (taskK viewK)) x a b c = taggedPart x (Filled a) Bad Bad
+partBy (some (taskK gateK)) x a b c = taggedPart x (Gate b c) Bad Bad
 partBy (some (typeK k)) x a b c = Bad
 partBy (some cellK) x a b c = Bad
 partBy (some (plainK k)) x a b c = Bad
@@ -47,3 +48,4 @@ Lower (Filled a) i = a < i
 Lower (Below k) i = k < i
 Lower (Bound a b) i = (a < i) × (b < i)
 Lower (Two a b) i = (a < i) × (b < i)
+Lower (Gate b c) i = b < i

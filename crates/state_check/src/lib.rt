@@ -13,9 +13,12 @@ use state::OWN;
 use state::STATE_SIZE;
 use state::STATE_WORDS;
 use state::put_tag;
+use state::put_touches;
 use state::put_value;
 use state::read;
+use state::read_touches;
 use state::read_value;
+use tophat::NUMBER;
 use typing::bound;
 use typing::cell_shape;
 use typing::row_type;
@@ -29,7 +32,7 @@ ghost use Rattle.rows.specs.Rows.{maxRows};
 ghost use Rattle.state.specs.Layout.{stateWords};
 ghost use Rattle.state.specs.Contracts.{Fine};
 ghost use Rattle.state_check.specs.Parts.{taggedPart, partFrom, partOf, Lower};
-ghost use Rattle.state_check.specs.Copies.{CopyOk, ValueOk, CellOk, CellsOk};
+ghost use Rattle.state_check.specs.Copies.{CopyOk, ValueOk, TouchesOk, CellOk, CellsOk};
 ghost use Rattle.state_check.specs.States.{Alike, ToWrite, HeldOk};
 
 // What reading does with a state row, and the rows that it then reads.
@@ -40,6 +43,7 @@ pub enum Part {
     Below(usize),
     Bound(usize, usize),
     Two(usize, usize),
+    Gate(usize, usize),
 }
 
 fn by_tag(tag: u32, p: Part, q: Part, r: Part) -> Part
@@ -69,6 +73,7 @@ fn part_from(kind: u32, tag: u32, a: usize, b: usize, c: usize) -> Part
         46 => by_tag(tag, Part::Two(a, b), Part::Bad, Part::Bad),
         47 => by_tag(tag, Part::Two(a, b), Part::Below(a), Part::Below(b)),
         48 => by_tag(tag, Part::Alone, Part::Below(a), Part::Below(b)),
+        50 => by_tag(tag, Part::Gate(b, c), Part::Bad, Part::Bad),
         43..=44 => by_tag(tag, Part::Below(a), Part::Bound(a, b), Part::Bad),
         _ => Part::Bad,
     }
@@ -102,6 +107,27 @@ fn copy_value(
         return true;
     }
     false
+}
+
+// The row's touches left, if they are a number of at most so many (CR 6).
+fn copy_touches(
+    state: &[u32; STATE_SIZE],
+    work: &mut [u32; STATE_SIZE],
+    row: usize,
+    most: usize,
+) -> bool
+    requires { ⌜ row < maxRows ⌝ }
+    ensures { λ r. ⌜ TouchesOk (now (state .entry)) (now (work .entry)) (now (work .exit)) row most r ⌝ }
+{
+    if read(state, row, 1) != NUMBER {
+        return false;
+    }
+    let touches = read_touches(state, row);
+    if most < touches as usize {
+        return false;
+    }
+    put_touches(work, row, touches);
+    true
 }
 
 // The task of the row, under binders whose shapes env holds.
@@ -146,6 +172,12 @@ fn copy_task(
         Part::Two(a, b) => {
             put_tag(work, row, tag);
             if copy_task(rows, state, work, a, env, depth) {
+                return copy_task(rows, state, work, b, env, depth);
+            }
+            false
+        }
+        Part::Gate(b, most) => {
+            if copy_touches(state, work, row, most) {
                 return copy_task(rows, state, work, b, env, depth);
             }
             false

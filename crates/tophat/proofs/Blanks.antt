@@ -14,8 +14,9 @@ use lib.ListN.{length, getD, replicate, length-append, length-map}
 use Rattle.decimal.specs.Path.{Path}
 use Rattle.tophat.specs.Syntax.{maxLeaves, Ty, leaves, Code, Val, Env, Store, TaskOf}
 use Rattle.tophat.specs.Leaves.{leavesOf, padded, Given, Unused, u-end, u-zero, u-blank, Gives, Leaf, noLeaf, unitLeaf, truthLeaf, numberLeaf, leafKinds, Meets, m-end, m-none, m-blank, m-unit, m-false, m-true, m-number, valueOf, meetsLeaf, meets, numberGiven, given}
+use Rattle.tophat.specs.Roles.{Gate}
 use Rattle.tophat.specs.Handling.{Button, Action, give, press, Handles, h-change, h-fill, h-update, h-pass-then, h-pass-next, h-next}
-use Rattle.tophat.specs.Handling.{h-first-and, h-second-and, h-first-or, h-second-or, h-pick-left, h-pick-right, h-became}
+use Rattle.tophat.specs.Handling.{h-first-and, h-second-and, h-first-or, h-second-or, h-pick-left, h-pick-right, h-became, h-gate}
 use Rattle.tophat.proofs.Leaves.{length-kinds, length-leaves, given-gives}
 
 -- ---- any zeros left blank
@@ -51,7 +52,7 @@ gives-filled {ls} {v = v} g d =
     let p = behind (leavesOf v) (g .others) (subst (Blanked ls) (g .split) d) in
     record { typed = g .typed; others = p .rest; split = p .is; unused = unused-filled (g .unused) (p .blanked) }
 
-pub handles-filled : {c : Code} {ρ : Env} {s s₁ : Store} {t t₁ : TaskOf c} {p : Path} {x y : Action} → Handles c ρ s t p y t₁ s₁ → BlankedAction x y → Handles c ρ s t p x t₁ s₁
+pub handles-filled : {c : Code} {ρ : Env} {s s₁ : Store} {t t₁ : TaskOf c} {p : Path} {x y : Action} {gs : List Gate} → Handles c ρ s t p y t₁ s₁ gs → BlankedAction x y → Handles c ρ s t p x t₁ s₁ gs
 handles-filled (h-change h g) (in-leaves d) = h-change h (gives-filled g d)
 handles-filled (h-fill g) (in-leaves d) = h-fill (gives-filled g d)
 handles-filled (h-update a h g) (in-leaves d) = h-update a h (gives-filled g d)
@@ -65,6 +66,7 @@ handles-filled (h-second-or k) b = h-second-or (handles-filled k b)
 handles-filled (h-pick-left e n f) in-none = h-pick-left e n f
 handles-filled (h-pick-right e n f) in-none = h-pick-right e n f
 handles-filled (h-became m k) b = h-became m (handles-filled k b)
+handles-filled (h-gate k) b = h-gate (handles-filled k b)
 
 -- leaves that meet kinds meet them still, where only leaves of kind 0 are left blank
 pub meets-blanked : {ks : List Leaf} {ls ms : List Given} → Meets ks ls → Blanked ls ms → ((j : ℕ) → getD ms j (some (pos 0)) ≡ none → getD ks j noLeaf ≡ noLeaf) → Meets ks ms

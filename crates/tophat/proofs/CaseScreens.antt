@@ -3,19 +3,20 @@
 use mathlib.Core.Bool.{Bool, true, false, cond}
 use mathlib.Core.Option.{Option, none, some}
 use mathlib.Core.List.{List, [], _∷_, map}
-use Prim.Native.Nat.{ℕ}
+use Prim.Native.Nat.{ℕ, zero, suc}
 use lib.IntN.{ℤ, pos}
 use Rattle.decimal.specs.Path.{Mark, first, second, Path}
 use Rattle.tophat.specs.Syntax.{Ty, unit, truth, number, pair, Exp, enumber, Code, fail, TaskOf, failed, Val, vnumber, Store}
 use Rattle.tophat.specs.Typing.{typeOf}
 use Rattle.tophat.specs.Leaves.{leavesOf, padded, leafNumber, Given}
 use Rattle.tophat.specs.Normalising.{value}
-use Rattle.tophat.specs.Handling.{giving, pressing, actNumber, Action, give}
+use Rattle.tophat.specs.Roles.{verdict, is}
+use Rattle.tophat.specs.Handling.{Button, giving, pressing, actNumber, Action, give, press}
 use Rattle.tophat.specs.Showing.{Offer, fill, button}
 use Rattle.tophat.proofs.ComputeTyping.{inferTask}
 use Rattle.tophat.proofs.ComputeEvaluation.{overflowsTask}
 use Rattle.tophat.proofs.ComputeNormalising.{failing, normalise, settle}
-use Rattle.tophat.proofs.ComputeHandling.{handle}
+use Rattle.tophat.proofs.ComputeHandling.{Taken, handle}
 use Rattle.tophat.proofs.ComputeEntries.{entries}
 
 -- path, action, leaf kinds
@@ -46,16 +47,21 @@ unfoldable pub valueLeaves : Option Val → List ℤ
 valueLeaves none = padded (pos 0) []
 valueLeaves (some v) = padded (pos 0) (leavesOf v)
 
-unfoldable pub screenOf : (c : Code) → ℕ → ℕ → TaskOf c → Store → Screen
-screenOf c answer n t s =
-    screen answer n (flag (failing c [] s t)) (valueFlag (value c t s)) (valueLeaves (value c t s)) (map (λ e. lineOf (e .0) (e .1)) (entries c [] s t))
+-- as the role sees it
+unfoldable pub screenOf : (c : Code) → ℕ → ℕ → ℕ → TaskOf c → Store → Screen
+screenOf c role answer n t s =
+    screen answer n (flag (failing c [] s t)) (valueFlag (value c t s)) (valueLeaves (value c t s)) (map (λ e. lineOf (e .0) (e .1)) (entries (is role) c [] s t))
+
+-- an event: a role, a path and an action
+abbrev pub Touch : Type 0
+Touch = ℕ × Path × Action
 
 -- A case: a flow, its cells and its events; and what 01 says of it: its type, the screens after start and after each event,
 -- and the cells in the end.
 pub record Case : Type 0 where
   pub flow : Code
   pub cells : Store
-  pub events : List (Path × Action)
+  pub events : List Touch
   pub type : Option Ty
   pub shown : List Screen
   pub kept : Store
@@ -66,28 +72,33 @@ Outcome = Option Ty × List Screen × Store
 unfoldable pub expected : Case → Outcome
 expected k = (k .type, k .shown, k .kept)
 
--- answer, strides, task and store after an event
-unfoldable pub taken : (c : Code) → TaskOf c → Store → Option (TaskOf c × Store) → ℕ × ℕ × TaskOf c × Store
-taken c t s none = (9, 0, t, s)
-taken c t s (some r) = let (t₁, s₁, n) = normalise c [] (r .1) (r .0) in (0, n, t₁, s₁)
+-- answer, strides, task and store after an event that a rule takes, or none does
+unfoldable pub unlessRefused : (c : Code) → TaskOf c → Store → ℕ → TaskOf c → Store → ℕ × ℕ × TaskOf c × Store
+unlessRefused c t s zero t₁ s₁ = let (t₂, s₂, n) = normalise c [] s₁ t₁ in (0, n, t₂, s₂)
+unlessRefused c t s (suc n) t₁ s₁ = (suc n, 0, t, s)
 
-unfoldable pub screens : (c : Code) → ℕ × ℕ × TaskOf c × Store → List (Path × Action) → List Screen × Store
-screens c (answer, n, t, s) [] = (screenOf c answer n t s ∷ [], s)
-screens c (answer, n, t, s) ((p, x) ∷ xs) =
-    let (ss, s₁) = screens c (taken c t s (handle c [] s t p x)) xs in
-    (screenOf c answer n t s ∷ ss, s₁)
+unfoldable pub taken : (c : Code) → TaskOf c → Store → ℕ → Option (Taken (TaskOf c)) → ℕ × ℕ × TaskOf c × Store
+taken c t s role none = (9, 0, t, s)
+taken c t s role (some q) = unlessRefused c t s (verdict role (q .2)) (q .0) (q .1)
+
+-- the screen after an answer, in a role, and those of the events after it, each in its own
+unfoldable pub screens : (c : Code) → ℕ → ℕ × ℕ × TaskOf c × Store → List Touch → List Screen × Store
+screens c role (answer, n, t, s) [] = (screenOf c role answer n t s ∷ [], s)
+screens c role (answer, n, t, s) ((r, p, x) ∷ xs) =
+    let (ss, s₁) = screens c r (taken c t s r (handle c [] s t p x)) xs in
+    (screenOf c role answer n t s ∷ ss, s₁)
 
 -- 45 of the flow's type, where the start leaves the words (CR 3)
-unfoldable pub failedWhole : Option Ty → Store → List (Path × Action) → List Screen × Store
+unfoldable pub failedWhole : Option Ty → Store → List Touch → List Screen × Store
 failedWhole none s xs = ([], s)
-failedWhole (some τ) s xs = screens (fail τ) (0, 1, failed, s) xs
+failedWhole (some τ) s xs = screens (fail τ) 1 (0, 1, failed, s) xs
 
 unfoldable pub computed : Case → Outcome
 computed k =
     let c = k .flow in
     let type = inferTask (map typeOf (k .cells)) [] c in
     let (t, s, n) = settle c [] (k .cells) in
-    let (ss, s₁) = cond (overflowsTask c [] (k .cells)) (failedWhole type (k .cells) (k .events)) (screens c (0, n, t, s) (k .events)) in
+    let (ss, s₁) = cond (overflowsTask c [] (k .cells)) (failedWhole type (k .cells) (k .events)) (screens c 1 (0, n, t, s) (k .events)) in
     (type, ss, s₁)
 
 -- numbers in flows, cells and events, and as the first of the leaves
@@ -107,8 +118,15 @@ giving1 n = give (padded (some (pos 0)) (some (pos n) ∷ []))
 abbrev pub givingBlank : List Given → Action
 givingBlank ls = give (padded none ls)
 
-abbrev pub value1 : ℕ → Path × Action
-value1 n = ([], giving1 n)
+-- events of role 1
+abbrev pub pressed : Button → Touch
+pressed b = (1, [], press b)
+
+abbrev pub at : Path → Action → Touch
+at p x = (1, p, x)
+
+abbrev pub value1 : ℕ → Touch
+value1 n = at [] (giving1 n)
 
 -- the entry of an editor of one leaf of this kind at a path, of numbers; and a button's at the empty path
 abbrev pub editorOf : ℕ → List ℕ → Line

@@ -1,4 +1,4 @@
--- 01's proved cases, P1 to P12, one for 01's numbers, and those of CR 1 to CR 4, as one computed check: what the definitions give for each
+-- 01's proved cases, P1 to P12, one for 01's numbers, and those of CR 1 to CR 4, as one computed check (CR 6: RoleCases): what the definitions give for each
 -- flow and its touches is what 01 says. Rests on CaseScreens.
 use mathlib.Core.Path.{_≡_, refl}
 use mathlib.Core.Bool.{Bool, true, false}
@@ -13,22 +13,23 @@ use Rattle.tophat.specs.Syntax.{edit, enter, update, then, next, fail, a
 use Rattle.tophat.specs.Typing.{typeOf}
 use Rattle.tophat.specs.Leaves.{leavesOf, padded, leafKinds, valueOf, meetsLeaf, meets, numberGiven, given}
 use Rattle.tophat.specs.Normalising.{value, pairOf}
-use Rattle.tophat.specs.Handling.{continue, left, right, give, press}
+use Rattle.tophat.specs.Roles.{ofRole, touchesLeft, verdict}
+use Rattle.tophat.specs.Handling.{continue, left, right, give}
 use Rattle.tophat.specs.Showing.{marked, offers, buttonIf}
 use Rattle.tophat.proofs.ComputeTyping.{inferTask, infer, ask, nth, numberTo, opTo, takes, gives, sameTo, ifTo, typeTo, assignTo}
 use Rattle.tophat.proofs.ComputeEvaluation.{eval, branch, isTrue, apply, leaf, kept, exact, exceeds, overflows, overflowsTask}
 use Rattle.tophat.proofs.ComputeNormalising.{failing, normalise, settle, strides, unlessStill, goOn, goOnWith, chooseRight, chooseLeft}
 use Rattle.tophat.proofs.ComputeHandling.{handle, mapTask, thenSome, atEditor, atMark, atSides, atContinue, unlessFailing}
 use Rattle.tophat.proofs.ComputeEntries.{entries, continueIf}
-use Rattle.tophat.proofs.CaseScreens.{screen, digit, lineOf, flag, valueFlag, valueLeaves, screenOf, Case, expected, taken, screens, failedWhole, computed}
-use Rattle.tophat.proofs.CaseScreens.{num, cell, single, giving1, givingBlank, value1, editorOf, editor, buttonLine, eight, eightLine, givingEight, noLeaves}
+use Rattle.tophat.proofs.CaseScreens.{screen, digit, lineOf, flag, valueFlag, valueLeaves, screenOf, Case, expected, taken, screens, failedWhole, unlessRefused, computed}
+use Rattle.tophat.proofs.CaseScreens.{num, cell, single, giving1, givingBlank, pressed, at, value1, editorOf, editor, buttonLine, eight, eightLine, givingEight, noLeaves}
 
 -- P1 to P4: 01's session: started, value 12, value 4, Continue
 abbrev pub p1-p4 : Case
 p1-p4 = record {
   flow = then (enter number) (if (eop lessEqual (ebinder 0) (num 9)) (edit (eop product (ebinder 0) (num 30))) (fail number));
   cells = [];
-  events = value1 12 ∷ value1 4 ∷ ([], press continue) ∷ [];
+  events = value1 12 ∷ value1 4 ∷ pressed continue ∷ [];
   type = some number;
   shown =
       screen 0 1 0 0 (single (pos 0)) (editor [] ∷ [])
@@ -77,7 +78,7 @@ abbrev pub p8 : Case
 p8 = record {
   flow = xor (edit (num 1)) (fail number);
   cells = [];
-  events = ([], press right) ∷ ([], press left) ∷ [];
+  events = pressed right ∷ pressed left ∷ [];
   type = some number;
   shown =
       screen 0 1 0 0 (single (pos 0)) (buttonLine 3 ∷ [])
@@ -92,7 +93,7 @@ abbrev pub p9 : Case
 p9 = record {
   flow = next (edit (num 1)) (fail number);
   cells = [];
-  events = ([], press continue) ∷ [];
+  events = pressed continue ∷ [];
   type = some number;
   shown =
       screen 0 1 0 0 (single (pos 0)) (editor [] ∷ [])
@@ -141,7 +142,7 @@ abbrev pub buttons : Case
 buttons = record {
   flow = next (and (enter unit) (enter truth)) (xor (edit (num 1)) (edit (num 2)));
   cells = [];
-  events = (first ∷ [], giving1 0) ∷ (second ∷ [], giving1 1) ∷ ([], press continue) ∷ [];
+  events = at (first ∷ []) (giving1 0) ∷ at (second ∷ []) (giving1 1) ∷ pressed continue ∷ [];
   type = some number;
   shown =
       screen 0 1 0 0 (single (pos 0)) (editorOf 1 (1 ∷ []) ∷ editorOf 2 (2 ∷ []) ∷ [])
@@ -157,7 +158,7 @@ abbrev pub quiet-both : Case
 quiet-both = record {
   flow = and (view (num 5)) (fail number);
   cells = [];
-  events = (first ∷ [], giving1 1) ∷ [];
+  events = at (first ∷ []) (giving1 1) ∷ [];
   type = some (pair number number);
   shown =
       screen 0 1 0 0 (single (pos 0)) []
@@ -171,7 +172,7 @@ abbrev pub quiet-next : Case
 quiet-next = record {
   flow = next (view (num 1)) (fail number);
   cells = [];
-  events = ([], press continue) ∷ [];
+  events = pressed continue ∷ [];
   type = some number;
   shown =
       screen 0 1 0 0 (single (pos 0)) []
@@ -185,7 +186,7 @@ abbrev pub shown-on : Case
 shown-on = record {
   flow = then (view (num 5)) (view (eop product (ebinder 0) (num 2)));
   cells = [];
-  events = ([], giving1 1) ∷ [];
+  events = at [] (giving1 1) ∷ [];
   type = some number;
   shown =
       screen 0 2 0 1 (single (pos 10)) []
@@ -200,10 +201,10 @@ blanks = record {
   flow = and (enter unit) (enter number);
   cells = [];
   events =
-      (first ∷ [], givingBlank [])
-      ∷ (second ∷ [], give (padded (some (pos 0)) (none ∷ [])))
-      ∷ (second ∷ [], givingBlank (some (pos 7) ∷ []))
-      ∷ (first ∷ [], givingBlank (some (pos 0) ∷ []))
+      at (first ∷ []) (givingBlank [])
+      ∷ at (second ∷ []) (give (padded (some (pos 0)) (none ∷ [])))
+      ∷ at (second ∷ []) (givingBlank (some (pos 7) ∷ []))
+      ∷ at (first ∷ []) (givingBlank (some (pos 0) ∷ []))
       ∷ [];
   type = some (pair unit number);
   shown =
@@ -221,7 +222,7 @@ abbrev pub over-start : Case
 over-start = record {
   flow = let' (eassign 0 (num 3)) (and (enter number) (edit (eop product (num 65536) (num 32768))));
   cells = cell 7;
-  events = (first ∷ [], giving1 1) ∷ [];
+  events = at (first ∷ []) (giving1 1) ∷ [];
   type = some (pair number number);
   shown =
       screen 0 1 1 0 (single (pos 0)) []
@@ -250,7 +251,7 @@ abbrev pub over-next : Case
 over-next = record {
   flow = next (edit (num 1)) (let' (eassign 0 (num 3)) (let' (eop difference (enumber (negsuc 2147483647)) (ebinder 1)) (edit (num 0))));
   cells = cell 7;
-  events = ([], press continue) ∷ [];
+  events = pressed continue ∷ [];
   type = some number;
   shown =
       screen 0 1 0 0 (single (pos 0)) (editor [] ∷ [])
@@ -265,7 +266,7 @@ over-xor = record {
   flow = xor (and (edit (num 1)) (edit (eop product (num 46341) (num 46341))))
       (and (edit (num 1)) (if (eop equal (num 1) (num 1)) (edit (num 2)) (edit (eop product (num 46341) (num 46341)))));
   cells = [];
-  events = ([], press left) ∷ ([], press right) ∷ [];
+  events = pressed left ∷ pressed right ∷ [];
   type = some (pair number number);
   shown =
       screen 0 1 0 0 (single (pos 0)) (buttonLine 4 ∷ [])
@@ -281,9 +282,9 @@ wide = record {
   flow = enter eight;
   cells = [];
   events =
-      ([], givingEight 5 (some (negsuc 17)))
-      ∷ ([], givingEight 0 none)
-      ∷ ([], givingEight 0 (some (negsuc 17)))
+      at [] (givingEight 5 (some (negsuc 17)))
+      ∷ at [] (givingEight 0 none)
+      ∷ at [] (givingEight 0 (some (negsuc 17)))
       ∷ [];
   type = some eight;
   shown =
@@ -312,11 +313,11 @@ cases = p1-p4 ∷ p5 ∷ p6 ∷ p7 ∷ p8 ∷ p9 ∷ p10 ∷ p11 ∷ p12 ∷ but
 -- what is computed is what 01 says
 pub cases-hold : map computed cases ≡ map expected cases
 unfolding
-    cases computed failedWhole expected screens taken screenOf flag valueFlag valueLeaves lineOf digit inferTask infer
+    cases computed failedWhole expected screens taken unlessRefused screenOf flag valueFlag valueLeaves lineOf digit inferTask infer
     bind ask nth numberTo opTo takes gives sameTo ifTo typeTo assignTo decLe leaves moves settle normalise strides
     unlessStill goOn goOnWith chooseRight chooseLeft failing eval branch isTrue apply kept exact isWord exceeds overflows overflowsTask leaf value pairOf
     leavesOf padded leafKinds marked offers buttonIf typeOf valueOf meetsLeaf meets numberGiven given mapTask thenSome atEditor
-    atMark atSides atContinue unlessFailing handle continueIf entries
+    atMark atSides atContinue unlessFailing handle continueIf entries ofRole touchesLeft verdict
 cases-hold = refl
 
 -- CR 3: the ends of the words. An operator, its numbers, and whether the result leaves the words

@@ -9,8 +9,8 @@ use lib.ListN.{getD, set}
 use Rattle.word.specs.Word.{isWord, eqZ}
 use Rattle.tophat.specs.Syntax.{Op, sum, difference, product, less, lessEqual, equal, andOp, orOp}
 use Rattle.tophat.specs.Syntax.{Exp, eunit, etruth, enumber, ebinder, eop, eif, epair, efst, esnd, ederef, eassign, elet}
-use Rattle.tophat.specs.Syntax.{Code, edit, enter, update, then, next, fail, and, or, xor, view, if, let', Val, vunit, vtruth, vnumber, vpair, Env, Store}
-use Rattle.tophat.specs.Syntax.{TaskOf, filled, blank, shared, before, failed, both, either, unpicked, ifTrue, ifFalse, bound}
+use Rattle.tophat.specs.Syntax.{Code, edit, enter, update, then, next, fail, and, or, xor, view, gate, if, let', Val, vunit, vtruth, vnumber, vpair, Env, Store}
+use Rattle.tophat.specs.Syntax.{TaskOf, filled, blank, shared, before, failed, both, either, unpicked, gated, ifTrue, ifFalse, bound}
 
 -- the first leaf of a value, a truth as 0 or 1
 unfoldable pub leaf : Val → ℤ
@@ -124,6 +124,7 @@ evaluate (or a b) ρ s =
     (either t u, s₂)
 evaluate (xor a b) ρ s = (unpicked, s)
 evaluate (view e) ρ s = let (v, s₁) = eval e ρ s in (filled v, s₁)
+evaluate (gate r n b) ρ s = let (u, s₁) = evaluate b ρ s in (gated n u, s₁)
 evaluate (if e a b) ρ s =
     let (v, s₁) = eval e ρ s in
     branch (isTrue v) (λ s. let (t, s₂) = evaluate a ρ s in (ifTrue t, s₂)) (λ s. let (u, s₂) = evaluate b ρ s in (ifFalse u, s₂)) s₁
@@ -144,5 +145,6 @@ overflowsTask (and a b) ρ s = let (t, s₁) = evaluate a ρ s in overflowsTask 
 overflowsTask (or a b) ρ s = let (t, s₁) = evaluate a ρ s in overflowsTask a ρ s || overflowsTask b ρ s₁
 overflowsTask (xor a b) ρ s = false
 overflowsTask (view e) ρ s = overflows e ρ s
+overflowsTask (gate r n b) ρ s = overflowsTask b ρ s
 overflowsTask (if e a b) ρ s = let (v, s₁) = eval e ρ s in overflows e ρ s || branch (isTrue v) (λ s. overflowsTask a ρ s) (λ s. overflowsTask b ρ s) s₁
 overflowsTask (let' e b) ρ s = let (v, s₁) = eval e ρ s in overflows e ρ s || overflowsTask b (v ∷ ρ) s₁

@@ -4,8 +4,8 @@ use mathlib.Core.Bool.{Bool, true, false, _&&_, _||_}
 use mathlib.Core.Option.{Option, none, some}
 use mathlib.Core.List.{_∷_}
 use Prim.Native.Nat.{ℕ, zero, suc, _+_}
-use Rattle.tophat.specs.Syntax.{moves, StepT, OrT, Code, edit, enter, update, then, next, fail, and, or, xor, view, if, let', Val, Env, Store}
-use Rattle.tophat.specs.Syntax.{TaskOf, before, after, both, either, orLeft, orRight, unpicked, pickedLeft, pickedRight, ifTrue, ifFalse, bound}
+use Rattle.tophat.specs.Syntax.{moves, StepT, OrT, Code, edit, enter, update, then, next, fail, and, or, xor, view, gate, if, let', Val, Env, Store}
+use Rattle.tophat.specs.Syntax.{TaskOf, before, after, both, either, orLeft, orRight, unpicked, pickedLeft, pickedRight, gated, ifTrue, ifFalse, bound}
 use Rattle.tophat.specs.Normalising.{value}
 use Rattle.tophat.proofs.ComputeEvaluation.{evaluate, overflowsTask}
 
@@ -64,6 +64,7 @@ unfoldable mutual
   failing (xor a b) ρ s (pickedLeft t) = failing a ρ s t
   failing (xor a b) ρ s (pickedRight u) = failing b ρ s u
   failing (view e) ρ s t = false
+  failing (gate r n b) ρ s (gated k u) = failing b ρ s u
   failing (if e a b) ρ s (ifTrue t) = failing a ρ s t
   failing (if e a b) ρ s (ifFalse u) = failing b ρ s u
   failing (let' e b) ρ s (bound v u) = failing b (v ∷ ρ) s u
@@ -92,6 +93,7 @@ unfoldable mutual
   stride (xor a b) ρ s (pickedLeft t) = let (t₁, s₁, m) = stride a ρ s t in (pickedLeft t₁, s₁, m)
   stride (xor a b) ρ s (pickedRight u) = let (u₁, s₁, m) = stride b ρ s u in (pickedRight u₁, s₁, m)
   stride (view e) ρ s t = (t, s, false)
+  stride (gate r n b) ρ s (gated k u) = let (u₁, s₁, m) = stride b ρ s u in (gated k u₁, s₁, m)
   stride (if e a b) ρ s (ifTrue t) = let (t₁, s₁, m) = stride a ρ s t in (ifTrue t₁, s₁, m)
   stride (if e a b) ρ s (ifFalse u) = let (u₁, s₁, m) = stride b ρ s u in (ifFalse u₁, s₁, m)
   stride (let' e b) ρ s (bound v u) = let (u₁, s₁, m) = stride b (v ∷ ρ) s u in (bound v u₁, s₁, m)
@@ -129,6 +131,7 @@ remaining (xor a b) unpicked = 0
 remaining (xor a b) (pickedLeft t) = remaining a t
 remaining (xor a b) (pickedRight u) = remaining b u
 remaining (view e) t = 0
+remaining (gate r n b) (gated k u) = remaining b u
 remaining (if e a b) (ifTrue t) = remaining a t
 remaining (if e a b) (ifFalse u) = remaining b u
 remaining (let' e b) (bound v u) = remaining b u

@@ -9,7 +9,7 @@ use lib.Signed.{mag}
 use Rattle.word.specs.Word.{half}
 use Rattle.tophat.specs.Syntax.{maxLeaves, Ty, unit, truth, number, pair, Ty-discrete, leaves, Op, sum, difference, product, less, lessEqual, equal, andOp, orOp}
 use Rattle.tophat.specs.Syntax.{Exp, eunit, etruth, enumber, ebinder, eop, eif, epair, efst, esnd, ederef, eassign, elet}
-use Rattle.tophat.specs.Syntax.{Code, edit, enter, update, then, next, fail, and, or, xor, view, if, let'}
+use Rattle.tophat.specs.Syntax.{Code, edit, enter, update, then, next, fail, and, or, xor, view, gate, if, let'}
 
 -- an answer, where something decided holds
 unfoldable pub ask : {P X : Type 0} → Dec P → Option X → Option X
@@ -100,5 +100,6 @@ inferTask Σ Γ (and a b) = bind (inferTask Σ Γ a) λ τ. bind (inferTask Σ �
 inferTask Σ Γ (or a b) = bind (inferTask Σ Γ a) λ τ. bind (inferTask Σ Γ b) λ υ. sameTo τ υ
 inferTask Σ Γ (xor a b) = bind (inferTask Σ Γ a) λ τ. bind (inferTask Σ Γ b) λ υ. sameTo τ υ
 inferTask Σ Γ (view e) = infer Σ Γ e
+inferTask Σ Γ (gate r n b) = inferTask Σ Γ b
 inferTask Σ Γ (if e a b) = bind (infer Σ Γ e) λ κ. bind (inferTask Σ Γ a) λ τ. bind (inferTask Σ Γ b) λ υ. ifTo κ τ υ
 inferTask Σ Γ (let' e b) = bind (infer Σ Γ e) λ τ. inferTask Σ (τ ∷ Γ) b

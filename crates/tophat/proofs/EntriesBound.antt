@@ -7,11 +7,12 @@ use Prim.Native.Nat.{suc, _+_, _≤_}
 use native.Mathlib.Omega.{arith}
 use lib.ListN.{length, length-append}
 use Rattle.decimal.specs.Path.{Mark, first, second}
-use Rattle.tophat.specs.Syntax.{taskRows, Code, edit, enter, update, then, next, fail, and, or, xor, view, if, let', Val, Env, Store}
-use Rattle.tophat.specs.Syntax.{TaskOf, filled, before, after, both, either, orLeft, orRight, unpicked, pickedLeft, pickedRight, ifTrue, ifFalse, bound}
+use Rattle.tophat.specs.Syntax.{taskRows, Code, edit, enter, update, then, next, fail, and, or, xor, view, gate, if, let', Val, Env, Store}
+use Rattle.tophat.specs.Syntax.{TaskOf, filled, before, after, both, either, orLeft, orRight, unpicked, pickedLeft, pickedRight, gated, ifTrue, ifFalse, bound}
 use Rattle.tophat.specs.Normalising.{value}
+use Rattle.tophat.specs.Roles.{Who, opens}
 use Rattle.tophat.specs.Handling.{Button, continue, left, right}
-use Rattle.tophat.specs.Showing.{Entry, marked, offers, buttonIf}
+use Rattle.tophat.specs.Showing.{Entry, marked, offers, buttonIf, entriesIf}
 use Rattle.tophat.proofs.ComputeNormalising.{rightFails, branchFails}
 use Rattle.tophat.proofs.ComputeEntries.{continueIf, entries}
 
@@ -27,6 +28,7 @@ some-row (and a b) = omega arith
 some-row (or a b) = omega arith
 some-row (xor a b) = omega arith
 some-row (view e) = omega arith
+some-row (gate r n b) = omega arith
 some-row (if e a b) = omega arith
 some-row (let' e b) = omega arith
 
@@ -59,40 +61,46 @@ two-buttons x y =
     let k = length-button y right in
     omega arith
 
+fewer : (b : Bool) (es : List Entry) → length (entriesIf b es) ≤ length es
+unfolding entriesIf
+fewer true es = omega arith
+fewer false es = omega arith
+
 -- at most one entry for each task row
-pub entries-bound : (c : Code) (ρ : Env) (s : Store) (t : TaskOf c) → length (entries c ρ s t) ≤ taskRows c
+pub entries-bound : (w : Who) (c : Code) (ρ : Env) (s : Store) (t : TaskOf c) → length (entries w c ρ s t) ≤ taskRows c
 unfolding entries taskRows offers
-entries-bound (edit e) ρ s (filled v) = omega arith
-entries-bound (enter τ) ρ s t = omega arith
-entries-bound (update n) ρ s t = omega arith
-entries-bound (then a b) ρ s (before t) = let h = entries-bound a ρ s t in omega arith
-entries-bound (then a b) ρ s (after v u) = let h = entries-bound b (v ∷ ρ) s u in omega arith
-entries-bound (next a b) ρ s (before t) =
-    let h = entries-bound a ρ s t in
-    let k = with-continue (entries a ρ s t) (value a t s) (λ v. rightFails b (v ∷ ρ) s) in
+entries-bound w (edit e) ρ s (filled v) = omega arith
+entries-bound w (enter τ) ρ s t = omega arith
+entries-bound w (update n) ρ s t = omega arith
+entries-bound w (then a b) ρ s (before t) = let h = entries-bound w a ρ s t in omega arith
+entries-bound w (then a b) ρ s (after v u) = let h = entries-bound w b (v ∷ ρ) s u in omega arith
+entries-bound w (next a b) ρ s (before t) =
+    let h = entries-bound w a ρ s t in
+    let k = with-continue (entries w a ρ s t) (value a t s) (λ v. rightFails b (v ∷ ρ) s) in
     omega arith
-entries-bound (next a b) ρ s (after v u) = let h = entries-bound b (v ∷ ρ) s u in omega arith
-entries-bound (fail τ) ρ s t = omega arith
-entries-bound (and a b) ρ s (both t u) =
-    let h = entries-bound a ρ s t in
-    let k = entries-bound b ρ s u in
-    let e = marked-both (entries a ρ s t) (entries b ρ s u) in
+entries-bound w (next a b) ρ s (after v u) = let h = entries-bound w b (v ∷ ρ) s u in omega arith
+entries-bound w (fail τ) ρ s t = omega arith
+entries-bound w (and a b) ρ s (both t u) =
+    let h = entries-bound w a ρ s t in
+    let k = entries-bound w b ρ s u in
+    let e = marked-both (entries w a ρ s t) (entries w b ρ s u) in
     omega arith
-entries-bound (or a b) ρ s (either t u) =
-    let h = entries-bound a ρ s t in
-    let k = entries-bound b ρ s u in
-    let e = marked-both (entries a ρ s t) (entries b ρ s u) in
+entries-bound w (or a b) ρ s (either t u) =
+    let h = entries-bound w a ρ s t in
+    let k = entries-bound w b ρ s u in
+    let e = marked-both (entries w a ρ s t) (entries w b ρ s u) in
     omega arith
-entries-bound (or a b) ρ s (orLeft t) = let h = entries-bound a ρ s t in omega arith
-entries-bound (or a b) ρ s (orRight u) = let h = entries-bound b ρ s u in omega arith
-entries-bound (xor a b) ρ s unpicked =
+entries-bound w (or a b) ρ s (orLeft t) = let h = entries-bound w a ρ s t in omega arith
+entries-bound w (or a b) ρ s (orRight u) = let h = entries-bound w b ρ s u in omega arith
+entries-bound w (xor a b) ρ s unpicked =
     let h = two-buttons (not (branchFails a ρ s)) (not (branchFails b ρ s)) in
     let k = some-row a in
     let l = some-row b in
     omega arith
-entries-bound (xor a b) ρ s (pickedLeft t) = let h = entries-bound a ρ s t in omega arith
-entries-bound (xor a b) ρ s (pickedRight u) = let h = entries-bound b ρ s u in omega arith
-entries-bound (view e) ρ s (filled v) = omega arith
-entries-bound (if e a b) ρ s (ifTrue t) = let h = entries-bound a ρ s t in omega arith
-entries-bound (if e a b) ρ s (ifFalse u) = let h = entries-bound b ρ s u in omega arith
-entries-bound (let' e b) ρ s (bound v u) = let h = entries-bound b (v ∷ ρ) s u in omega arith
+entries-bound w (xor a b) ρ s (pickedLeft t) = let h = entries-bound w a ρ s t in omega arith
+entries-bound w (xor a b) ρ s (pickedRight u) = let h = entries-bound w b ρ s u in omega arith
+entries-bound w (view e) ρ s (filled v) = omega arith
+entries-bound w (gate r n b) ρ s (gated k u) = let h = entries-bound w b ρ s u in let l = fewer (opens w (r, k)) (entries w b ρ s u) in omega arith
+entries-bound w (if e a b) ρ s (ifTrue t) = let h = entries-bound w a ρ s t in omega arith
+entries-bound w (if e a b) ρ s (ifFalse u) = let h = entries-bound w b ρ s u in omega arith
+entries-bound w (let' e b) ρ s (bound v u) = let h = entries-bound w b (v ∷ ρ) s u in omega arith

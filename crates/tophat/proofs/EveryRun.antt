@@ -1,10 +1,11 @@
 -- The theorem on all lists of look and handle calls, on trees (01, "Four lines on the contracts", 3).
 -- A rest is a task and a store of the code's types that normalising does not change. In every rest (`rest-stands`) the
 -- rules accept or refuse each event, and an accepted one they carry to a normal form, in at most one stride more than the
--- code has rows of kind 43 and 47; they give the task a list of entries, which covers exactly the accepted events, each by
--- one entry; and that list is empty exactly when the task is quiet. A typed code, evaluated and normalised in a store of the
--- cells' types, comes to a rest (`started-rest`). From a rest every list of calls runs, and ends in a rest
--- (`every-run`); it ends in no other state (`run-one`), so whatever run the rules derive ends in a rest (`run-stands`).
+-- code has rows of kind 43 and 47; they give each role, and anyone, a list of entries, which covers exactly the events that
+-- are accepted from them, each by one entry; anyone's list is empty exactly when the task is quiet, and then all are (CR 6). A
+-- typed code, evaluated and normalised in a store of the cells' types, comes to a rest (`started-rest`). From a rest every list
+-- of calls runs, and ends in a rest (`every-run`); it ends in no other state (`run-one`), so whatever run the rules derive ends
+-- in a rest (`run-stands`).
 -- Rests on HandlingSound, HandlingComplete, EntriesAgree, EntriesCover, EntriesQuiet and Bound.
 use mathlib.Core.Path.{_≡_, refl, subst}
 use mathlib.Core.Bool.{true, false}
@@ -19,17 +20,18 @@ use Rattle.tophat.specs.Evaluation.{EvaluatesTask, OverflowsTask}
 use Rattle.tophat.specs.Normalising.{Fails, s-fail, Normalises, n-done}
 use Rattle.tophat.specs.Quiet.{Quiet}
 use Rattle.tophat.specs.Handling.{Action, Handles}
+use Rattle.tophat.specs.Roles.{Gate, Who, anyone, is, admits}
 use Rattle.tophat.specs.Runs.{Call, look, touch, Accepts, Refuses, Leaves, l-look, l-taken, l-refused, Runs, r-end, r-call, Rest, Stands}
 use Rattle.tophat.proofs.Basics.{by-truth, All, all-none, all-some, all-is}
 use Rattle.tophat.proofs.ComputeEvaluation.{overflowsTask}
 use Rattle.tophat.proofs.ComputeNormalising.{failing, settle}
-use Rattle.tophat.proofs.ComputeHandling.{handle}
+use Rattle.tophat.proofs.ComputeHandling.{Taken, handle}
 use Rattle.tophat.proofs.ComputeEntries.{entries}
 use Rattle.tophat.proofs.TaskEvaluationAgrees.{evaluate-good}
 use Rattle.tophat.proofs.NormalisingSound.{fails-sound, normalise-sound}
 use Rattle.tophat.proofs.NormalisingComplete.{fails-is, normalises-one}
 use Rattle.tophat.proofs.Bound.{normalises-bound, normal-rest}
-use Rattle.tophat.proofs.HandlingComplete.{handles-is, handles-one, refuses}
+use Rattle.tophat.proofs.HandlingComplete.{handles-is, handles-one, refuses, keeps-out}
 use Rattle.tophat.proofs.HandlingSound.{GoodHandling, handles-sound}
 use Rattle.tophat.proofs.Lights.{Covered}
 use Rattle.tophat.proofs.EntriesCover.{covered-taken, taken-covered, covered-once}
@@ -41,27 +43,27 @@ module _ {Σ : List Ty} {c : Code} {τ : Ty} {t : TaskOf c} {s : Store} (r : Res
   handled : (p : Path) (x : Action) → All (GoodHandling Σ [] τ c [] s t p x) (handle c [] s t p x)
   handled p x = handles-sound c [] s t p x (r .task) v-nil (r .store)
 
-  decide : (p : Path) (x : Action) (o : Option (TaskOf c × Store)) → handle c [] s t p x ≡ o → All (GoodHandling Σ [] τ c [] s t p x) o → Accepts c t s p x ⊎ Refuses c t s p x
-  decide p x none e all-none = inr (refuses c s t p x e)
-  decide p x (some q) e (all-some g) = inl (q .0, q .1, g .derived)
+  decide : (w : Who) (p : Path) (x : Action) (o : Option (Taken (TaskOf c))) → handle c [] s t p x ≡ o → All (GoodHandling Σ [] τ c [] s t p x) o → Accepts w c t s p x ⊎ Refuses w c t s p x
+  decide w p x none e all-none = inr (refuses w c s t p x e)
+  decide w p x (some q) e (all-some g) = by-truth (admits w (q .2)) (λ a. inl (q .0, q .1, q .2, g .derived, a)) (λ n. inr (keeps-out w c s t p x e n))
 
-  follow : (p : Path) (x : Action) (t₁ : TaskOf c) (s₁ : Store) → Handles c [] s t p x t₁ s₁ → (t₂ : TaskOf c) × (s₂ : Store) × (n : ℕ) × Normalises c [] s₁ t₁ t₂ s₂ n × (n ≤ 1 + moves c)
-  follow p x t₁ s₁ d =
+  follow : (p : Path) (x : Action) (t₁ : TaskOf c) (s₁ : Store) (gs : List Gate) → Handles c [] s t p x t₁ s₁ gs → (t₂ : TaskOf c) × (s₂ : Store) × (n : ℕ) × Normalises c [] s₁ t₁ t₂ s₂ n × (n ≤ 1 + moves c)
+  follow p x t₁ s₁ gs d =
       let g = all-is (handled p x) (handles-is d) in
       let n = normalise-sound c [] s₁ t₁ (g .task) v-nil (g .store) in
       (_, _, _, n .derived, normalises-bound (n .derived))
 
-  accepted-covered : (p : Path) (x : Action) → Accepts c t s p x ↔ Covered (entries c [] s t) p x
-  accepted-covered p x = (
-    λ (t₁, s₁, d). taken-covered c [] s t (handles-is d),
-    λ (i, e, a, k). let (q, h) = covered-taken c [] s t a k in let g = all-is (handled p x) h in (q .0, q .1, g .derived),
+  accepted-covered : (w : Who) (p : Path) (x : Action) → Accepts w c t s p x ↔ Covered (entries w c [] s t) p x
+  accepted-covered w p x = (
+    λ (t₁, s₁, gs, d, a). taken-covered w c [] s t (handles-is d) a,
+    λ (i, e, a, k). let (q, h, y) = covered-taken w c [] s t a k in let g = all-is (handled p x) h in (q .0, q .1, q .2, g .derived, y),
   )
 
   fails : Fails c [] s t (failing c [] s t)
   fails = fails-sound c [] s t (r .task) v-nil (r .store)
 
-  empty-iff-quiet : (entries c [] s t ≡ []) ↔ Quiet c [] s t
-  empty-iff-quiet = (empty-quiet c [] s t (r .task) v-nil (r .store), quiet-empty)
+  empty-iff-quiet : (entries anyone c [] s t ≡ []) ↔ Quiet c [] s t
+  empty-iff-quiet = (empty-quiet c [] s t (r .task) v-nil (r .store), quiet-empty anyone)
 
   fails-decided : Fails c [] s t true ⊎ Fails c [] s t false
   fails-decided =
@@ -73,29 +75,35 @@ module _ {Σ : List Ty} {c : Code} {τ : Ty} {t : TaskOf c} {s : Store} (r : Res
   pub rest-stands : Stands Σ c τ t s
   rest-stands = record {
     rest = r;
-    decided = λ p x. decide p x _ refl (handled p x);
-    one = λ p x t₁ t₂ s₁ s₂ d e. handles-one d e;
+    decided = λ w p x. decide w p x _ refl (handled p x);
+    one = λ p x t₁ t₂ s₁ s₂ gs hs d e. handles-one d e;
     outcome = follow;
-    shown = entries c [] s t;
-    shows = shows-sound c [] s t (r .task) v-nil (r .store);
-    sole = λ es d. shows-is d;
+    shown = λ w. entries w c [] s t;
+    shows = λ w. shows-sound c [] s t (r .task) v-nil (r .store);
+    sole = λ w es d. shows-is d;
     accepted-iff-covered = accepted-covered;
-    covered-once = λ i j e f p x d k g h. covered-once c [] s t d k g h;
+    covered-once = λ w i j e f p x d k g h. covered-once w c [] s t d k g h;
     empty-iff-quiet = empty-iff-quiet;
+    quiet-empty = λ q w. quiet-empty w q;
     fails-decided = fails-decided;
-    failing-quiet = λ d. empty-iff-quiet .0 (failing-empty c [] s t (fails-is d));
+    failing-quiet = λ d. empty-iff-quiet .0 (failing-empty anyone c [] s t (fails-is d));
   }
 
-  taken-rest : (p : Path) (x : Action) (o : Option (TaskOf c × Store)) → handle c [] s t p x ≡ o → All (GoodHandling Σ [] τ c [] s t p x) o → (t₁ : TaskOf c) × (s₁ : Store) × Leaves c t s (touch p x) t₁ s₁ × Rest Σ c τ t₁ s₁
-  taken-rest p x none e all-none = (t, s, l-refused (refuses c s t p x e), r)
-  taken-rest p x (some q) e (all-some g) =
-      let n = normalise-sound c [] (q .1) (q .0) (g .task) v-nil (g .store) in
-      (_, _, l-taken (g .derived) (n .derived), record { task = n .task; store = n .store; still = normal-rest (n .derived) })
+  -- what one call leaves is a rest
+  abbrev Left : Call → Type 0
+  Left k = (t₁ : TaskOf c) × (s₁ : Store) × Leaves c t s k t₁ s₁ × Rest Σ c τ t₁ s₁
+
+  taken-rest : (m : ℕ) (p : Path) (x : Action) → Accepts (is m) c t s p x ⊎ Refuses (is m) c t s p x → Left (touch m p x)
+  taken-rest m p x (inr n) = (t, s, l-refused n, r)
+  taken-rest m p x (inl (t₁, s₁, gs, d, a)) =
+      let g = all-is (handled p x) (handles-is d) in
+      let n = normalise-sound c [] s₁ t₁ (g .task) v-nil (g .store) in
+      (_, _, l-taken d a (n .derived), record { task = n .task; store = n .store; still = normal-rest (n .derived) })
 
   -- every call leaves a rest
-  call-rest : (k : Call) → (t₁ : TaskOf c) × (s₁ : Store) × Leaves c t s k t₁ s₁ × Rest Σ c τ t₁ s₁
+  call-rest : (k : Call) → Left k
   call-rest look = (t, s, l-look, r)
-  call-rest (touch p x) = taken-rest p x _ refl (handled p x)
+  call-rest (touch m p x) = taken-rest m p x (decide (is m) p x _ refl (handled p x))
 
 -- a typed code that does not leave the words, evaluated and normalised in a store of the cells' types, is at rest
 pub started-rest : {Σ : List Ty} {c : Code} {τ : Ty} → CodeType Σ [] c τ → (s : Store) → ValueTypes s Σ → overflowsTask c [] s ≡ false
@@ -122,12 +130,12 @@ every-run r (k ∷ ks) =
 -- a call leaves one state
 leaves-one : {c : Code} {t t₁ t₂ : TaskOf c} {s s₁ s₂ : Store} {k : Call} → Leaves c t s k t₁ s₁ → Leaves c t s k t₂ s₂ → (t₁ ≡ t₂) × (s₁ ≡ s₂)
 leaves-one l-look l-look = (refl, refl)
-leaves-one (l-taken d n) (l-taken e m) =
-    let (p, q) = handles-one d e in
+leaves-one (l-taken d a n) (l-taken e b m) =
+    let (p, q, _) = handles-one d e in
     let (i, j, k) = normalises-one (rw (p, q) at n) m in
     (i, j)
-leaves-one (l-taken d n) (l-refused r) = absurd (r _ _ d)
-leaves-one (l-refused r) (l-taken d n) = absurd (r _ _ d)
+leaves-one (l-taken d a n) (l-refused r) = absurd (r _ _ _ d a)
+leaves-one (l-refused r) (l-taken d a n) = absurd (r _ _ _ d a)
 leaves-one (l-refused r) (l-refused q) = (refl, refl)
 
 -- a list of calls has one end

@@ -12,7 +12,7 @@ use Rattle.tophat.specs.Normalising.{pairOf, firstOf, value}
 use Rattle.tophat.proofs.Basics.{apart, by-truth, and-left, and-right, or-false, no-some}
 use Rattle.tophat.proofs.ComputeEvaluation.{evaluate, overflowsTask}
 use Rattle.tophat.proofs.ComputeNormalising.{unlessStill, strides, goOn, goOnWith, chooseRight, chooseLeft, failing, stride, normalise, settle, rightFails}
-use Rattle.tophat.proofs.Became.{alike, Formed, of-became, of-edit, of-enter, of-update, of-then, of-next, of-fail, of-and, of-or, of-xor, of-view, formed}
+use Rattle.tophat.proofs.Became.{alike, Formed, of-wraps, of-edit, of-enter, of-update, of-then, of-next, of-fail, of-and, of-or, of-xor, of-view, formed}
 use Rattle.tophat.proofs.Progress.{flag-is}
 
 right-false : (x y : Bool) → y ≡ false → x && y ≡ false
@@ -31,7 +31,7 @@ chosen (some w) p x y h k e = let l = h w refl in rw l
 
 lives : {c : Code} {ρ : Env} {t : TaskOf c} → Formed c ρ t → (s : Store) (v : Val) → value c t s ≡ some v → failing c ρ s t ≡ false
 unfolding value failing
-lives (of-became {u = u} b d) s v h = alike b .fails s u ∙ lives d s v (sym (alike b .values s u) ∙ h)
+lives (of-wraps {u = u} b d) s v h = alike b .fails s u ∙ lives d s v (sym (alike b .values s u) ∙ h)
 lives of-edit s v h = refl
 lives of-enter s v h = refl
 lives of-update s v h = refl
@@ -57,7 +57,7 @@ no-value c ρ s t h k = let q = flag-is c ρ s t .0 k in ap₂ (value c) (q .0) 
 
 still : {c : Code} {ρ : Env} {t : TaskOf c} → Formed c ρ t → (s : Store) → failing c ρ s t ≡ true → stride c ρ s t .2 ≡ false
 unfolding failing stride goOnWith chooseLeft chooseRight
-still (of-became {u = u} b d) s h = ap (λ r. r .2) (alike b .strides s u) ∙ still d s (sym (alike b .fails s u) ∙ h)
+still (of-wraps {u = u} b d) s h = ap (λ r. r .2) (alike b .strides s u) ∙ still d s (sym (alike b .fails s u) ∙ h)
 still of-edit s h = refl
 still of-enter s h = refl
 still of-update s h = refl
@@ -129,7 +129,7 @@ module _ (a b : Code) (ρ : Env) where
 
 goes : {c : Code} {ρ : Env} {t : TaskOf c} → Formed c ρ t → (s : Store) → LivesIfMoved c ρ (stride c ρ s t)
 unfolding failing stride
-goes (of-became {u = u} b d) s h =
+goes (of-wraps {u = u} b d) s h =
     let e = alike b .strides s u in
     let k = goes d s (sym (ap (λ r. r .2) e) ∙ h) in
     rw e (alike b .fails _ _ ∙ k)

@@ -4,6 +4,7 @@ pub mod ComputeNormalising
 pub mod ComputeHandling
 pub mod ComputeEntries
 pub mod Became
+pub mod Admitted
 pub mod Leaves
 pub mod EvaluationAgrees
 pub mod TaskEvaluationAgrees
@@ -20,6 +21,7 @@ pub mod NormalisingSound
 pub mod NormalisingComplete
 pub mod CaseScreens
 pub mod Cases
+pub mod RoleCases
 pub mod EntriesQuiet
 pub mod EntriesBound
 pub mod Bound

@@ -1,19 +1,19 @@
 -- Entries against a function that takes events: entries light a function where they cover exactly the events that it
 -- takes, each by one entry. Each form of `handle` and `entries` keeps this. Rests on ComputeEntries and Leaves.
 use mathlib.Core.Path.{_≡_, refl, sym, ap, _∙_, subst}
-use mathlib.Core.Bool.{Bool, true, false, not}
+use mathlib.Core.Bool.{Bool, true, false, not, cond}
 use mathlib.Core.Option.{Option, none, some}
 use mathlib.Core.List.{List, [], _∷_, _++_}
 use Prim.Native.Nat.{ℕ, suc, _+_}
 use native.Mathlib.Omega.{arith}
 use lib.ListN.{length}
 use Rattle.decimal.specs.Path.{Mark, first, second, Path}
-use Rattle.tophat.specs.Syntax.{Ty, Val, Store}
+use Rattle.tophat.specs.Syntax.{Ty, GateT, Val, Store}
 use Rattle.tophat.specs.Typing.{At, here, there}
 use Rattle.tophat.specs.Handling.{Button, continue, left, right, Action, give, press}
-use Rattle.tophat.specs.Showing.{Entry, Covers, c-fill, c-button, marked, offers, buttonIf}
+use Rattle.tophat.specs.Showing.{Entry, Covers, c-fill, c-button, marked, offers, buttonIf, entriesIf}
 use Rattle.tophat.proofs.Basics.{no-some}
-use Rattle.tophat.proofs.ComputeHandling.{mapTask, thenSome, atEditor, atMark, atSides, atContinue, unlessFailing}
+use Rattle.tophat.proofs.ComputeHandling.{Taken, mapTask, passGate, thenSome, atEditor, atMark, atSides, atContinue, unlessFailing}
 use Rattle.tophat.specs.Leaves.{given}
 use Rattle.tophat.proofs.ComputeEntries.{continueIf}
 use Rattle.tophat.proofs.Leaves.{given-gives, gives-given, gives-meets, meets-gives}
@@ -107,7 +107,7 @@ else-none (some r) = refl
 -- Entries and what they light.
 
 module _ {X : Type 0} where
-  same-light : {es : List Entry} {f g : Path → Action → Option X} → Lights es f → ((p : Path) (x : Action) → f p x ≡ g p x) → Lights es g
+  pub same-light : {es : List Entry} {f g : Path → Action → Option X} → Lights es f → ((p : Path) (x : Action) → f p x ≡ g p x) → Lights es g
   same-light {es} {f} {g} l e = record { taken = λ d c. takes d c; covered = λ p x h. l .covered p x (e p x ∙ h); once = λ d k c b. l .once d k c b }
     where
       takes : {i : ℕ} {n : Entry} {p : Path} {x : Action} → At es i n → Covers n p x → (r : X) × (g p x ≡ some r)
@@ -304,17 +304,30 @@ module _ {X : Type 0} where
       agree (m ∷ p) x = else-none (f (m ∷ p) x)
 
 -- a task around another shows its entries and takes what it takes
-pub map-lights : {A C : Type 0} {es : List Entry} {f : Path → Action → Option (A × Store)} (K : A → C) → Lights es f → Lights es (λ p x. mapTask K (f p x))
+pub map-lights : {A C : Type 0} {es : List Entry} {f : Path → Action → Option (Taken A)} (K : A → C) → Lights es f → Lights es (λ p x. mapTask K (f p x))
 unfolding mapTask
 map-lights {A} {C} {es} {f} K l = record { taken = λ d c. takes d c; covered = λ p x h. let (r, e) = before-map (f p x) h in l .covered p x e; once = λ d e c b. l .once d e c b }
   where
-    before-map : (o : Option (A × Store)) {r : C × Store} → mapTask K o ≡ some r → (q : A × Store) × (o ≡ some q)
+    before-map : (o : Option (Taken A)) {r : Taken C} → mapTask K o ≡ some r → (q : Taken A) × (o ≡ some q)
     before-map none h = no-some h
     before-map (some q) h = (q, refl)
 
-    takes : {i : ℕ} {e : Entry} {p : Path} {x : Action} → At es i e → Covers e p x → (r : C × Store) × (mapTask K (f p x) ≡ some r)
-    takes d c = let (r, h) = l .taken d c in ((K (r .0), r .1), rw h)
+    takes : {i : ℕ} {e : Entry} {p : Path} {x : Action} → At es i e → Covers e p x → (r : Taken C) × (mapTask K (f p x) ≡ some r)
+    takes d c = let (r, h) = l .taken d c in ((K (r .0), r .1, r .2), rw h)
 
-pub map-none : {A C : Type 0} (K : A → C) {o : Option (A × Store)} → o ≡ none → mapTask K o ≡ none
+pub map-none : {A C : Type 0} (K : A → C) {o : Option (Taken A)} → o ≡ none → mapTask K o ≡ none
 unfolding mapTask
 map-none K e = rw e
+
+-- a 50 that is open shows the entries of its task, and takes what that takes
+pub gate-lights : {A : Type 0} {es : List Entry} {f : Path → Action → Option (Taken A)} (r k : ℕ) (b : Bool) → Lights es f → Lights (entriesIf b es) (λ p x. cond b (passGate r k (f p x)) none)
+unfolding passGate entriesIf
+gate-lights r k false l = none-lights
+gate-lights {A} {es} {f} r k true l = record { taken = λ d c. takes d c; covered = λ p x h. let (q, e) = before-gate (f p x) h in l .covered p x e; once = λ d e c b. l .once d e c b }
+  where
+    before-gate : (o : Option (Taken A)) {q : Taken (GateT A)} → passGate r k o ≡ some q → (q : Taken A) × (o ≡ some q)
+    before-gate none h = no-some h
+    before-gate (some q) h = (q, refl)
+
+    takes : {i : ℕ} {e : Entry} {p : Path} {x : Action} → At es i e → Covers e p x → (q : Taken (GateT A)) × (passGate r k (f p x) ≡ some q)
+    takes d c = let (q, h) = l .taken d c in (_, ap (passGate r k) h)

@@ -8,10 +8,11 @@ use Prim.Native.Nat.{suc, _+_}
 use native.Mathlib.Omega.{arith}
 use Rattle.decimal.specs.Path.{first, second, Path}
 use Rattle.tophat.specs.Syntax.{Exp, eunit, etruth, enumber, ebinder, eop, eif, epair, efst, esnd, ederef, eassign, elet}
-use Rattle.tophat.specs.Syntax.{Ty, pair, leaves, moves, Code, edit, enter, update, then, next, fail, and, or, xor, view, if, let', Val, Env, Store}
-use Rattle.tophat.specs.Syntax.{TaskOf, before, after, both, either, orLeft, orRight, unpicked, pickedLeft, pickedRight, ifTrue, ifFalse, bound}
+use Rattle.tophat.specs.Syntax.{Ty, pair, leaves, moves, Code, edit, enter, update, then, next, fail, and, or, xor, view, gate, if, let', Val, Env, Store}
+use Rattle.tophat.specs.Syntax.{TaskOf, before, after, both, either, orLeft, orRight, unpicked, pickedLeft, pickedRight, gated, ifTrue, ifFalse, bound}
 use Rattle.tophat.specs.Typing.{CodeType, t-and, TaskType, k-both}
 use Rattle.tophat.specs.Normalising.{pairOf, value}
+use Rattle.tophat.specs.Roles.{Who}
 use Rattle.tophat.specs.Handling.{Action}
 use Rattle.tophat.specs.Showing.{marked}
 use Rattle.tophat.specs.Redrawn.{exchanged, mirrorPath}
@@ -47,6 +48,7 @@ Writeless (and a b) = Writeless a × Writeless b
 Writeless (or a b) = Writeless a × Writeless b
 Writeless (xor a b) = Writeless a × Writeless b
 Writeless (view e) = Reads e
+Writeless (gate r n b) = Writeless b
 Writeless (if e a b) = Reads e × Writeless a × Writeless b
 Writeless (let' e b) = Reads e × Writeless b
 
@@ -83,6 +85,7 @@ evaluate-store (and a b) w ρ s = evaluate-store b (w .1) ρ _ ∙ evaluate-stor
 evaluate-store (or a b) w ρ s = evaluate-store b (w .1) ρ _ ∙ evaluate-store a (w .0) ρ s
 evaluate-store (xor a b) w ρ s = refl
 evaluate-store (view e) w ρ s = eval-store e w ρ s
+evaluate-store (gate r n b) w ρ s = evaluate-store b w ρ s
 evaluate-store (if e a b) w ρ s = branch-store (isTrue (eval e ρ s .0)) _ _ _ s (eval-store e (w .0) ρ s) (evaluate-store a (w .1) ρ) (evaluate-store b (w .2) ρ)
 evaluate-store (let' e b) w ρ s = evaluate-store b (w .1) _ _ ∙ eval-store e (w .0) ρ s
 
@@ -127,6 +130,7 @@ stride-store (xor a b) w ρ s unpicked = refl
 stride-store (xor a b) w ρ s (pickedLeft t) = stride-store a (w .0) ρ s t
 stride-store (xor a b) w ρ s (pickedRight u) = stride-store b (w .1) ρ s u
 stride-store (view e) w ρ s t = refl
+stride-store (gate r n b) w ρ s (gated k u) = stride-store b w ρ s u
 stride-store (if e a b) w ρ s (ifTrue t) = stride-store a (w .1) ρ s t
 stride-store (if e a b) w ρ s (ifFalse u) = stride-store b (w .2) ρ s u
 stride-store (let' e b) w ρ s (bound v u) = stride-store b (w .1) (v ∷ ρ) s u
@@ -158,11 +162,11 @@ module _ (a b : Code) where
     handle-exchanged s (both t u) (second ∷ p) x = sym (map-two _ _ (handle b ρ s u p x))
 
     -- the two blocks of the list
-    pub entries-exchanged : (s : Store) (t : TaskOf a) (u : TaskOf b)
-        → (entries (and a b) ρ s (both t u) ≡ marked first (entries a ρ s t) ++ marked second (entries b ρ s u))
-        × (entries (and b a) ρ s (exchanged (both t u)) ≡ marked first (entries b ρ s u) ++ marked second (entries a ρ s t))
+    pub entries-exchanged : (w : Who) (s : Store) (t : TaskOf a) (u : TaskOf b)
+        → (entries w (and a b) ρ s (both t u) ≡ marked first (entries w a ρ s t) ++ marked second (entries w b ρ s u))
+        × (entries w (and b a) ρ s (exchanged (both t u)) ≡ marked first (entries w b ρ s u) ++ marked second (entries w a ρ s t))
     unfolding entries exchanged
-    entries-exchanged s t u = (refl, refl)
+    entries-exchanged w s t u = (refl, refl)
 
     pub failing-exchanged : (s : Store) (t : TaskOf (and a b)) → failing (and b a) ρ s (exchanged t) ≡ failing (and a b) ρ s t
     unfolding failing exchanged

@@ -7,7 +7,7 @@ use Prim.Native.Nat.{ℕ, zero, suc, _<_}
 use native.Mathlib.Omega.{arith}
 use Rattle.tophat.specs.Syntax.{moves, Code, Env, Store, TaskOf}
 use Rattle.tophat.specs.Normalising.{Fails, f-edit, f-enter, f-update, f-then, f-next, f-fail, f-and, f-or}
-use Rattle.tophat.specs.Normalising.{f-became, s-became, f-xor, f-view, RightFails, r-evaluated, r-overflow, BranchFails, b-normalised, b-overflow}
+use Rattle.tophat.specs.Normalising.{f-wraps, s-wraps, f-xor, f-view, RightFails, r-evaluated, r-overflow, BranchFails, b-normalised, b-overflow}
 use Rattle.tophat.specs.Normalising.{Strides, s-edit, s-fill, s-update, s-fail, s-then-stay, s-then-fail, s-then-cont, s-next, s-and, s-or-left, s-or-right, s-or-none}
 use Rattle.tophat.specs.Normalising.{s-xor, s-view, Normalises, n-done, n-repeat}
 use Rattle.tophat.proofs.ComputeNormalising.{remaining, unlessStill, strides, goOn, goOnWith, chooseRight, chooseLeft, failing, stride, normalise, settle, rightFails, branchFails}
@@ -61,7 +61,7 @@ mutual
   fails-is (f-or d d₁ e) = ap₂ _&&_ (fails-is d) (fails-is d₁) ∙ e
   fails-is (f-xor p q z) = let h = branch-fails-is p in let k = branch-fails-is q in rw (h, k) z
   fails-is f-view = refl
-  fails-is (f-became {s = s} {u = u} b k d) = let p = alike b .fails s u in let q = fails-is d in rw (← k) (p ∙ q)
+  fails-is (f-wraps {s = s} {u = u} b k d) = let p = alike b .fails s u in let q = fails-is d in rw (← k) (p ∙ q)
 
   -- the answers derived on what is tried are the functions'
   right-fails-is : {b : Code} {ρ : Env} {s : Store} {x : Bool} → RightFails b ρ s x → (let (u, s₁) = evaluate b ρ s in overflowsTask b ρ s || failing b ρ s₁ u) ≡ x
@@ -93,7 +93,7 @@ mutual
   strides-as (s-or-none d e d₁ e₁) = let (m, p) = strides-as d in let (n, q) = strides-as d₁ in (m || n, rw (p, e, q, e₁))
   strides-as s-xor = (false, refl)
   strides-as s-view = (false, refl)
-  strides-as (s-became {s = s} {u = u} b k l d) = let q = alike b .strides s u in let (m, p) = strides-as d in (m, rw (← k, ← l, q, p))
+  strides-as (s-wraps {s = s} {u = u} b k l d) = let q = alike b .strides s u in let (m, p) = strides-as d in (m, rw (← k, ← l, q, p))
 
   -- with a limit above what can still move, the strides derived are the function's
   strides-end-is : {c : Code} {ρ : Env} {s s₁ : Store} {t t₁ : TaskOf c} {i : ℕ} → Normalises c ρ s t t₁ s₁ i → (n : ℕ) → remaining c t < n

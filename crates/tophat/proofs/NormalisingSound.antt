@@ -13,7 +13,7 @@ use Rattle.tophat.specs.Typing.{CodeType, ValueTypes, v-cons}
 use Rattle.tophat.specs.Typing.{TaskType, k-then-before, k-next-before, k-both, k-either}
 use Rattle.tophat.specs.Typing.{k-unpicked}
 use Rattle.tophat.specs.Evaluation.{EvaluatesTask, OverflowsTask}
-use Rattle.tophat.specs.Normalising.{f-became, s-became}
+use Rattle.tophat.specs.Normalising.{f-wraps, s-wraps}
 use Rattle.tophat.specs.Normalising.{value, Fails, f-edit, f-enter, f-update, f-then, f-next, f-fail, f-and, f-or}
 use Rattle.tophat.specs.Normalising.{f-xor, f-view, RightFails, r-evaluated, r-overflow, BranchFails, b-normalised, b-overflow}
 use Rattle.tophat.specs.Normalising.{Strides, s-edit, s-fill, s-update, s-fail, s-then-stay, s-then-fail, s-then-cont, s-next, s-and, s-or-left, s-or-right, s-or-none}
@@ -21,7 +21,7 @@ use Rattle.tophat.specs.Normalising.{s-xor, s-view, Normalises, n-done, 
 use Rattle.tophat.proofs.Basics.{apart}
 use Rattle.tophat.proofs.ComputeEvaluation.{evaluate}
 use Rattle.tophat.proofs.ComputeNormalising.{remaining, unlessStill, strides, goOn, goOnWith, chooseRight, chooseLeft, failing, stride, normalise, settle, rightFails, branchFails}
-use Rattle.tophat.proofs.Became.{alike, Formed, of-became, of-edit, of-enter, of-update, of-then, of-next, of-fail, of-and, of-or, of-xor, of-view, formed, inner}
+use Rattle.tophat.proofs.Became.{alike, Formed, of-wraps, of-edit, of-enter, of-update, of-then, of-next, of-fail, of-and, of-or, of-xor, of-view, formed, inner}
 use Rattle.tophat.proofs.TaskEvaluationAgrees.{evaluate-good}
 use Rattle.tophat.proofs.Preservation.{option-is, value-type, KeptBy, stride-kept}
 use Rattle.tophat.proofs.Progress.{remaining-moves, Progress, progress}
@@ -116,10 +116,10 @@ record Sound (c : Code) (ρ : Env) (s : Store) (t : TaskOf c) : Type 0 where
 module _ {Σ : List Ty} where
   sound : {c : Code} {ρ : Env} {t : TaskOf c} {Γ : List Ty} {τ : Ty} → Formed c ρ t → (s : Store) → TaskType Σ Γ c t τ → ValueTypes ρ Γ → ValueTypes s Σ → Sound c ρ s t
   unfolding failing stride evaluate
-  sound (of-became {u = u} b d) s k g h =
+  sound (of-wraps {u = u} b d) s k g h =
       let i = inner b u k in
       let p = sound d s (i .task) (i .env g) h in
-      record { fails = rw (alike b .fails s u) (f-became b refl (p .fails)); strides = rw (alike b .strides s u) (s-became b refl refl (p .strides)) }
+      record { fails = rw (alike b .fails s u) (f-wraps b refl (p .fails)); strides = rw (alike b .strides s u) (s-wraps b refl refl (p .strides)) }
   sound of-edit s k g h = record { fails = f-edit; strides = s-edit }
   sound of-enter s k g h = record { fails = f-enter; strides = s-fill }
   sound of-update s k g h = record { fails = f-update; strides = s-update }

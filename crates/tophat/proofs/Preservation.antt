@@ -14,13 +14,13 @@ use Rattle.tophat.specs.Typing.{k-unpicked, k-viewed}
 use Rattle.tophat.specs.Evaluation.{Evaluates, EvaluatesTask}
 use Rattle.tophat.specs.Normalising.{pairOf, firstOf, value, Strides, Normalises, n-done, n-repeat}
 use Rattle.tophat.proofs.ComputeNormalising.{goOn, goOnWith, chooseRight, chooseLeft, stride}
-use Rattle.tophat.proofs.Became.{alike, Formed, of-became, of-edit, of-enter, of-update, of-then, of-next, of-fail, of-and, of-or, of-xor, of-view, formed, inner}
+use Rattle.tophat.proofs.Became.{alike, Formed, of-wraps, of-edit, of-enter, of-update, of-then, of-next, of-fail, of-and, of-or, of-xor, of-view, formed, inner}
 use Rattle.tophat.proofs.EvaluationAgrees.{look-up, eval-good, eval-is}
 use Rattle.tophat.proofs.TaskEvaluationAgrees.{evaluate-good, evaluate-is}
 use Rattle.tophat.proofs.NormalisingComplete.{strides-as}
 
 code-typed : {Σ Γ : List Ty} {c : Code} {ρ : Env} {t : TaskOf c} {τ : Ty} → Formed c ρ t → TaskType Σ Γ c t τ → CodeType Σ Γ c τ
-code-typed (of-became {u = u} b d) k = let i = inner b u k in i .code (code-typed d (i .task))
+code-typed (of-wraps {u = u} b d) k = let i = inner b u k in i .code (code-typed d (i .task))
 code-typed of-edit (k-filled e v) = t-edit e
 code-typed of-enter (k-blank l) = t-enter l
 code-typed of-enter (k-entered l v) = t-enter l
@@ -59,7 +59,7 @@ first-type (o-some g) h = o-some g
 
 value-typed : {Σ Γ : List Ty} {c : Code} {ρ : Env} {t : TaskOf c} {τ : Ty} {s : Store} → Formed c ρ t → TaskType Σ Γ c t τ → ValueTypes s Σ → OptionType (value c t s) τ
 unfolding value
-value-typed {s = s} (of-became {u = u} b d) k h = rw (alike b .values s u) (value-typed d (inner b u k .task) h)
+value-typed {s = s} (of-wraps {u = u} b d) k h = rw (alike b .values s u) (value-typed d (inner b u k .task) h)
 value-typed of-edit (k-filled e v) h = o-some v
 value-typed of-enter (k-blank l) h = o-none
 value-typed of-enter (k-entered l v) h = o-some v
@@ -114,7 +114,7 @@ module _ {Σ Γ : List Ty} {a b : Code} where
 
 kept : {Σ Γ : List Ty} {c : Code} {ρ : Env} {t : TaskOf c} {τ : Ty} → Formed c ρ t → TaskType Σ Γ c t τ → (s : Store) → ValueTypes ρ Γ → ValueTypes s Σ → KeptBy Σ Γ c τ (stride c ρ s t)
 unfolding stride
-kept (of-became {u = u} b d) k s g h =
+kept (of-wraps {u = u} b d) k s g h =
     let i = inner b u k in
     let p = kept d (i .task) s (i .env g) h in
     rw (alike b .strides s u) (record { task = i .back (p .task); store = p .store })

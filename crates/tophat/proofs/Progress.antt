@@ -12,11 +12,11 @@ use Rattle.tophat.specs.Syntax.{TaskOf, before, both, either}
 use Rattle.tophat.specs.Normalising.{value}
 use Rattle.tophat.proofs.Basics.{apart}
 use Rattle.tophat.proofs.ComputeNormalising.{unlessStill, strides, goOn, goOnWith, chooseRight, chooseLeft, stride, normalise, remaining}
-use Rattle.tophat.proofs.Became.{alike, Formed, of-became, of-edit, of-enter, of-update, of-then, of-next, of-fail, of-and, of-or, of-xor, of-view, formed}
+use Rattle.tophat.proofs.Became.{alike, Formed, of-wraps, of-edit, of-enter, of-update, of-then, of-next, of-fail, of-and, of-or, of-xor, of-view, formed}
 
 held : {c : Code} {ρ : Env} {t : TaskOf c} → Formed c ρ t → remaining c t ≤ moves c
 unfolding remaining moves
-held (of-became {u = u} b d) = let h = held d in let e = alike b .remains u in let k = alike b .moved in omega arith
+held (of-wraps {u = u} b d) = let h = held d in let e = alike b .remains u in let k = alike b .moved in omega arith
 held of-edit = omega arith
 held of-enter = omega arith
 held of-update = omega arith
@@ -101,7 +101,7 @@ module _ (a b : Code) where
 
 goes : {c : Code} {ρ : Env} {t : TaskOf c} → Formed c ρ t → (s : Store) → Progress c t s (stride c ρ s t)
 unfolding stride remaining
-goes (of-became {c = c} {c₁ = c₁} {ρ₁ = ρ₁} {K = K} {u = u} b d) s = rw (alike b .strides s u) (lift c₁ c K (alike b .remains) u s (stride c₁ ρ₁ s u) (goes d s))
+goes (of-wraps {c = c} {c₁ = c₁} {ρ₁ = ρ₁} {K = K} {u = u} b d) s = rw (alike b .strides s u) (lift c₁ c K (alike b .remains) u s (stride c₁ ρ₁ s u) (goes d s))
 goes of-edit s = inl (record { flag = refl; task = refl; store = refl })
 goes of-enter s = inl (record { flag = refl; task = refl; store = refl })
 goes of-update s = inl (record { flag = refl; task = refl; store = refl })

@@ -7,9 +7,9 @@ use mathlib.Core.Option.{Option, none, some}
 use mathlib.Core.List.{List}
 use Prim.Native.Nat.{suc}
 use native.Mathlib.Omega.{arith}
-use Rattle.tophat.specs.Syntax.{moves, Ty, Code, edit, enter, update, then, next, fail, and, or, xor, view, if, let', Val, Env, Store}
+use Rattle.tophat.specs.Syntax.{moves, Ty, Code, edit, enter, update, then, next, fail, and, or, xor, view, gate, if, let', Val, Env, Store}
 use Rattle.tophat.specs.Syntax.{OrT, TaskOf, filled, blank, entered, before, after, both, either, orLeft, orRight}
-use Rattle.tophat.specs.Syntax.{unpicked, pickedLeft, pickedRight, ifTrue, ifFalse, bound}
+use Rattle.tophat.specs.Syntax.{unpicked, pickedLeft, pickedRight, gated, ifTrue, ifFalse, bound}
 use Rattle.tophat.specs.Typing.{CodeType, t-or, TaskType, k-either, k-or-left, k-or-right}
 use Rattle.tophat.specs.Normalising.{pairOf, firstOf, value}
 use Rattle.tophat.specs.Redrawn.{turned}
@@ -52,6 +52,7 @@ none-kept (xor a b) unpicked s s₁ h = refl
 none-kept (xor a b) (pickedLeft t) s s₁ h = none-kept a t s s₁ h
 none-kept (xor a b) (pickedRight u) s s₁ h = none-kept b u s s₁ h
 none-kept (view e) (filled v) s s₁ h = no-some (sym h)
+none-kept (gate r n b) (gated k u) s s₁ h = none-kept b u s s₁ h
 none-kept (if e a b) (ifTrue t) s s₁ h = none-kept a t s s₁ h
 none-kept (if e a b) (ifFalse u) s s₁ h = none-kept b u s s₁ h
 none-kept (let' e b) (bound v u) s s₁ h = none-kept b u s s₁ h

@@ -6,10 +6,11 @@ use mathlib.Core.Option.{Option}
 use mathlib.Core.List.{List, [], _∷_, _++_, append-assoc}
 use Rattle.decimal.specs.Path.{Mark, first, second, Path}
 use Rattle.tophat.specs.Syntax.{Code, or, Env, Store, OrT, TaskOf, either, orLeft, orRight}
+use Rattle.tophat.specs.Roles.{Who}
 use Rattle.tophat.specs.Handling.{Action}
 use Rattle.tophat.specs.Showing.{Entry, marked}
 use Rattle.tophat.specs.Redrawn.{turned, rotate, pathIn, moved}
-use Rattle.tophat.proofs.ComputeHandling.{mapTask, atMark, handle}
+use Rattle.tophat.proofs.ComputeHandling.{Taken, mapTask, atMark, handle}
 use Rattle.tophat.proofs.ComputeEntries.{entries}
 use Rattle.tophat.proofs.StrideMaps.{map-two}
 
@@ -111,7 +112,7 @@ three es gs hs =
 
 -- ---- (a, b), c against a, (b, c)
 
-map-three : {A B C D : Type 0} (f : A → B) (g : B → C) (h : C → D) (o : Option (A × Store))
+map-three : {A B C D : Type 0} (f : A → B) (g : B → C) (h : C → D) (o : Option (Taken A))
     → mapTask h (mapTask g (mapTask f o)) ≡ mapTask (λ t. h (g (f t))) o
 map-three f g h o = map-two g h (mapTask f o) ∙ map-two f (λ y. h (g y)) o
 
@@ -138,13 +139,13 @@ module _ (a b c : Code) (ρ : Env) where
   handle-turned s (orLeft (orRight u)) p x = map-two _ _ (handle b ρ s u p x) ∙ sym (map-three _ _ _ (handle b ρ s u p x))
   handle-turned s (orRight w) p x = map-two _ _ (handle c ρ s w p x) ∙ sym (map-two _ _ (handle c ρ s w p x))
 
-  pub entries-turned : (s : Store) (t : TaskOf (or (or a b) c))
-      → entries (or a (or b c)) ρ s (turned t) ≡ moved (pathIn t) (entries (or (or a b) c) ρ s t)
+  pub entries-turned : (v : Who) (s : Store) (t : TaskOf (or (or a b) c))
+      → entries v (or a (or b c)) ρ s (turned t) ≡ moved (pathIn t) (entries v (or (or a b) c) ρ s t)
   unfolding entries turned pathIn
-  entries-turned s (either (either t u) w) = three (entries a ρ s t) (entries b ρ s u) (entries c ρ s w)
-  entries-turned s (either (orLeft t) w) = sym (moved-same _)
-  entries-turned s (either (orRight u) w) = sym (moved-same _)
-  entries-turned s (orLeft (either t u)) = sym (moved-same _)
-  entries-turned s (orLeft (orLeft t)) = sym (moved-same _)
-  entries-turned s (orLeft (orRight u)) = sym (moved-same _)
-  entries-turned s (orRight w) = sym (moved-same _)
+  entries-turned v s (either (either t u) w) = three (entries v a ρ s t) (entries v b ρ s u) (entries v c ρ s w)
+  entries-turned v s (either (orLeft t) w) = sym (moved-same _)
+  entries-turned v s (either (orRight u) w) = sym (moved-same _)
+  entries-turned v s (orLeft (either t u)) = sym (moved-same _)
+  entries-turned v s (orLeft (orLeft t)) = sym (moved-same _)
+  entries-turned v s (orLeft (orRight u)) = sym (moved-same _)
+  entries-turned v s (orRight w) = sym (moved-same _)

@@ -9,8 +9,8 @@ use native.Mathlib.Decide.{ℕ-discrete}
 use lib.ListN.{getD, set, length-set}
 use lib.Seq.{getD-set-same, getD-set-other}
 use Rattle.tophat.specs.Syntax.{Exp, eunit, etruth, enumber, ebinder, eop, eif, epair, efst, esnd, ederef, eassign, elet}
-use Rattle.tophat.specs.Syntax.{Code, edit, enter, update, then, next, fail, and, or, xor, view, if, let', Val, vunit, vpair, Env, Store}
-use Rattle.tophat.specs.Syntax.{filled, before, both, either, ifTrue, ifFalse, bound}
+use Rattle.tophat.specs.Syntax.{Code, edit, enter, update, then, next, fail, and, or, xor, view, gate, if, let', Val, vunit, vpair, Env, Store}
+use Rattle.tophat.specs.Syntax.{filled, before, both, either, gated, ifTrue, ifFalse, bound}
 use Rattle.tophat.specs.Renamed.{renamedExp, renamed, renamedTask, NamesExp, CellsIn, Apart, Agrees}
 use Rattle.tophat.proofs.ComputeEvaluation.{isTrue, apply, exceeds, firstPart, secondPart, branch, eval, overflows, evaluate, overflowsTask}
 
@@ -134,6 +134,7 @@ module _ {π : ℕ → ℕ} {P : ℕ → Type 0} (apart : Apart π P) where
       record { made = ap₂ either (p .made) (q .made); store = q .store }
   evaluate-like (xor a b) w ρ s s₁ g = record { made = refl; store = g }
   evaluate-like (view e) w ρ s s₁ g = let p = eval-like e w ρ s s₁ g in record { made = ap filled (p .made); store = p .store }
+  evaluate-like (gate r n b) w ρ s s₁ g = let p = evaluate-like b w ρ s s₁ g in record { made = ap (gated n) (p .made); store = p .store }
   evaluate-like (if e a b) w ρ s s₁ g =
       let p = eval-like e (w .0) ρ s s₁ g in
       let q = evaluate-like a (w .1) ρ _ _ (p .store) in
@@ -157,6 +158,7 @@ module _ {π : ℕ → ℕ} {P : ℕ → Type 0} (apart : Apart π P) where
   overflows-task-like (or a b) w ρ s s₁ g = ap₂ _||_ (overflows-task-like a (w .0) ρ s s₁ g) (overflows-task-like b (w .1) ρ _ _ (evaluate-like a (w .0) ρ s s₁ g .store))
   overflows-task-like (xor a b) w ρ s s₁ g = refl
   overflows-task-like (view e) w ρ s s₁ g = overflows-like e w ρ s s₁ g
+  overflows-task-like (gate r n b) w ρ s s₁ g = overflows-task-like b w ρ s s₁ g
   overflows-task-like (if e a b) w ρ s s₁ g =
       let p = eval-like e (w .0) ρ s s₁ g in
       ap₂ _||_ (overflows-like e (w .0) ρ s s₁ g)

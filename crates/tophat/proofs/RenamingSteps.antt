@@ -5,13 +5,13 @@ use mathlib.Core.Bool.{Bool, true, false, _&&_, _||_}
 use mathlib.Core.Option.{Option, none, some}
 use mathlib.Core.List.{_∷_}
 use Prim.Native.Nat.{ℕ, zero, suc, _+_}
-use Rattle.tophat.specs.Syntax.{moves, Code, edit, enter, update, then, next, fail, and, or, xor, view, if, let', Val, Env, Store}
-use Rattle.tophat.specs.Syntax.{TaskOf, filled, blank, entered, before, after, both, either, orLeft, orRight, unpicked, pickedLeft, pickedRight, ifTrue, ifFalse, bound}
-use Rattle.tophat.specs.Normalising.{pairOf, firstOf, value, Became, b-then, b-next, b-or-left, b-or-right, b-xor-left, b-xor-right, b-if-true, b-if-false, b-let}
+use Rattle.tophat.specs.Syntax.{moves, Code, edit, enter, update, then, next, fail, and, or, xor, view, gate, if, let', Val, Env, Store}
+use Rattle.tophat.specs.Syntax.{TaskOf, filled, blank, entered, before, after, both, either, orLeft, orRight, unpicked, pickedLeft, pickedRight, gated, ifTrue, ifFalse, bound}
+use Rattle.tophat.specs.Normalising.{pairOf, firstOf, value, Became, b-then, b-next, b-or-left, b-or-right, b-xor-left, b-xor-right, b-if-true, b-if-false, b-let, w-became, w-gate}
 use Rattle.tophat.specs.Renamed.{renamed, renamedTask, CellsIn, Apart, Agrees}
 use Rattle.tophat.proofs.ComputeEvaluation.{evaluate, overflowsTask}
 use Rattle.tophat.proofs.ComputeNormalising.{unlessStill, strides, goOn, goOnWith, chooseRight, chooseLeft, failing, stride, normalise, settle, rightFails, branchFails}
-use Rattle.tophat.proofs.Became.{alike, Formed, of-became, of-edit, of-enter, of-update, of-then, of-next, of-fail, of-and, of-or, of-xor, of-view, formed}
+use Rattle.tophat.proofs.Became.{alike, Formed, of-wraps, of-edit, of-enter, of-update, of-then, of-next, of-fail, of-and, of-or, of-xor, of-view, formed}
 use Rattle.tophat.proofs.Renaming.{Like, LikeWith, evaluate-like, overflows-task-like}
 
 -- what has become another has so with its cells renamed
@@ -46,6 +46,7 @@ moves-same π (and a b) = λ i. moves-same π a i + moves-same π b i
 moves-same π (or a b) = λ i. 1 + moves-same π a i + moves-same π b i
 moves-same π (xor a b) = λ i. moves-same π a i + moves-same π b i
 moves-same π (view e) = refl
+moves-same π (gate r n b) = moves-same π b
 moves-same π (if e a b) = λ i. moves-same π a i + moves-same π b i
 moves-same π (let' e b) = moves-same π b
 
@@ -87,6 +88,7 @@ module _ {π : ℕ → ℕ} {P : ℕ → Type 0} where
   value-like (xor a b) w (pickedLeft t) g = value-like a (w .0) t g
   value-like (xor a b) w (pickedRight u) g = value-like b (w .1) u g
   value-like (view e) w (filled v) g = refl
+  value-like (gate r n b) w (gated k u) g = value-like b w u g
   value-like (if e a b) w (ifTrue t) g = value-like a (w .1) t g
   value-like (if e a b) w (ifFalse u) g = value-like b (w .2) u g
   value-like (let' e b) w (bound v u) g = value-like b (w .1) u g
@@ -145,14 +147,17 @@ record Goes (π : ℕ → ℕ) (P : ℕ → Type 0) (c : Code) (ρ : Env) (s s�
 module _ {π : ℕ → ℕ} {P : ℕ → Type 0} (apart : Apart π P) where
   goes : {c : Code} {ρ : Env} {t : TaskOf c} → Formed c ρ t → CellsIn P c → (s s₁ : Store) → Agrees π P s s₁ → Goes π P c ρ s s₁ t
   unfolding failing stride renamedTask
-  goes (of-became {c = c} {c₁ = c₁} {ρ = ρ} {u = u} b d) w s s₁ g =
+  goes (of-wraps (w-gate {k = k}) d) w s s₁ g =
+      let p = goes d w s s₁ g in
+      record { fails = p .fails; strides = record { made = ap (gated k) (p .strides .made); store = p .strides .store; third = p .strides .third } }
+  goes (of-wraps {c = c} {c₁ = c₁} {ρ = ρ} {u = u} (w-became b) d) w s s₁ g =
       let k = renamed-became π P b in
       let p = goes d (k .cells w) s s₁ g in
       let e = k .same-task u in
-      let i = alike b .strides s u in
-      let j = alike (k .became) .strides s₁ (renamedTask π c₁ u) in
+      let i = alike (w-became b) .strides s u in
+      let j = alike (w-became (k .became)) .strides s₁ (renamedTask π c₁ u) in
       record {
-        fails = ap (failing (renamed π c) ρ s₁) e ∙ alike (k .became) .fails s₁ (renamedTask π c₁ u) ∙ p .fails ∙ sym (alike b .fails s u);
+        fails = ap (failing (renamed π c) ρ s₁) e ∙ alike (w-became (k .became)) .fails s₁ (renamedTask π c₁ u) ∙ p .fails ∙ sym (alike (w-became b) .fails s u);
         strides = rw (e, i, j) (record { made = ap (k .into) (p .strides .made) ∙ sym (k .same-task _); store = p .strides .store; third = p .strides .third });
       }
   goes of-edit w s s₁ g = record { fails = refl; strides = record { made = refl; store = g; third = refl } }

@@ -6,16 +6,16 @@ use mathlib.Core.List.{List, [], _∷_}
 use Prim.Native.Nat.{ℕ, zero, suc, _<_}
 use native.Mathlib.Omega.{arith}
 use lib.ListN.{length, getD}
-use Rattle.tophat.specs.Syntax.{Ty, unit, Exp, Code, edit, enter, update, then, next, fail, and, or, xor, view, if, let'}
-use Rattle.tophat.specs.Syntax.{TaskOf, filled, blank, entered, shared, before, after, failed, both, either, orLeft, orRight, unpicked, pickedLeft, pickedRight, ifTrue, ifFalse, bound}
+use Rattle.tophat.specs.Syntax.{Ty, unit, Exp, Code, edit, enter, update, then, next, fail, and, or, xor, view, gate, if, let'}
+use Rattle.tophat.specs.Syntax.{TaskOf, filled, blank, entered, shared, before, after, failed, both, either, orLeft, orRight, unpicked, pickedLeft, pickedRight, gated, ifTrue, ifFalse, bound}
 use Rattle.tophat.specs.Typing.{At, here, there, HasType, t-unit, t-truth, t-number, t-var, t-op, t-if, t-pair, t-fst, t-snd, t-deref, t-assign, t-let}
-use Rattle.tophat.specs.Typing.{CodeType, t-edit, t-enter, t-update, t-then, t-next, t-fail, t-and, t-or, t-xor, t-view, t-if-task, t-let-task}
+use Rattle.tophat.specs.Typing.{CodeType, t-edit, t-enter, t-update, t-then, t-next, t-fail, t-and, t-or, t-xor, t-view, t-gate, t-if-task, t-let-task}
 use Rattle.tophat.specs.Typing.{TaskType, k-filled, k-blank, k-entered, k-shared, k-then-before, k-then-after, k-next-before, k-next-after, k-failed, k-both, k-either, k-or-left, k-or-right}
-use Rattle.tophat.specs.Typing.{k-unpicked, k-picked-left, k-picked-right, k-viewed, k-if-true, k-if-false, k-bound}
+use Rattle.tophat.specs.Typing.{k-unpicked, k-picked-left, k-picked-right, k-viewed, k-gated, k-if-true, k-if-false, k-bound}
 use Rattle.tophat.specs.Renamed.{renamedExp, renamed, renamedTask, NamesExp, CellsIn, SameTypes}
 use Rattle.tophat.proofs.TypingAgrees.{one-type, one-task-type}
 use Rattle.tophat.proofs.Preservation.{task-code}
-use Rattle.tophat.proofs.TypedParts.{filled-typed, entered-typed, viewed-typed, bound-typed, then-before-typed, then-after-typed, next-before-typed, next-after-typed}
+use Rattle.tophat.proofs.TypedParts.{filled-typed, entered-typed, viewed-typed, gated-typed, bound-typed, then-before-typed, then-after-typed, next-before-typed, next-after-typed}
 use Rattle.tophat.proofs.TypedParts.{both-typed, either-typed, left-typed, right-typed, picked-left-typed, picked-right-typed, if-true-typed, if-false-typed}
 
 -- what is looked up inside a list stands there
@@ -61,6 +61,7 @@ module _ {π : ℕ → ℕ} {P : ℕ → Type 0} {Σ Σ₁ : List Ty} (g : SameT
   code-typed-like (t-or d e) w = t-or (code-typed-like d (w .0)) (code-typed-like e (w .1))
   code-typed-like (t-xor d e) w = t-xor (code-typed-like d (w .0)) (code-typed-like e (w .1))
   code-typed-like (t-view d) w = t-view (exp-typed-like d w)
+  code-typed-like (t-gate d) w = t-gate (code-typed-like d w)
   code-typed-like (t-if-task x d e) w = t-if-task (exp-typed-like x (w .0)) (code-typed-like d (w .1)) (code-typed-like e (w .2))
   code-typed-like (t-let-task x d) w = t-let-task (exp-typed-like x (w .0)) (code-typed-like d (w .1))
 
@@ -84,6 +85,7 @@ module _ {π : ℕ → ℕ} {P : ℕ → Type 0} {Σ Σ₁ : List Ty} (g : SameT
   task-typed-like (k-picked-left d e) w = k-picked-left (task-typed-like d (w .0)) (code-typed-like e (w .1))
   task-typed-like (k-picked-right d e) w = k-picked-right (code-typed-like d (w .0)) (task-typed-like e (w .1))
   task-typed-like (k-viewed d v) w = k-viewed (exp-typed-like d w) v
+  task-typed-like (k-gated l d) w = k-gated l (task-typed-like d w)
   task-typed-like (k-if-true x d e) w = k-if-true (exp-typed-like x (w .0)) (task-typed-like d (w .1)) (code-typed-like e (w .2))
   task-typed-like (k-if-false x d e) w = k-if-false (exp-typed-like x (w .0)) (code-typed-like d (w .1)) (task-typed-like e (w .2))
   task-typed-like (k-bound x v d) w = k-bound (exp-typed-like x (w .0)) v (task-typed-like d (w .1))
@@ -121,6 +123,7 @@ module _ {π : ℕ → ℕ} {P : ℕ → Type 0} {Σ Σ₁ : List Ty} (g : SameT
   task-typed-back (t-xor d e) w (pickedLeft t) k = k-picked-left (task-typed-back d (w .0) t (picked-left-typed k)) e
   task-typed-back (t-xor d e) w (pickedRight u) k = k-picked-right d (task-typed-back e (w .1) u (picked-right-typed k))
   task-typed-back (t-view d) w (filled v) k = k-viewed d (viewed-typed k)
+  task-typed-back (t-gate d) w (gated m u) k = let (l, h) = gated-typed k in k-gated l (task-typed-back d w u h)
   task-typed-back (t-if-task x d e) w (ifTrue t) k = k-if-true x (task-typed-back d (w .1) t (if-true-typed k)) e
   task-typed-back (t-if-task x d e) w (ifFalse u) k = k-if-false x d (task-typed-back e (w .2) u (if-false-typed k))
   task-typed-back (t-let-task x d) w (bound v u) k =
@@ -148,6 +151,7 @@ unrenamedTask π (xor a b) unpicked = unpicked
 unrenamedTask π (xor a b) (pickedLeft t) = pickedLeft (unrenamedTask π a t)
 unrenamedTask π (xor a b) (pickedRight u) = pickedRight (unrenamedTask π b u)
 unrenamedTask π (view e) t = t
+unrenamedTask π (gate r n b) (gated k u) = gated k (unrenamedTask π b u)
 unrenamedTask π (if e a b) (ifTrue t) = ifTrue (unrenamedTask π a t)
 unrenamedTask π (if e a b) (ifFalse u) = ifFalse (unrenamedTask π b u)
 unrenamedTask π (let' e b) (bound v u) = bound v (unrenamedTask π b u)
@@ -171,6 +175,7 @@ renamed-unrenamed π (xor a b) unpicked = refl
 renamed-unrenamed π (xor a b) (pickedLeft t) = ap pickedLeft (renamed-unrenamed π a t)
 renamed-unrenamed π (xor a b) (pickedRight u) = ap pickedRight (renamed-unrenamed π b u)
 renamed-unrenamed π (view e) t = refl
+renamed-unrenamed π (gate r n b) (gated k u) = ap (gated k) (renamed-unrenamed π b u)
 renamed-unrenamed π (if e a b) (ifTrue t) = ap ifTrue (renamed-unrenamed π a t)
 renamed-unrenamed π (if e a b) (ifFalse u) = ap ifFalse (renamed-unrenamed π b u)
 renamed-unrenamed π (let' e b) (bound v u) = ap (bound v) (renamed-unrenamed π b u)

@@ -5,10 +5,10 @@ use Prim.Native.Nat.{_≤_}
 use native.Mathlib.Omega.{arith}
 use Rattle.tophat.specs.Syntax.{maxLeaves, Ty, leaves, Code, Val, TaskOf}
 use Rattle.tophat.specs.Typing.{HasType, t-unit, t-truth, t-number, t-pair}
-use Rattle.tophat.specs.Typing.{CodeType, t-edit, t-enter, t-update, t-then, t-next, t-fail, t-and, t-or, t-xor, t-view, t-let-task}
+use Rattle.tophat.specs.Typing.{CodeType, t-edit, t-enter, t-update, t-then, t-next, t-fail, t-and, t-or, t-xor, t-view, t-gate, t-let-task}
 use Rattle.tophat.specs.Typing.{ValueType, v-unit, v-truth, v-number, v-pair, AllSmall, small-cons}
 use Rattle.tophat.specs.Typing.{TaskType, k-filled, k-blank, k-entered, k-shared, k-then-before, k-then-after, k-next-before, k-next-after, k-failed}
-use Rattle.tophat.specs.Typing.{k-both, k-either, k-or-left, k-or-right, k-unpicked, k-picked-left, k-picked-right, k-viewed, k-if-true, k-if-false, k-bound}
+use Rattle.tophat.specs.Typing.{k-both, k-either, k-or-left, k-or-right, k-unpicked, k-picked-left, k-picked-right, k-viewed, k-gated, k-if-true, k-if-false, k-bound}
 use Rattle.tophat.specs.Residual.{quoted, residual}
 use Rattle.tophat.proofs.TypeLeaves.{type-leaves, task-type-leaves}
 
@@ -40,6 +40,7 @@ module _ {Σ : List Ty} (g : AllSmall Σ) where
   residual-typed h (k-picked-left d e) = residual-typed h d
   residual-typed h (k-picked-right d e) = residual-typed h e
   residual-typed h (k-viewed d v) = t-view (quoted-typed v (type-leaves d g h))
+  residual-typed h (k-gated l d) = t-gate (residual-typed h d)
   residual-typed h (k-if-true b d e) = residual-typed h d
   residual-typed h (k-if-false b d e) = residual-typed h e
   residual-typed h (k-bound d v e) = let l = type-leaves d g h in t-let-task (quoted-typed v l) (residual-typed (small-cons l h) e)

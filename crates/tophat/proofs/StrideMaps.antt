@@ -6,7 +6,7 @@ use mathlib.Core.Option.{Option, none, some}
 use Prim.Native.Nat.{ℕ, zero, suc}
 use Rattle.tophat.specs.Syntax.{Store}
 use Rattle.tophat.proofs.ComputeNormalising.{unlessStill, strides}
-use Rattle.tophat.proofs.ComputeHandling.{mapTask}
+use Rattle.tophat.proofs.ComputeHandling.{Taken, mapTask}
 
 -- an answer with its task mapped
 abbrev pub onTask : {X Y : Type 0} {B : Type 0} → (X → Y) → X × Store × B → Y × Store × B
@@ -27,7 +27,7 @@ strides-map φ f g h (suc n) s t =
     let e = h s t in
     rw e (unless-map φ m t₁ s₁ (λ t s. strides f n s t) (λ t s. strides g n s t) (strides-map φ f g h n s₁ t₁))
 
-pub map-two : {A B C : Type 0} (f : A → B) (g : B → C) (o : Option (A × Store)) → mapTask g (mapTask f o) ≡ mapTask (λ t. g (f t)) o
+pub map-two : {A B C : Type 0} (f : A → B) (g : B → C) (o : Option (Taken A)) → mapTask g (mapTask f o) ≡ mapTask (λ t. g (f t)) o
 unfolding mapTask
 map-two f g none = refl
 map-two f g (some r) = refl

@@ -5,12 +5,13 @@ use mathlib.Core.Path.{_≡_, refl}
 use mathlib.Core.Bool.{Bool, true, false, _||_}
 use mathlib.Core.Logic.{_⊎_, inl, inr}
 use mathlib.Core.List.{List}
+use native.Mathlib.Omega.{arith}
 use Rattle.tophat.specs.Syntax.{Ty, truth, Exp, Code, if, Val, vtruth, Env, Store, TaskOf, ifTrue, ifFalse}
-use Rattle.tophat.specs.Typing.{HasType, CodeType, t-edit, t-enter, t-update, t-then, t-next, t-fail, t-and, t-or, t-xor, t-view, t-if-task, t-let-task}
+use Rattle.tophat.specs.Typing.{HasType, CodeType, t-edit, t-enter, t-update, t-then, t-next, t-fail, t-and, t-or, t-xor, t-view, t-gate, t-if-task, t-let-task}
 use Rattle.tophat.specs.Typing.{ValueType, v-truth, ValueTypes, v-cons}
-use Rattle.tophat.specs.Typing.{TaskType, k-filled, k-blank, k-shared, k-then-before, k-next-before, k-failed, k-both, k-either, k-unpicked, k-viewed, k-if-true, k-if-false, k-bound}
-use Rattle.tophat.specs.Evaluation.{EvaluatesTask, e-edit, e-enter, e-update, e-then, e-next, e-fail, e-and, e-or, e-xor, e-view, e-if-true-task, e-if-false-task, e-let-task}
-use Rattle.tophat.specs.Evaluation.{OverflowsTask, o-edit, o-view, o-then, o-next, o-and-left, o-and-right, o-or-left, o-or-right, o-if-task, o-if-true-task, o-if-false-task, o-let-task, o-let-task-body}
+use Rattle.tophat.specs.Typing.{TaskType, k-filled, k-blank, k-shared, k-then-before, k-next-before, k-failed, k-both, k-either, k-unpicked, k-viewed, k-gated, k-if-true, k-if-false, k-bound}
+use Rattle.tophat.specs.Evaluation.{EvaluatesTask, e-edit, e-enter, e-update, e-then, e-next, e-fail, e-and, e-or, e-xor, e-view, e-gate, e-if-true-task, e-if-false-task, e-let-task}
+use Rattle.tophat.specs.Evaluation.{OverflowsTask, o-edit, o-view, o-gate, o-then, o-next, o-and-left, o-and-right, o-or-left, o-or-right, o-if-task, o-if-true-task, o-if-false-task, o-let-task, o-let-task-body}
 use Rattle.tophat.proofs.Basics.{apart, by-truth, or-false, or-true}
 use Rattle.tophat.proofs.ComputeEvaluation.{leaf, isTrue, branch, overflows, evaluate, overflowsTask}
 use Rattle.tophat.proofs.EvaluationAgrees.{Good, eval-good, eval-is, overflows-is}
@@ -74,6 +75,7 @@ evaluate-good (t-or {a = a} d e) ρ s g h =
     }
 evaluate-good (t-xor d e) ρ s g h = sure e-xor (k-unpicked d e) h
 evaluate-good (t-view d) ρ s g h = let p = eval-good d ρ s g h in record { derived = λ z. e-view (p .derived z); over = λ z. o-view (p .over z); task = k-viewed d (p .typed); store = p .kept }
+evaluate-good (t-gate {n = n} d) ρ s g h = let p = evaluate-good d ρ s g h in record { derived = λ z. e-gate (p .derived z); over = λ z. o-gate (p .over z); task = k-gated {n = n} {k = n} (omega arith) (p .task); store = p .store }
 evaluate-good (t-if-task x d e) ρ s g h =
     let p = eval-good x ρ s g h in
     if-good _ x d e p (p .typed) (evaluate-good d ρ _ g (p .kept)) (evaluate-good e ρ _ g (p .kept))
@@ -101,6 +103,7 @@ evaluate-is (e-and d d₁) = let (p, x) = evaluate-is d in let (q, y) = evaluate
 evaluate-is (e-or d d₁) = let (p, x) = evaluate-is d in let (q, y) = evaluate-is d₁ in (rw (p, q), rw (p, x, y))
 evaluate-is e-xor = (refl, refl)
 evaluate-is (e-view d) = let (p, x) = eval-is d in (rw p, x)
+evaluate-is (e-gate d) = let (p, x) = evaluate-is d in (rw p, x)
 evaluate-is (e-if-true-task c d) = let (p, x) = eval-is c in let (q, y) = evaluate-is d in (rw (p, q), rw (p, x, y))
 evaluate-is (e-if-false-task c d) = let (p, x) = eval-is c in let (q, y) = evaluate-is d in (rw (p, q), rw (p, x, y))
 evaluate-is (e-let-task c d) = let (p, x) = eval-is c in let (q, y) = evaluate-is d in (rw (p, q), rw (p, x, y))
@@ -109,6 +112,7 @@ pub overflows-task-is : {c : Code} {ρ : Env} {s : Store} → OverflowsTask c ρ
 unfolding overflowsTask branch isTrue leaf
 overflows-task-is (o-edit d) = overflows-is d
 overflows-task-is (o-view d) = overflows-is d
+overflows-task-is (o-gate d) = overflows-task-is d
 overflows-task-is (o-then d) = overflows-task-is d
 overflows-task-is (o-next d) = overflows-task-is d
 overflows-task-is (o-and-left d) = let x = overflows-task-is d in rw x

@@ -6,7 +6,7 @@ use Rattle.tophat.specs.Syntax.{maxLeaves, Ty, leaves, Op, Exp, Code}
 use Rattle.tophat.specs.Typing.{AllSmall, small-cons}
 use Rattle.tophat.specs.Typing.{At, here, there, OpType, o-sum, o-difference, o-product, o-less, o-less-equal, o-equal, o-and, o-or}
 use Rattle.tophat.specs.Typing.{HasType, t-unit, t-truth, t-number, t-var, t-op, t-if, t-pair, t-fst, t-snd, t-deref, t-assign, t-let}
-use Rattle.tophat.specs.Typing.{CodeType, t-edit, t-enter, t-update, t-then, t-next, t-fail, t-and, t-or, t-xor, t-view, t-if-task, t-let-task}
+use Rattle.tophat.specs.Typing.{CodeType, t-edit, t-enter, t-update, t-then, t-next, t-fail, t-and, t-or, t-xor, t-view, t-gate, t-if-task, t-let-task}
 
 pub at-leaves : {τs : List Ty} {i : ℕ} {τ : Ty} → At τs i τ → AllSmall τs → leaves τ ≤ maxLeaves
 at-leaves here (small-cons l h) = l
@@ -51,5 +51,6 @@ task-type-leaves (t-and d d₁ l) g h = l
 task-type-leaves (t-or d d₁) g h = task-type-leaves d g h
 task-type-leaves (t-xor d d₁) g h = task-type-leaves d g h
 task-type-leaves (t-view d) g h = type-leaves d g h
+task-type-leaves (t-gate d) g h = task-type-leaves d g h
 task-type-leaves (t-if-task d d₁ d₂) g h = task-type-leaves d₁ g h
 task-type-leaves (t-let-task d d₁) g h = task-type-leaves d₁ g (small-cons (type-leaves d g h) h)

@@ -1,11 +1,12 @@
 -- What the type of a running task says of its parts: the typing rules of running tasks read backwards, a law for each rule with a premise
 -- on a part. Rests on Typing alone; Regrouping and RenamingTyped use it, where a match on nested derivations would be slow to check.
 use mathlib.Core.List.{List, _∷_}
-use Rattle.tophat.specs.Syntax.{Ty, pair, Exp, Code, edit, enter, then, next, and, or, xor, view, if, let', Val}
-use Rattle.tophat.specs.Syntax.{TaskOf, filled, entered, before, after, both, either, orLeft, orRight, pickedLeft, pickedRight, ifTrue, ifFalse, bound}
+use Prim.Native.Nat.{ℕ, _≤_}
+use Rattle.tophat.specs.Syntax.{Ty, pair, Exp, Code, edit, enter, then, next, and, or, xor, view, gate, if, let', Val}
+use Rattle.tophat.specs.Syntax.{TaskOf, filled, entered, before, after, both, either, orLeft, orRight, pickedLeft, pickedRight, gated, ifTrue, ifFalse, bound}
 use Rattle.tophat.specs.Typing.{ValueType, HasType, CodeType, t-or}
 use Rattle.tophat.specs.Typing.{TaskType, k-filled, k-entered, k-then-before, k-then-after, k-next-before, k-next-after, k-both, k-either, k-or-left, k-or-right}
-use Rattle.tophat.specs.Typing.{k-picked-left, k-picked-right, k-viewed, k-if-true, k-if-false, k-bound}
+use Rattle.tophat.specs.Typing.{k-picked-left, k-picked-right, k-viewed, k-gated, k-if-true, k-if-false, k-bound}
 
 module _ {Σ Γ : List Ty} {τ : Ty} where
   pub filled-typed : {e : Exp} {v : Val} → TaskType Σ Γ (edit e) (filled v) τ → ValueType v τ
@@ -16,6 +17,9 @@ module _ {Σ Γ : List Ty} {τ : Ty} where
 
   pub viewed-typed : {e : Exp} {v : Val} → TaskType Σ Γ (view e) (filled v) τ → ValueType v τ
   viewed-typed (k-viewed d h) = h
+
+  pub gated-typed : {r n k : ℕ} {b : Code} {u : TaskOf b} → TaskType Σ Γ (gate r n b) (gated k u) τ → (k ≤ n) × TaskType Σ Γ b u τ
+  gated-typed (k-gated l d) = (l, d)
 
   pub bound-typed : {e : Exp} {b : Code} {v : Val} {u : TaskOf b} → TaskType Σ Γ (let' e b) (bound v u) τ
       → (υ : Ty) × HasType Σ Γ e υ × ValueType v υ × TaskType Σ (υ ∷ Γ) b u τ

@@ -9,10 +9,10 @@ use lib.IntN.{ℤ}
 use Rattle.word.specs.Word.{IsWord}
 use Rattle.tophat.specs.Syntax.{maxLeaves, Ty, unit, truth, number, pair, leaves, Op, sum, difference, product, less, lessEqual, equal, andOp, orOp}
 use Rattle.tophat.specs.Syntax.{Exp, eunit, etruth, enumber, ebinder, eop, eif, epair, efst, esnd, ederef, eassign, elet}
-use Rattle.tophat.specs.Syntax.{Code, edit, enter, update, then, next, fail, and, or, xor, view, if, let'}
+use Rattle.tophat.specs.Syntax.{Code, edit, enter, update, then, next, fail, and, or, xor, view, gate, if, let'}
 use Rattle.tophat.specs.Typing.{At, here, there, OpType, o-sum, o-difference, o-product, o-less, o-less-equal, o-equal, o-and, o-or}
 use Rattle.tophat.specs.Typing.{HasType, t-unit, t-truth, t-number, t-var, t-op, t-if, t-pair, t-fst, t-snd, t-deref, t-assign, t-let}
-use Rattle.tophat.specs.Typing.{CodeType, t-edit, t-enter, t-update, t-then, t-next, t-fail, t-and, t-or, t-xor, t-view, t-if-task, t-let-task}
+use Rattle.tophat.specs.Typing.{CodeType, t-edit, t-enter, t-update, t-then, t-next, t-fail, t-and, t-or, t-xor, t-view, t-gate, t-if-task, t-let-task}
 use Rattle.tophat.proofs.Basics.{no-some, some-is, All, all-none, all-some, all-is, all-map}
 use Rattle.tophat.proofs.ComputeTyping.{ask, nth, takes, gives, numberTo, opTo, sameTo, ifTo, typeTo, firstTo, secondTo, assignTo, infer, inferTask}
 
@@ -87,6 +87,7 @@ infer-task-is (t-and d d₁ l) = let p = infer-task-is d in let q = infer-task-i
 infer-task-is (t-or d d₁) = let p = infer-task-is d in let q = infer-task-is d₁ in rw (p, q) (same-to _)
 infer-task-is (t-xor d d₁) = let p = infer-task-is d in let q = infer-task-is d₁ in rw (p, q) (same-to _)
 infer-task-is (t-view d) = infer-is d
+infer-task-is (t-gate d) = infer-task-is d
 infer-task-is (t-if-task e d d₁) = let o = infer-is e in let p = infer-task-is d in let q = infer-task-is d₁ in rw (o, p, q) (if-to _)
 infer-task-is (t-let-task e d) = let o = infer-is e in let p = infer-task-is d in rw (o, p)
 
@@ -193,6 +194,7 @@ infer-task-all Σ Γ (and a b) = bind-all (infer-task-all Σ Γ a) λ τ d. bind
 infer-task-all Σ Γ (or a b) = bind-all (infer-task-all Σ Γ a) λ τ d. bind-all (infer-task-all Σ Γ b) λ υ d₁. same-all τ υ λ h. t-or d (rw h at d₁)
 infer-task-all Σ Γ (xor a b) = bind-all (infer-task-all Σ Γ a) λ τ d. bind-all (infer-task-all Σ Γ b) λ υ d₁. same-all τ υ λ h. t-xor d (rw h at d₁)
 infer-task-all Σ Γ (view e) = all-map (λ _. t-view) (infer-all Σ Γ e)
+infer-task-all Σ Γ (gate r n b) = all-map (λ _. t-gate) (infer-task-all Σ Γ b)
 infer-task-all Σ Γ (if e a b) =
     bind-all (infer-all Σ Γ e) λ κ d. bind-all (infer-task-all Σ Γ a) λ τ d₁. bind-all (infer-task-all Σ Γ b) λ υ d₂. if-all κ τ υ λ g h. t-if-task (rw g at d) d₁ (rw h at d₂)
 infer-task-all Σ Γ (let' e b) = bind-all (infer-all Σ Γ e) λ τ d. all-map (λ _. t-let-task d) (infer-task-all Σ (τ ∷ Γ) b)

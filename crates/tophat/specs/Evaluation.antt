@@ -10,8 +10,8 @@ use lib.ListN.{set}
 use Rattle.word.specs.Word.{IsWord, eqZ}
 use Rattle.tophat.specs.Syntax.{Ty, Op, sum, difference, product, less, lessEqual, equal, andOp, orOp, Env, Store}
 use Rattle.tophat.specs.Syntax.{Exp, eunit, etruth, enumber, ebinder, eop, eif, epair, efst, esnd, ederef, eassign, elet}
-use Rattle.tophat.specs.Syntax.{Code, edit, enter, update, then, next, fail, and, or, xor, view, if, let', Val, vunit, vtruth, vnumber, vpair}
-use Rattle.tophat.specs.Syntax.{TaskOf, filled, blank, shared, before, failed, both, either, unpicked, ifTrue, ifFalse, bound}
+use Rattle.tophat.specs.Syntax.{Code, edit, enter, update, then, next, fail, and, or, xor, view, gate, if, let', Val, vunit, vtruth, vnumber, vpair}
+use Rattle.tophat.specs.Syntax.{TaskOf, filled, blank, shared, before, failed, both, either, unpicked, gated, ifTrue, ifFalse, bound}
 use Rattle.tophat.specs.Typing.{At}
 
 -- operators 1 to 3: the exact result, which need not be a word
@@ -92,6 +92,9 @@ pub data EvaluatesTask : (c : Code) → Env → Store → TaskOf c → Store →
   e-xor : {ρ : Env} {s : Store} {a b : Code} → EvaluatesTask (xor a b) ρ s unpicked s
   e-view : {ρ : Env} {s s₁ : Store} {e : Exp} {v : Val}
       → Evaluates ρ s e v s₁ → EvaluatesTask (view e) ρ s (filled v) s₁
+  -- CR 6: "C when the row is evaluated"
+  e-gate : {ρ : Env} {s s₁ : Store} {r n : ℕ} {b : Code} {u : TaskOf b}
+      → EvaluatesTask b ρ s u s₁ → EvaluatesTask (gate r n b) ρ s (gated n u) s₁
   e-if-true-task : {ρ : Env} {s s₁ s₂ : Store} {e : Exp} {a b : Code} {t : TaskOf a}
       → Evaluates ρ s e (vtruth true) s₁ → EvaluatesTask a ρ s₁ t s₂ → EvaluatesTask (if e a b) ρ s (ifTrue t) s₂
   e-if-false-task : {ρ : Env} {s s₁ s₂ : Store} {e : Exp} {a b : Code} {u : TaskOf b}
@@ -103,6 +106,7 @@ pub data EvaluatesTask : (c : Code) → Env → Store → TaskOf c → Store →
 pub data OverflowsTask : Code → Env → Store → Type 0 where
   o-edit : {ρ : Env} {s : Store} {e : Exp} → Overflows ρ s e → OverflowsTask (edit e) ρ s
   o-view : {ρ : Env} {s : Store} {e : Exp} → Overflows ρ s e → OverflowsTask (view e) ρ s
+  o-gate : {ρ : Env} {s : Store} {r n : ℕ} {b : Code} → OverflowsTask b ρ s → OverflowsTask (gate r n b) ρ s
   o-then : {ρ : Env} {s : Store} {a b : Code} → OverflowsTask a ρ s → OverflowsTask (then a b) ρ s
   o-next : {ρ : Env} {s : Store} {a b : Code} → OverflowsTask a ρ s → OverflowsTask (next a b) ρ s
   o-and-left : {ρ : Env} {s : Store} {a b : Code} → OverflowsTask a ρ s → OverflowsTask (and a b) ρ s

@@ -4,6 +4,7 @@ pub mod Leaves
 pub mod Evaluation
 pub mod Normalising
 pub mod Quiet
+pub mod Roles
 pub mod Handling
 pub mod Showing
 pub mod Residual

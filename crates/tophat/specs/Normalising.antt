@@ -1,14 +1,14 @@
 -- The value of a task (the paper's Fig. 9), failing (Fig. 10), striding (Fig. 12) and normalising with the number of
 -- strides (Fig. 11). Failing asks for normal forms, normalising for strides, striding for failing: one mutual definition.
--- What has been taken, named or picked, and 25 and 31, hand on to the task that they became. Rests on Evaluation.
+-- What has been taken, named or picked, and 25 and 31, hand on to the task that they became, and 50 to its own. Rests on Evaluation.
 use mathlib.Core.Path.{_≡_}
 use mathlib.Core.Bool.{Bool, true, false, _&&_}
 use mathlib.Core.Option.{Option, none, some}
 use mathlib.Core.List.{_∷_}
 use Prim.Native.Nat.{ℕ, suc}
 use lib.ListN.{getD}
-use Rattle.tophat.specs.Syntax.{Ty, Exp, Code, edit, enter, update, then, next, fail, and, or, xor, view, if, let', Val, vunit, vpair, Env, Store}
-use Rattle.tophat.specs.Syntax.{TaskOf, filled, blank, entered, before, after, both, either, orLeft, orRight, unpicked, pickedLeft, pickedRight, ifTrue, ifFalse, bound}
+use Rattle.tophat.specs.Syntax.{Ty, Exp, Code, edit, enter, update, then, next, fail, and, or, xor, view, gate, if, let', Val, vunit, vpair, Env, Store}
+use Rattle.tophat.specs.Syntax.{TaskOf, filled, blank, entered, before, after, both, either, orLeft, orRight, unpicked, pickedLeft, pickedRight, gated, ifTrue, ifFalse, bound}
 use Rattle.tophat.specs.Evaluation.{EvaluatesTask, OverflowsTask}
 
 -- 46: two values are paired, else there is none
@@ -41,6 +41,7 @@ value (xor a b) unpicked s = none
 value (xor a b) (pickedLeft t) s = value a t s
 value (xor a b) (pickedRight u) s = value b u s
 value (view e) (filled v) s = some v
+value (gate r n b) (gated k u) s = value b u s
 value (if e a b) (ifTrue t) s = value a t s
 value (if e a b) (ifFalse u) s = value b u s
 value (let' e b) (bound v u) s = value b u s
@@ -56,6 +57,12 @@ pub data Became : (c : Code) → Env → (c₁ : Code) → Env → (TaskOf c₁ 
   b-if-true : {ρ : Env} {e : Exp} {a b : Code} → Became (if e a b) ρ a ρ ifTrue
   b-if-false : {ρ : Env} {e : Exp} {a b : Code} → Became (if e a b) ρ b ρ ifFalse
   b-let : {ρ : Env} {e : Exp} {b : Code} {v : Val} → Became (let' e b) ρ b (v ∷ ρ) (bound v)
+
+-- `Wraps c ρ c₁ ρ₁ K`: K u, a task of c under ρ, has its value from u, a task of c₁ under ρ₁, and fails and strides as u does: it has
+-- become u, or is a 50 around it (CR 6: "type, value, failing, quiet, stride and path are those of B")
+pub data Wraps : (c : Code) → Env → (c₁ : Code) → Env → (TaskOf c₁ → TaskOf c) → Type 0 where
+  w-became : {ρ ρ₁ : Env} {c c₁ : Code} {K : TaskOf c₁ → TaskOf c} → Became c ρ c₁ ρ₁ K → Wraps c ρ c₁ ρ₁ K
+  w-gate : {ρ : Env} {r n k : ℕ} {b : Code} → Wraps (gate r n b) ρ b ρ (gated k)
 
 mutual
   -- `Fails c ρ s t x`: the paper's ℱ(t, s) is x
@@ -76,8 +83,8 @@ mutual
     f-xor : {ρ : Env} {s : Store} {a b : Code} {x y z : Bool}
         → BranchFails a ρ s x → BranchFails b ρ s y → x && y ≡ z → Fails (xor a b) ρ s unpicked z
     f-view : {ρ : Env} {s : Store} {e : Exp} {t : TaskOf (view e)} → Fails (view e) ρ s t false
-    f-became : {ρ ρ₁ : Env} {s : Store} {c c₁ : Code} {K : TaskOf c₁ → TaskOf c} {t : TaskOf c} {u : TaskOf c₁} {x : Bool}
-        → Became c ρ c₁ ρ₁ K → K u ≡ t → Fails c₁ ρ₁ s u x → Fails c ρ s t x
+    f-wraps : {ρ ρ₁ : Env} {s : Store} {c c₁ : Code} {K : TaskOf c₁ → TaskOf c} {t : TaskOf c} {u : TaskOf c₁} {x : Bool}
+        → Wraps c ρ c₁ ρ₁ K → K u ≡ t → Fails c₁ ρ₁ s u x → Fails c ρ s t x
 
   -- `RightFails b ρ s x`: whether the right side b of a step, evaluated from s, fails is x
   pub data RightFails : Code → Env → Store → Bool → Type 0 where
@@ -121,8 +128,8 @@ mutual
         → Strides (or a b) ρ s (either t u) (either t₁ u₁) s₂
     s-xor : {ρ : Env} {s : Store} {a b : Code} → Strides (xor a b) ρ s unpicked unpicked s
     s-view : {ρ : Env} {s : Store} {e : Exp} {t : TaskOf (view e)} → Strides (view e) ρ s t t s
-    s-became : {ρ ρ₁ : Env} {s s₁ : Store} {c c₁ : Code} {K : TaskOf c₁ → TaskOf c} {t t₁ : TaskOf c} {u u₁ : TaskOf c₁}
-        → Became c ρ c₁ ρ₁ K → K u ≡ t → K u₁ ≡ t₁ → Strides c₁ ρ₁ s u u₁ s₁ → Strides c ρ s t t₁ s₁
+    s-wraps : {ρ ρ₁ : Env} {s s₁ : Store} {c c₁ : Code} {K : TaskOf c₁ → TaskOf c} {t t₁ : TaskOf c} {u u₁ : TaskOf c₁}
+        → Wraps c ρ c₁ ρ₁ K → K u ≡ t → K u₁ ≡ t₁ → Strides c₁ ρ₁ s u u₁ s₁ → Strides c ρ s t t₁ s₁
 
   -- `Normalises c ρ s t t₁ s₁ n`: n strides, the last included, take t in s to rest at t₁ in s₁
   pub data Normalises : (c : Code) → Env → Store → TaskOf c → TaskOf c → Store → ℕ → Type 0 where

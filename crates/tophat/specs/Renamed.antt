@@ -5,8 +5,8 @@ use mathlib.Core.List.{List}
 use Prim.Native.Nat.{ℕ, _<_}
 use lib.ListN.{length, getD}
 use Rattle.tophat.specs.Syntax.{Ty, Exp, eunit, etruth, enumber, ebinder, eop, eif, epair, efst, esnd, ederef, eassign, elet}
-use Rattle.tophat.specs.Syntax.{Code, edit, enter, update, then, next, fail, and, or, xor, view, if, let', vunit, Store}
-use Rattle.tophat.specs.Syntax.{TaskOf, before, after, both, either, orLeft, orRight, unpicked, pickedLeft, pickedRight, ifTrue, ifFalse, bound}
+use Rattle.tophat.specs.Syntax.{Code, edit, enter, update, then, next, fail, and, or, xor, view, gate, if, let', vunit, Store}
+use Rattle.tophat.specs.Syntax.{TaskOf, before, after, both, either, orLeft, orRight, unpicked, pickedLeft, pickedRight, gated, ifTrue, ifFalse, bound}
 use Rattle.tophat.specs.Typing.{At}
 
 -- an expression with its cells renamed
@@ -36,6 +36,7 @@ renamed π (and a b) = and (renamed π a) (renamed π b)
 renamed π (or a b) = or (renamed π a) (renamed π b)
 renamed π (xor a b) = xor (renamed π a) (renamed π b)
 renamed π (view e) = view (renamedExp π e)
+renamed π (gate r n b) = gate r n (renamed π b)
 renamed π (if e a b) = if (renamedExp π e) (renamed π a) (renamed π b)
 renamed π (let' e b) = let' (renamedExp π e) (renamed π b)
 
@@ -57,6 +58,7 @@ renamedTask π (xor a b) unpicked = unpicked
 renamedTask π (xor a b) (pickedLeft t) = pickedLeft (renamedTask π a t)
 renamedTask π (xor a b) (pickedRight u) = pickedRight (renamedTask π b u)
 renamedTask π (view e) t = t
+renamedTask π (gate r n b) (gated k u) = gated k (renamedTask π b u)
 renamedTask π (if e a b) (ifTrue t) = ifTrue (renamedTask π a t)
 renamedTask π (if e a b) (ifFalse u) = ifFalse (renamedTask π b u)
 renamedTask π (let' e b) (bound v u) = bound v (renamedTask π b u)
@@ -88,6 +90,7 @@ CellsIn P (and a b) = CellsIn P a × CellsIn P b
 CellsIn P (or a b) = CellsIn P a × CellsIn P b
 CellsIn P (xor a b) = CellsIn P a × CellsIn P b
 CellsIn P (view e) = NamesExp P e
+CellsIn P (gate r n b) = CellsIn P b
 CellsIn P (if e a b) = NamesExp P e × CellsIn P a × CellsIn P b
 CellsIn P (let' e b) = NamesExp P e × CellsIn P b
 

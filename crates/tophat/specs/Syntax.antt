@@ -41,7 +41,7 @@ pub data Exp : Type 0 where
   eassign : ℕ → Exp → Exp  -- 30
   elet : Exp → Exp → Exp  -- 31
 
--- tasks as a sheet has them (the paper's pretasks): kinds 40 to 49, and 25 and 31 of tasks
+-- tasks as a sheet has them (the paper's pretasks): kinds 40 to 50, and 25 and 31 of tasks
 pub data Code : Type 0 where
   edit : Exp → Code  -- 40, filled editor □
   enter : Ty → Code  -- 41, empty editor ⊠
@@ -53,6 +53,7 @@ pub data Code : Type 0 where
   or : Code → Code → Code  -- 47, internal choice ◆
   xor : Code → Code → Code  -- 48, external choice ◇
   view : Exp → Code  -- 49, a shown value (CR 1)
+  gate : ℕ → ℕ → Code → Code  -- 50, a task for a role, with so many touches (CR 6)
   if : Exp → Code → Code → Code  -- 25
   let' : Exp → Code → Code  -- 31
 
@@ -110,6 +111,10 @@ pub data XorT (A B : Type 0) : Type 0 where
   pickedLeft : A → XorT A B
   pickedRight : B → XorT A B
 
+-- 50: the touches left, and a task of B
+pub data GateT (B : Type 0) : Type 0 where
+  gated : ℕ → B → GateT B
+
 -- 25: a side and its task
 pub data IfT (A B : Type 0) : Type 0 where
   ifTrue : A → IfT A B
@@ -131,6 +136,7 @@ TaskOf (and a b) = AndT (TaskOf a) (TaskOf b)
 TaskOf (or a b) = OrT (TaskOf a) (TaskOf b)
 TaskOf (xor a b) = XorT (TaskOf a) (TaskOf b)
 TaskOf (view e) = EditT
+TaskOf (gate r n b) = GateT (TaskOf b)
 TaskOf (if e a b) = IfT (TaskOf a) (TaskOf b)
 TaskOf (let' e b) = LetT (TaskOf b)
 
@@ -146,6 +152,7 @@ moves (and a b) = moves a + moves b
 moves (or a b) = 1 + moves a + moves b
 moves (xor a b) = moves a + moves b
 moves (view e) = 0
+moves (gate r n b) = moves b
 moves (if e a b) = moves a + moves b
 moves (let' e b) = moves b
 
@@ -161,5 +168,6 @@ taskRows (and a b) = 1 + taskRows a + taskRows b
 taskRows (or a b) = 1 + taskRows a + taskRows b
 taskRows (xor a b) = 1 + taskRows a + taskRows b
 taskRows (view e) = 1
+taskRows (gate r n b) = 1 + taskRows b
 taskRows (if e a b) = 1 + taskRows a + taskRows b
 taskRows (let' e b) = 1 + taskRows b

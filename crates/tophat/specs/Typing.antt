@@ -7,8 +7,8 @@ use lib.IntN.{ℤ}
 use Rattle.word.specs.Word.{IsWord}
 use Rattle.tophat.specs.Syntax.{maxLeaves, Ty, unit, truth, number, pair, leaves, Op, sum, difference, product, less, lessEqual, equal, andOp, orOp}
 use Rattle.tophat.specs.Syntax.{Exp, eunit, etruth, enumber, ebinder, eop, eif, epair, efst, esnd, ederef, eassign, elet}
-use Rattle.tophat.specs.Syntax.{Code, edit, enter, update, then, next, fail, and, or, xor, view, if, let', Val, vunit, vtruth, vnumber, vpair}
-use Rattle.tophat.specs.Syntax.{TaskOf, filled, blank, entered, shared, before, after, failed, both, either, orLeft, orRight, unpicked, pickedLeft, pickedRight, ifTrue, ifFalse, bound}
+use Rattle.tophat.specs.Syntax.{Code, edit, enter, update, then, next, fail, and, or, xor, view, gate, if, let', Val, vunit, vtruth, vnumber, vpair}
+use Rattle.tophat.specs.Syntax.{TaskOf, filled, blank, entered, shared, before, after, failed, both, either, orLeft, orRight, unpicked, pickedLeft, pickedRight, gated, ifTrue, ifFalse, bound}
 
 -- x stands at place n of the list
 pub data At {X : Type 0} : List X → ℕ → X → Type 0 where
@@ -61,6 +61,7 @@ pub data CodeType (Σ : List Ty) : List Ty → Code → Ty → Type 0 where
   t-or : {Γ : List Ty} {a b : Code} {τ : Ty} → CodeType Σ Γ a τ → CodeType Σ Γ b τ → CodeType Σ Γ (or a b) τ
   t-xor : {Γ : List Ty} {a b : Code} {τ : Ty} → CodeType Σ Γ a τ → CodeType Σ Γ b τ → CodeType Σ Γ (xor a b) τ
   t-view : {Γ : List Ty} {e : Exp} {τ : Ty} → HasType Σ Γ e τ → CodeType Σ Γ (view e) τ
+  t-gate : {Γ : List Ty} {r n : ℕ} {b : Code} {τ : Ty} → CodeType Σ Γ b τ → CodeType Σ Γ (gate r n b) τ
   t-if-task : {Γ : List Ty} {e : Exp} {a b : Code} {τ : Ty}
       → HasType Σ Γ e truth → CodeType Σ Γ a τ → CodeType Σ Γ b τ → CodeType Σ Γ (if e a b) τ
   t-let-task : {Γ : List Ty} {e : Exp} {b : Code} {τ υ : Ty}
@@ -124,6 +125,9 @@ pub data TaskType (Σ : List Ty) : List Ty → (c : Code) → TaskOf c → Ty �
       → CodeType Σ Γ a τ → TaskType Σ Γ b u τ → TaskType Σ Γ (xor a b) (pickedRight u) τ
   k-viewed : {Γ : List Ty} {e : Exp} {v : Val} {τ : Ty}
       → HasType Σ Γ e τ → ValueType v τ → TaskType Σ Γ (view e) (filled v) τ
+  -- CR 6: "the touches left, 0 to C"
+  k-gated : {Γ : List Ty} {r n k : ℕ} {b : Code} {u : TaskOf b} {τ : Ty}
+      → k ≤ n → TaskType Σ Γ b u τ → TaskType Σ Γ (gate r n b) (gated k u) τ
   k-if-true : {Γ : List Ty} {e : Exp} {a b : Code} {t : TaskOf a} {τ : Ty}
       → HasType Σ Γ e truth → TaskType Σ Γ a t τ → CodeType Σ Γ b τ → TaskType Σ Γ (if e a b) (ifTrue t) τ
   k-if-false : {Γ : List Ty} {e : Exp} {a b : Code} {u : TaskOf b} {τ : Ty}

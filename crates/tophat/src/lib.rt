@@ -21,3 +21,8 @@ pub const CONTINUE: u32 = 2;
 pub const LEFT: u32 = 3;
 
 pub const RIGHT: u32 = 4;
+
+// CR 6: roles 1 to 8, touches 0 to 99
+pub const MAX_ROLE: u32 = 8;
+
+pub const MAX_TOUCHES: u32 = 99;

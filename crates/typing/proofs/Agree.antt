@@ -20,12 +20,12 @@ use Rattle.tophat.proofs.ComputeTyping.{ask, nth, numberTo, typeTo, infer, infe
 use Rattle.tophat.proofs.TypingAgrees.{type-to}
 use Rattle.shape.specs.Shape.{put, asShape, maybeShape}
 use Rattle.shape.proofs.Puts.{by-test, shape-pos}
-use Rattle.rows.specs.Kinds.{Sort, taskS, typeK, unitK, truthK, numberK, pairK, cellK, plainK, eunitK, etruthK, enumberK, ebinderK, eopK, epairK, efstK, esndK, ederefK, eassignK, eitherK, ifK, letK, taskK, editK, enterK, updateK, thenK, nextK, failK, andK, orK, xorK, viewK}
+use Rattle.rows.specs.Kinds.{Sort, taskS, typeK, unitK, truthK, numberK, pairK, cellK, plainK, eunitK, etruthK, enumberK, ebinderK, eopK, epairK, efstK, esndK, ederefK, eassignK, eitherK, ifK, letK, taskK, editK, enterK, updateK, thenK, nextK, failK, andK, orK, xorK, viewK, gateK}
 use Rattle.rows.specs.Rows.{opA, opB, opC, sameSort, sortNumber, rowSorted}
 use Rattle.rows.specs.Enclosing.{maxBinders}
 use Rattle.rows.specs.Trees.{ReadsType, r-unit, r-truth, r-number, r-pair, ReadsCell, r-cell}
 use Rattle.rows.specs.Trees.{ReadsExp, r-eunit, r-etruth, r-enumber, r-ebinder, r-eop, r-eif, r-epair, r-efst, r-esnd, r-ederef, r-eassign, r-elet}
-use Rattle.rows.specs.Trees.{ReadsCode, r-edit, r-enter, r-update, r-then, r-next, r-fail, r-and, r-or, r-xor, r-view, r-if, r-let}
+use Rattle.rows.specs.Trees.{ReadsCode, r-edit, r-enter, r-update, r-then, r-next, r-fail, r-and, r-or, r-xor, r-view, r-gate, r-if, r-let}
 use Rattle.rows.specs.ComputeTrees.{codeAt, cellTypes}
 use Rattle.rows.specs.Ground.{flowType, isSome, passes4, passes6, passes7}
 use Rattle.rows.proofs.Basics.{every-at}
@@ -128,6 +128,7 @@ module _ (rs : List ℕ) where
     code-good (r-xor {i = i} k p q d d₁) b env Γ h f =
         good-by (row-is rs env (length Γ) i (taskK xorK) _ k (is2 i (opA rs i) (opB rs i) _ p q)) (same-good (code-good d (omega arith) env Γ h (f .0)) (code-good d₁ (omega arith) env Γ h (f .1)))
     code-good (r-view {i = i} k p d) b env Γ h f = good-by (row-is rs env (length Γ) i (taskK viewK) _ k (is1 i (opA rs i) _ p)) (exp-good d (omega arith) env Γ h f)
+    code-good (r-gate {i = i} k p d) b env Γ h f = good-by (row-is rs env (length Γ) i (taskK gateK) _ k (is1 i (opB rs i) _ p)) (code-good d (omega arith) env Γ h f)
     code-good (r-if {i = i} k p q r d d₁ d₂) b env Γ h f =
         good-by (row-is rs env (length Γ) i (eitherK ifK) _ k (is3 i (opA rs i) (opB rs i) (opC rs i) _ p q r))
         (if-good (exp-good d (omega arith) env Γ h (f .0)) (code-good d₁ (omega arith) env Γ h (f .1)) (code-good d₂ (omega arith) env Γ h (f .2)))

@@ -11,7 +11,7 @@ use types.Run.{OneOf}
 use borrow.Author.Tests.{ltb-true}
 use Rattle.match_laws.proofs.Ranges.{AllOf, one-of, Each, in-range, NoneOf, in-gap}
 use Rattle.rows.specs.Kinds.{Kind, typeK, unitK, truthK, numberK, pairK, cellK, plainK, eunitK, etruthK, enumberK, ebinderK, eopK, epairK, efstK, esndK, ederefK, eassignK}
-use Rattle.rows.specs.Kinds.{eitherK, ifK, letK, taskK, editK, enterK, updateK, thenK, nextK, failK, andK, orK, xorK, viewK, kindOf, numberOf}
+use Rattle.rows.specs.Kinds.{eitherK, ifK, letK, taskK, editK, enterK, updateK, thenK, nextK, failK, andK, orK, xorK, viewK, gateK, kindOf, numberOf}
 use Rattle.rows.specs.Rows.{word, opA, opB, opC}
 use Rattle.rows.proofs.KindNumbers.{kind-gap, kind-beyond}
 use Rattle.typing.specs.Nodes.{lower1, lower2, lower3, nodeBy, nodeFrom, nodeOf, Below}
@@ -23,7 +23,7 @@ use Rattle.typing.specs.declared.Node.the-variants.{Op, If, Pair, First,
 -- the numbers of its arms, the last first
 abbrev pub armKeys : List (List ℕ)
 armKeys =
-    (31 ∷ []) ∷ (30 ∷ []) ∷ (10 ∷ 29 ∷ 45 ∷ 49 ∷ []) ∷ (28 ∷ []) ∷ (27 ∷ []) ∷ (4 ∷ 26 ∷ 46 ∷ []) ∷ (25 ∷ []) ∷ (24 ∷ []) ∷ (23 ∷ []) ∷
+    (50 ∷ []) ∷ (31 ∷ []) ∷ (30 ∷ []) ∷ (10 ∷ 29 ∷ 45 ∷ 49 ∷ []) ∷ (28 ∷ []) ∷ (27 ∷ []) ∷ (4 ∷ 26 ∷ 46 ∷ []) ∷ (25 ∷ []) ∷ (24 ∷ []) ∷ (23 ∷ []) ∷
     (3 ∷ 22 ∷ []) ∷ (2 ∷ 21 ∷ []) ∷ (1 ∷ 20 ∷ []) ∷ []
 
 module _ (i a b c : ℕ) where
@@ -92,6 +92,7 @@ node-below (some (taskK andK)) i a b c = lower2-below i a b (Pair a b) (λ p q. 
 node-below (some (taskK orK)) i a b c = lower2-below i a b (Same a b) (λ p q. (p, q))
 node-below (some (taskK xorK)) i a b c = lower2-below i a b (Same a b) (λ p q. (p, q))
 node-below (some (taskK viewK)) i a b c = lower1-below i a (Through a) (λ p. p)
+node-below (some (taskK gateK)) i a b c = lower1-below i b (Through b) (λ p. p)
 
 pub node-is : (rs : List ℕ) (i k a b c : ℕ) (x : Node) → k ≡ word rs i 0 → a ≡ opA rs i → b ≡ opB rs i → c ≡ opC rs i → x ≡ nodeFrom k i a b c → (x ≡ nodeOf rs i) × Below x i
 unfolding nodeOf

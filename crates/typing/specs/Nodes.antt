@@ -6,7 +6,7 @@ use mathlib.Core.List.{List}
 use Prim.Native.Nat.{ℕ, _<_}
 use lib.Dec.{ltb}
 use Rattle.rows.specs.Kinds.{Kind, typeK, unitK, truthK, numberK, pairK, cellK, plainK, eunitK, etruthK, enumberK, ebinderK, eopK, epairK, efstK, esndK, ederefK, eassignK}
-use Rattle.rows.specs.Kinds.{eitherK, ifK, letK, taskK, editK, enterK, updateK, thenK, nextK, failK, andK, orK, xorK, viewK, kindOf}
+use Rattle.rows.specs.Kinds.{eitherK, ifK, letK, taskK, editK, enterK, updateK, thenK, nextK, failK, andK, orK, xorK, viewK, gateK, kindOf}
 use Rattle.rows.specs.Rows.{word, opA, opB, opC}
 use Rattle.typing.specs.declared.Node.{Node}
 use Rattle.typing.specs.declared.Node.the-variants.{Unit, Truth, Number, Binder, Op, If, Pair, First, Second, Through, Assign, Bind, Same, Bad}
@@ -50,6 +50,7 @@ nodeBy (some (taskK andK)) i a b c = lower2 i a b (Pair a b)
 nodeBy (some (taskK orK)) i a b c = lower2 i a b (Same a b)
 nodeBy (some (taskK xorK)) i a b c = lower2 i a b (Same a b)
 nodeBy (some (taskK viewK)) i a b c = lower1 i a (Through a)
+nodeBy (some (taskK gateK)) i a b c = lower1 i b (Through b)
 
 abbrev pub nodeFrom : ℕ → ℕ → ℕ → ℕ → ℕ → Node
 nodeFrom k i a b c = nodeBy (kindOf k) i a b c

@@ -164,6 +164,7 @@ fn node_from(k: u32, i: usize, a: u32, b: u32, c: u32) -> Node
         40..=42 => named1(i, p, Node::Through(p)),
         30 => named2(i, p, q, Node::Assign(p, q)),
         31 => named2(i, p, q, Node::Bind(p, q)),
+        50 => named1(i, q, Node::Through(q)),
         43..=44 => named2(i, p, q, Node::Bind(p, q)),
         47..=48 => named2(i, p, q, Node::Same(p, q)),
         _ => Node::Bad,
@@ -250,7 +251,7 @@ pub fn is_task(rows: &[u32; ROWS_WORDS], row: usize) -> bool
             }
             false
         }
-        40..=49 => true,
+        40..=50 => true,
         _ => false,
     }
 }

@@ -1,7 +1,7 @@
 //! The session of document 01: a number is asked for until it is at most 9, and is then multiplied by 30. Prints a screen
 //! after start and after each event, as 01 prints them.
 
-use nannyjiffy::{Flow, Ground, Rest, MAX_LEAVES};
+use nannyjiffy::{Flow, Ground, Rest, Role, MAX_LEAVES};
 use std::io::{self, Write};
 
 /// Row number, kind, A, B, C.
@@ -19,9 +19,9 @@ const SHEET: &[u8] = b"   0   3           0           0           0
   11  43           1          10           0
 ";
 
-/// Path, action, the first leaf: value 12, value 4, Continue. The leaves after it are not used, and are 0.
+/// Role, path, action, the first leaf: value 12, value 4, Continue. The leaves after it are not used, and are 0.
 const EVENTS: [&str; 3] =
-    ["               0 1          12", "               0 1           4", "               0 2           0"];
+    [" 1               0 1          12", " 1               0 1           4", " 1               0 2           0"];
 
 fn main() -> io::Result<()> {
     let flow = Flow::load(SHEET).map_err(io::Error::other)?;
@@ -36,7 +36,7 @@ fn main() -> io::Result<()> {
 }
 
 fn print(answer: Result<(), Ground>, rest: &Rest) -> io::Result<()> {
-    let screen = rest.look();
+    let screen = rest.look(Role::FIRST);
     let number = answer.map_or_else(Ground::number, |()| 0);
     let [fails, valued] = [screen.failing, screen.value.is_some()].map(u32::from);
     let leaves = screen.value.unwrap_or_default().map(|leaf| format!("{leaf:12}")).concat();

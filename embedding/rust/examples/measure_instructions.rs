@@ -23,8 +23,8 @@ fn second_start(rows: &[i32], state: &mut [i32]) -> u32 {
 
 #[no_mangle]
 #[inline(never)]
-fn second_look(rows: &[i32], state: &[i32], value: &mut [i32], list: &mut [u8]) -> u32 {
-    second::look(rows, state, value, list).number
+fn second_look(rows: &[i32], state: &[i32], role: u32, value: &mut [i32], list: &mut [u8]) -> u32 {
+    second::look(rows, state, role, value, list).number
 }
 
 #[no_mangle]
@@ -44,12 +44,12 @@ fn main() {
         _ => panic!("rows SIZE or levels COUNT"),
     };
     let (mut value, mut list) = ([0; VALUE_WORDS], [0; list_bytes(MAX_ROWS)]);
-    for Touch { rows, state, event } in &touches {
+    for Touch { rows, state, role, event } in &touches {
         _ = black_box(calls::start(rows, &mut state.clone()));
-        _ = black_box(calls::look(rows, state, &mut value, &mut list));
+        _ = black_box(calls::look(rows, state, *role, &mut value, &mut list));
         _ = black_box(calls::handle(rows, &mut state.clone(), event));
         black_box(second_start(rows, &mut state.clone()));
-        black_box(second_look(rows, state, &mut value, &mut list));
+        black_box(second_look(rows, state, *role, &mut value, &mut list));
         black_box(second_handle(rows, &mut state.clone(), event));
     }
     println!("{}", touches.len());

@@ -64,7 +64,7 @@ fn depths(stack: &mut Stack, rows: &[Row], event: &[u8]) -> [usize; 4] {
     let load = stack.depth(|| calls::load(&text, &mut words).expect("accepted"));
     assert_eq!(words, words_of_rows(rows));
     let start = stack.depth(|| _ = calls::start(&words, &mut state).expect("accepted"));
-    let look = stack.depth(|| _ = calls::look(&words, &state, &mut value, &mut list).expect("a rest"));
+    let look = stack.depth(|| _ = calls::look(&words, &state, 1, &mut value, &mut list).expect("a rest"));
     let handle = stack.depth(|| _ = calls::handle(&words, &mut state, event));
     [load, start, look, handle]
 }

@@ -42,8 +42,8 @@ fn times(touches: &[Touch]) -> [[f64; 2]; 3] {
     );
     let look = least(
         touches,
-        |t| _ = black_box(calls::look(&t.rows, &t.state, &mut value, &mut list)),
-        |t| _ = black_box(second::look(&t.rows, &t.state, &mut value_2, &mut list_2)),
+        |t| _ = black_box(calls::look(&t.rows, &t.state, t.role, &mut value, &mut list)),
+        |t| _ = black_box(second::look(&t.rows, &t.state, t.role, &mut value_2, &mut list_2)),
     );
     let handle = least(
         touches,

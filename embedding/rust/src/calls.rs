@@ -6,14 +6,14 @@
 use crate::exports;
 use crate::ground::{answer, Ground};
 
-/// What a look shows. The value's leaves are in the value memory that was lent.
+/// What a look shows to a role. The value's leaves are in the value memory that was lent.
 #[derive(Clone, Copy, Debug, PartialEq, Eq)]
 pub struct Looked<'l> {
     pub has_value: bool,
-    /// Whether the flow fails. Then it has no entries; one without entries, a quiet one, need not fail. A flow whose
+    /// Whether the flow fails. Then it has no entries, for any role; one without entries need not fail. A flow whose
     /// start left the range fails as a whole: it has no value, and every event that can be read is refused with ground 9.
     pub failing: bool,
-    /// The part of the list memory that holds entries, 35 bytes each.
+    /// The part of the list memory that holds entries, 35 bytes each: what the role may do now.
     pub entries: &'l [u8],
 }
 
@@ -33,9 +33,15 @@ pub fn start(rows: &[i32], state: &mut [i32]) -> Result<u32, Ground> {
     answer(number).map(|()| strides)
 }
 
-/// Shows a rest: its value in `value`, of 8 words, and its entries in the front of `list`. A quiet flow needs no list
-/// memory. Grounds 20 to 24.
-pub fn look<'l>(rows: &[i32], state: &[i32], value: &mut [i32], list: &'l mut [u8]) -> Result<Looked<'l>, Ground> {
+/// Shows a rest to a role, 1 to 8: its value in `value`, of 8 words, and what the role may do in the front of `list`. Where
+/// that is nothing, no list memory is needed. Grounds 20 to 23, 8, 24.
+pub fn look<'l>(
+    rows: &[i32],
+    state: &[i32],
+    role: u32,
+    value: &mut [i32],
+    list: &'l mut [u8],
+) -> Result<Looked<'l>, Ground> {
     let (mut valued, mut fails, mut bytes) = (0, 0, 0);
     // SAFETY: as in `load`; the single numbers are locals.
     let number = unsafe {
@@ -44,6 +50,7 @@ pub fn look<'l>(rows: &[i32], state: &[i32], value: &mut [i32], list: &'l mut [u
             rows.len(),
             state.as_ptr(),
             state.len(),
+            role,
             value.as_mut_ptr(),
             value.len(),
             list.as_mut_ptr(),
@@ -56,7 +63,7 @@ pub fn look<'l>(rows: &[i32], state: &[i32], value: &mut [i32], list: &'l mut [u
     answer(number).map(|()| Looked { has_value: valued != 0, failing: fails != 0, entries: &list[..bytes] })
 }
 
-/// Handles an event, writes the rest that it leads to over `state`, and gives the strides. Grounds 20 to 23, 8, 9.
+/// Handles an event, writes the rest that it leads to over `state`, and gives the strides. Grounds 20 to 23, 8, 9, 30, 31.
 pub fn handle(rows: &[i32], state: &mut [i32], event: &[u8]) -> Result<u32, Ground> {
     let mut strides = 0;
     // SAFETY: as in `load`; `strides` is a local.

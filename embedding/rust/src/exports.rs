@@ -22,6 +22,7 @@ extern "C" {
         rows_words: usize,
         state: *const i32,
         state_words: usize,
+        role: u32,
         value: *mut i32,
         value_words: usize,
         list: *mut u8,

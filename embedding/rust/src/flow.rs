@@ -1,7 +1,7 @@
 //! Flows and their rests in fixed memory of their own, so that grounds 20 to 24 cannot hold.
 
 use crate::calls;
-use crate::{list_bytes, Ground, ENTRY_BYTES, LINE_BYTES, MAX_ROWS, ROW_WORDS, STATE_WORDS, VALUE_WORDS};
+use crate::{list_bytes, Ground, Role, ENTRY_BYTES, LINE_BYTES, MAX_ROWS, ROW_WORDS, STATE_WORDS, VALUE_WORDS};
 
 const OWN: &str = "memory that the engine wrote, of its length";
 
@@ -49,7 +49,7 @@ impl<'f> Rest<'f> {
         Rest { flow, state, strides }
     }
 
-    /// Handles an event. Grounds 8 and 9; a refused event leaves the rest as it is, with strides 0.
+    /// Handles an event. Grounds 8, 9, 30 and 31; a refused event leaves the rest as it is, with strides 0.
     pub fn handle(&mut self, event: &[u8]) -> Result<(), Ground> {
         let state = &mut self.state[..self.flow.count * STATE_WORDS];
         let answer = calls::handle(self.flow.rows(), state, event);
@@ -67,21 +67,21 @@ impl<'f> Rest<'f> {
         &self.state[..self.flow.count * STATE_WORDS]
     }
 
-    /// What the rest shows.
-    pub fn look(&self) -> Screen {
+    /// What the rest shows to a role. The list is of what the role may do now; all else is the same for every role.
+    pub fn look(&self, role: Role) -> Screen {
         let (mut value, mut list) = ([0; VALUE_WORDS], [0; list_bytes(MAX_ROWS)]);
-        let looked = calls::look(self.flow.rows(), self.state(), &mut value, &mut list).expect(OWN);
+        let looked = calls::look(self.flow.rows(), self.state(), role.number(), &mut value, &mut list).expect(OWN);
         let (has_value, failing, bytes) = (looked.has_value, looked.failing, looked.entries.len());
         Screen { value: has_value.then_some(value), failing, list, bytes }
     }
 }
 
-/// What a rest shows, in 9 KiB.
+/// What a rest shows to a role, in 9 KiB.
 #[derive(Clone, Debug)]
 pub struct Screen {
     /// The leaves of its value, unused ones 0, if it has one.
     pub value: Option<[i32; VALUE_WORDS]>,
-    /// Whether the flow fails. A screen without entries need not.
+    /// Whether the flow fails. A screen without entries need not, and another role may have some.
     pub failing: bool,
     list: [u8; list_bytes(MAX_ROWS)],
     bytes: usize,

@@ -5,18 +5,27 @@
 //! (`crates/flow_c`); that the declarations here fit them is tested (`tests/`).
 //!
 //! ```
-//! use nannyjiffy::{Flow, Ground, Rest, MAX_LEAVES};
+//! use nannyjiffy::{Flow, Ground, Rest, Role, MAX_LEAVES};
 //!
-//! // An empty editor for a number.
-//! let sheet = b"   0   3           0           0           0\n   1  41           0           0           0\n";
-//! let flow = Flow::load(sheet)?;
+//! // An empty editor for a number, which role 2 may touch once.
+//! let sheet = [
+//!     "   0   3           0           0           0\n",
+//!     "   1  41           0           0           0\n",
+//!     "   2  50           2           1           1\n",
+//! ];
+//! let flow = Flow::load(sheet.concat().as_bytes())?;
 //! let mut rest = Rest::start(&flow);
-//! assert_eq!(rest.look().entries(), b"               0 1 3 0 0 0 0 0 0 0\n");
+//! let [customer, counter] = [1, 2].map(|role| Role::new(role).expect("1 to 8"));
+//! assert_eq!(rest.look(counter).entries(), b"               0 1 3 0 0 0 0 0 0 0\n");
+//! assert_eq!(rest.look(customer).entries(), b"");
 //!
-//! // The number 12 at the empty path; the leaves after it are not used.
+//! // Role 2 gives the number 12 at the empty path; the leaves after it are not used.
 //! let unused = "           0".repeat(MAX_LEAVES - 1);
-//! rest.handle(format!("               0 1          12{unused}\n").as_bytes())?;
-//! assert_eq!(rest.look().value, Some([12, 0, 0, 0, 0, 0, 0, 0]));
+//! let event = |role: Role| format!("{:2}               0 1          12{unused}\n", role.number());
+//! assert_eq!(rest.handle(event(customer).as_bytes()), Err(Ground::Role));
+//! rest.handle(event(counter).as_bytes())?;
+//! assert_eq!(rest.look(customer).value, Some([12, 0, 0, 0, 0, 0, 0, 0]));
+//! assert_eq!(rest.handle(event(counter).as_bytes()), Err(Ground::Touches));
 //! # Ok::<(), Ground>(())
 //! ```
 #![no_std]
@@ -25,9 +34,11 @@ pub mod calls;
 pub mod exports;
 mod flow;
 mod ground;
+mod role;
 
 pub use flow::{Flow, Rest, Screen};
 pub use ground::Ground;
+pub use role::Role;
 
 /// Lines of a sheet, at most.
 pub const MAX_ROWS: usize = 256;
@@ -35,8 +46,8 @@ pub const MAX_ROWS: usize = 256;
 pub const LINE_BYTES: usize = 45;
 /// Leaves of a type, at most.
 pub const MAX_LEAVES: usize = 8;
-/// Bytes of an event, 115: path, action, leaves of 12 columns, byte 10.
-pub const EVENT_BYTES: usize = 16 + 2 + 12 * MAX_LEAVES + 1;
+/// Bytes of an event, 117: role, path, action, leaves of 12 columns, byte 10.
+pub const EVENT_BYTES: usize = 2 + 16 + 2 + 12 * MAX_LEAVES + 1;
 /// Bytes of a list entry, 35: path, action, leaf kinds of 2 columns, byte 10.
 pub const ENTRY_BYTES: usize = 16 + 2 + 2 * MAX_LEAVES + 1;
 /// Words of rows memory for each row: kind, A, B, C.
@@ -45,6 +56,11 @@ pub const ROW_WORDS: usize = 4;
 pub const STATE_WORDS: usize = 16;
 /// Words of a value.
 pub const VALUE_WORDS: usize = MAX_LEAVES;
+
+/// Roles are 1 to this one.
+pub const MAX_ROLE: u32 = 8;
+/// Touches of a row of kind 50, at most.
+pub const MAX_TOUCHES: i32 = 99;
 
 /// Stack that suffices for each call on every sheet that was measured, the deepest of 256 rows among them. A thread that Rust
 /// starts has less, unless it is told otherwise; too little ends the program, at the stack's guard page.

@@ -44,13 +44,16 @@ fn sizes_are_the_same() {
         ("ROW_WORDS", ROW_WORDS),
         ("STATE_WORDS", STATE_WORDS),
         ("VALUE_WORDS", VALUE_WORDS),
+        ("MAX_ROLE", MAX_ROLE as usize),
+        ("MAX_TOUCHES", MAX_TOUCHES as usize),
         ("STACK_BYTES", STACK_BYTES),
     ];
     for (name, size) in sizes {
         assert_eq!(constants.get(name), Some(&size), "{name}");
     }
     // The figures that the formulas come to.
-    assert_eq!((MAX_LEAVES, EVENT_BYTES, ENTRY_BYTES, VALUE_WORDS, STATE_WORDS), (8, 115, 35, 8, 16));
+    assert_eq!((MAX_LEAVES, EVENT_BYTES, ENTRY_BYTES, VALUE_WORDS, STATE_WORDS), (8, 117, 35, 8, 16));
+    assert_eq!((MAX_ROLE, MAX_TOUCHES), (8, 99));
     assert_eq!(list_bytes(MAX_ROWS), 8960);
 }
 

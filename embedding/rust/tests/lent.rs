@@ -20,8 +20,8 @@ const COUNT: u64 = 10_000;
 const NUMBERS: [(&str, &[usize]); 4] = [
     ("load", &[0, 1, 2, 3, 4, 5, 6, 7, 21]),
     ("start", &[0, 20, 21]),
-    ("look", &[0, 20, 21, 22, 23, 24]),
-    ("handle", &[0, 8, 9, 20, 21, 22, 23]),
+    ("look", &[0, 8, 20, 21, 22, 23, 24]),
+    ("handle", &[0, 8, 9, 20, 21, 22, 23, 30, 31]),
 ];
 
 fn set(name: &str, or: u64) -> u64 {
@@ -96,7 +96,10 @@ fn any_memory_is_answered() {
     let drawn = |(at, mut lent): (usize, Lent)| {
         let random = &mut Random::of_case(SEED, at as u64);
         let percent = [30, 60, 100][at % 3];
-        let Lent { text, room, rows, state, value, list, event } = &mut lent;
+        let Lent { text, room, rows, state, role, value, list, event } = &mut lent;
+        if random.chance(percent) {
+            *role = random.draw() as u32;
+        }
         let (texts, all_words) = (
             [(text, LINE_BYTES), (list, ENTRY_BYTES), (event, EVENT_BYTES)],
             [(room, ROW_WORDS), (rows, ROW_WORDS), (state, STATE_WORDS), (value, VALUE_WORDS)],

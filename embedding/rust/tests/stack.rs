@@ -3,7 +3,7 @@
 #[path = "common/deep.rs"]
 mod deep;
 
-use nannyjiffy::{Flow, Rest, STACK_BYTES};
+use nannyjiffy::{Flow, Rest, Role, STACK_BYTES};
 use reference::sheet;
 use std::thread;
 
@@ -13,7 +13,7 @@ fn the_deepest_sheets_run() {
         let run = move || {
             let flow = Flow::load(&sheet::write(&rows)).expect("accepted");
             let mut rest = Rest::start(&flow);
-            rest.look();
+            rest.look(Role::FIRST);
             rest.handle(&deep::event(action))
         };
         let thread = thread::Builder::new().stack_size(STACK_BYTES).spawn(run).expect("a thread");

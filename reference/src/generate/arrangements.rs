@@ -4,7 +4,7 @@
 use super::draft::{Draft, Drafted, Limits};
 use super::{blanks, events, layout, rewrite};
 use crate::counterparts::mirrored_sheet;
-use crate::event::{EVENT, PATH};
+use crate::event::{EVENT, PATH_COLUMNS};
 use crate::flow::Flow;
 use crate::limits::{ENCLOSING, LEAVES};
 use crate::random::Random;
@@ -37,8 +37,11 @@ fn halves(random: &mut Random) -> Drafted {
     let mut draft = Draft::new(random, limits);
     let cell = if draft.random.chance(75) { Some(draft.number_cell()) } else { None };
     let leaves = 1 + draft.random.below(LEAVES - 1);
-    let left = draft.half(leaves, cell);
-    let right = draft.half(LEAVES - leaves, cell);
+    let gating = draft.gating(50);
+    let [left, right] = [leaves, LEAVES - leaves].map(|leaves| {
+        let half = draft.half(leaves, cell);
+        draft.gated(gating, half)
+    });
     draft.drafted(Code::Both(Box::new(left), Box::new(right)))
 }
 
@@ -76,7 +79,11 @@ fn three(random: &mut Random) -> [Drafted; 3] {
     let limits = Limits { marks: ENCLOSING - 2, ..Limits::default() };
     let mut draft = Draft::new(random, limits);
     let of = if draft.random.chance(50) { Type::Number } else { draft.even_type() };
-    let codes: [Code; 3] = array::from_fn(|_| draft.alternative(&of));
+    let gating = draft.gating(50);
+    let codes: [Code; 3] = array::from_fn(|_| {
+        let code = draft.alternative(&of);
+        draft.gated(gating, code)
+    });
     let cells = draft.cells;
     codes.map(|code| Drafted { cells: cells.clone(), code })
 }
@@ -95,7 +102,7 @@ fn touches(random: &mut Random, flow: &Flow) -> Vec<u8> {
     let whole = events.len() / EVENT;
     if whole > 0 && random.chance(20) {
         let at = random.below(whole) * EVENT;
-        events[at..at + PATH].fill_with(|| if random.chance(40) { b'1' } else { b'2' });
+        events[at..][PATH_COLUMNS].fill_with(|| if random.chance(40) { b'1' } else { b'2' });
     }
     events
 }

@@ -2,7 +2,7 @@
 //! where something is, which refuses it.
 
 use super::touches::put;
-use crate::event::{leaf_columns, PATH};
+use crate::event::{leaf_columns, PATH_COLUMNS};
 use crate::field;
 use crate::kinds::Operand;
 use crate::limits::LEAVES;
@@ -45,7 +45,7 @@ pub fn meant(random: &mut Random, row: &Row, line: &mut [u8]) {
         0..=1 => blank(line, &COLUMNS[0]),
         2..=3 => blank(line, &COLUMNS[1]),
         4..=6 => {
-            let kind: i32 = *random.pick(&[0, 5, 9, 11, 19, 32, 39, 50, 99, -1]).expect("kinds");
+            let kind: i32 = *random.pick(&[0, 5, 9, 11, 19, 32, 39, 51, 99, -1]).expect("kinds");
             put(&mut line[COLUMNS[1].clone()], &kind.to_string());
             blank(line, random.pick(&COLUMNS[2..]).expect("columns"));
         }
@@ -67,8 +67,8 @@ pub fn event(random: &mut Random, kinds: Leaves, event: &mut [u8]) {
     }
     let percent = [40, 100][random.below(2)];
     let is_zero = |columns: &[u8]| field::after_spaces(columns) == b"0";
-    if is_zero(&event[..PATH]) && random.chance(percent) {
-        blank(event, &(0..PATH));
+    if is_zero(&event[PATH_COLUMNS]) && random.chance(percent) {
+        blank(event, &PATH_COLUMNS);
     }
     let taken = if random.chance(25) { random.below(LEAVES) } else { LEAVES };
     for (at, kind) in kinds.into_iter().enumerate() {

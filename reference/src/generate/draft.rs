@@ -51,6 +51,8 @@ impl<'r> Draft<'r> {
     /// A whole flow.
     pub fn flow(mut self) -> Drafted {
         let code = self.whole();
+        let gating = self.gating(40);
+        let code = self.gated(gating, code);
         self.drafted(code)
     }
 
@@ -62,17 +64,17 @@ impl<'r> Draft<'r> {
                 let fuel = self.fuel();
                 self.task(&of, fuel)
             }
-            10..=16 => {
+            10..=15 => {
                 let fuel = self.fuel();
                 self.at_the_end(&of, fuel)
             }
-            17..=27 => self.trying(),
-            28..=36 => self.racing(),
-            37..=41 => self.deep_binders(&of),
-            42..=46 => self.deep_marks(&of),
-            47..=50 => self.deep_picks(&of),
-            51..=56 => self.deep_left(&of),
-            57..=68 => self.ordered(),
+            16..=26 => self.trying(),
+            27..=34 => self.racing(),
+            35..=39 => self.deep_binders(&of),
+            40..=45 => self.deep_marks(&of),
+            46..=49 => self.deep_picks(&of),
+            50..=53 => self.deep_left(&of),
+            54..=66 => self.ordered(),
             _ => self.wide(),
         };
         if self.random.chance(5) {
@@ -102,6 +104,8 @@ impl<'r> Draft<'r> {
                 false => self.nested_marks(&of, self.limits.leaves),
             }
         };
+        let gating = self.gating(40);
+        let code = self.gated(gating, code);
         self.drafted(code)
     }
 

@@ -65,8 +65,8 @@ fn plain_last(random: &mut Random) -> Vec<Row> {
 fn break_rows(random: &mut Random, rows: &mut Vec<Row>) {
     let at = random.below(rows.len());
     let place = random.below(3);
-    match random.below(16) {
-        0 => rows[at].kind = *random.pick(&[0, 5, 9, 11, 19, 32, 39, 50, 60, 99, -1]).expect("kinds"),
+    match random.below(18) {
+        0 => rows[at].kind = *random.pick(&[0, 5, 9, 11, 19, 32, 39, 51, 60, 99, -1]).expect("kinds"),
         1 => break_unused(random, &mut rows[at]),
         2 | 13 => break_listed(random, rows),
         3 => rows[at].operands[place] = random.between(-1, rows.len() as i32),
@@ -86,7 +86,8 @@ fn break_rows(random: &mut Random, rows: &mut Vec<Row>) {
         }
         10 => break_binder(random, rows),
         11 | 12 | 14 => share_leaf(random, rows),
-        _ => rows[at].kind = random.between(20, 49),
+        15 | 16 => break_gate(random, rows),
+        _ => rows[at].kind = random.between(20, 50),
     }
     rows.truncate(LINES + 1);
 }
@@ -115,6 +116,17 @@ fn break_listed(random: &mut Random, rows: &mut [Row]) {
     if let Some(&at) = random.pick(&listed) {
         rows[at].operands[usize::from(kind == 10)] = *random.pick(&[-1, 0, 2, 9]).expect("numbers");
     }
+}
+
+/// Breaks the role or the touches of a row of kind 50; where there is none, a new last row is one.
+fn break_gate(random: &mut Random, rows: &mut Vec<Row>) {
+    let gates: Vec<usize> = (0..rows.len()).filter(|&at| rows[at].kind == 50).collect();
+    let at = random.pick(&gates).copied().unwrap_or(rows.len());
+    if at == rows.len() {
+        rows.push(Row::new(50, 1, at as i32 - 1, 1));
+    }
+    let (place, numbers) = if random.chance(50) { (0, [-1, 0, 8, 9]) } else { (2, [-1, 0, 99, 100]) };
+    rows[at].operands[place] = *random.pick(&numbers).expect("numbers");
 }
 
 /// Names another row at some place that names one.

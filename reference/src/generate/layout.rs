@@ -176,6 +176,10 @@ impl Layout<'_> {
                 let content = self.plain(drafted, content);
                 self.row(49, content, 0, 0)
             }
+            Code::Gate(gate, task) => {
+                let task = self.code(drafted, task);
+                self.row(50, gate.role as i32, task, gate.touches)
+            }
             Code::Condition(condition, then, otherwise) => {
                 let condition = self.plain(drafted, condition);
                 let (then, otherwise) = self.two(|rows| rows.code(drafted, then), |rows| rows.code(drafted, otherwise));

@@ -2,8 +2,8 @@
 //!
 //! [`draft`] makes well-typed flows out of [`plain`] expressions and [`tasks`], some of them in
 //! the [`shapes`] and with the [`effects`] that slips hide in, some with numbers at the [`ends`] of the
-//! range, some over [`wide`] values; [`layout`] writes them as rows; [`faults`] breaks sheets near each ground; [`touches`] makes
-//! events, most of them from the list shown; [`blanks`] leaves fields of both blank. [`states`] makes
+//! range, some over [`wide`] values, some with [`gates`], rows of kind 50, around their parts; [`layout`] writes them as
+//! rows; [`faults`] breaks sheets near each ground; [`touches`] makes events, most of them from the list shown; [`blanks`] leaves fields of both blank. [`states`] makes
 //! states of a flow that no session need reach. [`arrangements`] makes two sheets of one flow (CR 5), with what
 //! [`rewrite`] makes of its trees.
 
@@ -13,6 +13,7 @@ pub mod draft;
 pub mod effects;
 pub mod ends;
 pub mod faults;
+pub mod gates;
 pub mod layout;
 pub mod plain;
 pub mod rewrite;
@@ -25,6 +26,7 @@ pub mod wide;
 use crate::event::{Action, Entry};
 use crate::flow::Flow;
 use crate::random::Random;
+use crate::roles::Who;
 use crate::rules::Rules;
 use crate::session;
 use crate::sheet::{self, Row, LINE};
@@ -77,27 +79,26 @@ pub fn with_count(text: Vec<u8>) -> Vec<u8> {
 fn events(random: &mut Random, flow: &Flow) -> Vec<u8> {
     let (mut state, _) = State::start(flow);
     let mut events = Vec::new();
-    let count = if random.chance(5) { 100 } else { random.below(24) };
+    let count = if random.chance(5) { 100 } else { random.below(34) };
     for _ in 0..count {
-        let entries = state.look().entries;
-        if random.chance(weariness(&entries)) {
+        if random.chance(weariness(&state)) {
             break;
         }
-        let event = touches::event(random, &entries);
+        let event = touches::event(random, &state);
         // A refused event leaves the state as it is.
         let _ = state.handle(&event);
         events.extend(event);
     }
     if random.chance(10) {
-        events.extend(touches::short(random, &state.look().entries));
+        events.extend(touches::short(random, &state));
     }
     events
 }
 
-/// How soon a session ends: little happens any more where nothing, or nothing but editors, is
-/// shown.
-fn weariness(entries: &[Entry]) -> usize {
-    match entries {
+/// How soon a session ends: little happens any more where nothing, or nothing but editors, is shown to any role.
+fn weariness(state: &State) -> usize {
+    let entries: Vec<Entry> = gates::ROLES.into_iter().flat_map(|role| state.entries(Who::Is(role))).collect();
+    match &entries[..] {
         [] => 25,
         _ if entries.iter().all(|entry| entry.action == Action::Value) => 8,
         _ => 0,

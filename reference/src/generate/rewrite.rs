@@ -1,4 +1,4 @@
-//! The trees of a flow with its cells in other places, or without its writes.
+//! The trees of a flow with its cells in other places, without its writes, or without its rows of kind 50.
 
 use super::draft::Drafted;
 use crate::random::Random;
@@ -7,8 +7,14 @@ use crate::syntax::{Cell, Code, Plain};
 /// The flow without a write: what would be written is reckoned and dropped, and there is a unit as before.
 pub fn without_writes(drafted: &Drafted) -> Drafted {
     let cells: Vec<Cell> = (0..drafted.cells.len()).collect();
-    let rewrite = Rewrite { cells: &cells, writes: false };
+    let rewrite = Rewrite { cells: &cells, writes: false, gates: true };
     Drafted { cells: drafted.cells.clone(), code: rewrite.code(&drafted.code) }
+}
+
+/// The task, which has so many cells, with the task of each row of kind 50 in its place.
+pub fn without_gates(cells: usize, code: &Code) -> Code {
+    let cells: Vec<Cell> = (0..cells).collect();
+    Rewrite { cells: &cells, writes: true, gates: false }.code(code)
 }
 
 /// The flow with its cells in a drawn order.
@@ -21,15 +27,16 @@ pub fn with_cells_moved(random: &mut Random, drafted: &Drafted) -> Drafted {
     for (cell, &place) in order.iter().enumerate() {
         cells[place] = drafted.cells[cell].clone();
     }
-    let rewrite = Rewrite { cells: &order, writes: true };
+    let rewrite = Rewrite { cells: &order, writes: true, gates: true };
     Drafted { cells, code: rewrite.code(&drafted.code) }
 }
 
 struct Rewrite<'r> {
     /// The place of each cell.
     cells: &'r [Cell],
-    /// Whether writes stay.
+    /// Whether writes stay, and rows of kind 50.
     writes: bool,
+    gates: bool,
 }
 
 impl Rewrite<'_> {
@@ -60,6 +67,8 @@ impl Rewrite<'_> {
             Code::Both(a, b) => Code::Both(part(a), part(b)),
             Code::Choice(a, b) => Code::Choice(part(a), part(b)),
             Code::Pick(a, b) => Code::Pick(part(a), part(b)),
+            Code::Gate(gate, a) if self.gates => Code::Gate(*gate, part(a)),
+            Code::Gate(_, a) => self.code(a),
             Code::Condition(a, b, c) => Code::Condition(self.plain(a), part(b), part(c)),
             Code::Bind(a, b) => Code::Bind(self.plain(a), part(b)),
         }

@@ -1,9 +1,10 @@
 //! States of a flow, whether some events lead there or not: any content and bound value of the type
-//! asked, any side. Most are no rests.
+//! asked, any side, any touches left. Most are no rests.
 
 use crate::binders::Binders;
 use crate::flow::Flow;
 use crate::random::Random;
+use crate::roles::Gate;
 use crate::slips::Slip;
 use crate::state::State;
 use crate::syntax::{Code, Type};
@@ -38,6 +39,15 @@ pub fn value(random: &mut Random, of: &Type) -> Value {
             let first = value(random, &parts.0);
             Value::pair(first, value(random, &parts.1))
         }
+    }
+}
+
+/// Touches that a row of kind 50 may have left.
+pub fn touches_left(random: &mut Random, gate: Gate) -> i32 {
+    match random.below(4) {
+        0 => 0,
+        1 => gate.touches,
+        _ => random.between(0, gate.touches),
     }
 }
 
@@ -93,6 +103,10 @@ impl States<'_> {
             Code::View(content) => {
                 let of = self.typing.plain(context, content).expect("typed");
                 Task::View(value(self.random, &of))
+            }
+            Code::Gate(gate, task) => {
+                let left = touches_left(self.random, *gate);
+                Task::Gate(*gate, left, self.part(context, task))
             }
             Code::Condition(_, then, otherwise) => self.became(context, Origin::Decided, then, otherwise),
             Code::Bind(bound, body) => {

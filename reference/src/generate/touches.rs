@@ -1,28 +1,74 @@
-//! Events: most from the list shown, some near it, some that cannot be read.
+//! Events: most from a list shown to their role, some near it, some that cannot be read.
 
-use super::blanks;
-use crate::event::{self, leaf_columns, with_four_leaves, Action, Entry, ACTION, EVENT, PATH};
+use super::{blanks, gates};
+use crate::event::{
+    self, leaf_columns, with_four_leaves, with_role, without_role, Action, Entry, ACTION_COLUMNS, EVENT, PATH,
+    PATH_COLUMNS,
+};
 use crate::limits::LEAVES;
 use crate::random::Random;
+use crate::roles::{Role, Who};
+use crate::state::State;
 use crate::value::{padded, Leaves};
 
 /// Texts that are no field.
 pub const NO_FIELDS: [&str; 13] =
     ["+1", "01", "-0", "1 ", "\t1", "1x", "-", "2147483648", "-2147483649", "1 1", "00", "\t", "\0"];
 
-/// An event for a screen with this list; in one of four, fields of it are blank by chance.
-pub fn event(random: &mut Random, entries: &[Entry]) -> Vec<u8> {
-    let (mut event, kinds) = filled(random, entries);
+/// Texts that are no role.
+pub const NO_ROLES: [&str; 10] = ["", "0", "9", "01", "1 ", "+1", "-1", "10", "1x", "\t1"];
+
+/// An event for a state; in one of four, fields of it are blank by chance.
+pub fn event(random: &mut Random, state: &State) -> Vec<u8> {
+    let (role, entries) = offered(random, state);
+    let (mut event, kinds) = filled(random, &entries);
     blanks::event(random, kinds, &mut event);
-    event
+    match random.chance(3) {
+        true => with_role(random.pick(&NO_ROLES).expect("texts"), event),
+        false => with_role(&role.to_string(), event),
+    }
 }
 
-/// An event that is too short: cut anywhere, or one of four leaves, as events were before CR 4.
-pub fn short(random: &mut Random, entries: &[Entry]) -> Vec<u8> {
-    let event = event(random, entries);
-    match random.chance(25) {
-        true => with_four_leaves(&event),
-        false => event[..1 + random.below(EVENT - 1)].to_vec(),
+/// A role, and the list that its event is made from: most often one of a role that has entries, else its own, or that of
+/// anyone, so that it is refused by another's row of kind 50, or by one without a touch left.
+fn offered(random: &mut Random, state: &State) -> (Role, Vec<Entry>) {
+    let others = random.between(4, 8) as Role;
+    let drawn = random.weighed(&[(3, 1), (3, 2), (3, 3), (1, others)]);
+    match random.below(10) {
+        0..=5 => {
+            let roles = [drawn].into_iter().chain(gates::ROLES.into_iter().filter(|role| *role != drawn));
+            let mut lists = roles.map(|role| (role, state.entries(Who::Is(role))));
+            lists.find(|(_, entries)| !entries.is_empty()).unwrap_or_else(|| (drawn, state.entries(Who::Anyone)))
+        }
+        6 => (drawn, state.entries(Who::Is(drawn))),
+        7 => (drawn, state.entries(Who::Anyone)),
+        _ => {
+            let gates = state.last_row.task().gates();
+            let role = random.pick(&gates).map_or(drawn, |gate| gate.role);
+            (role, not_for(state, role))
+        }
+    }
+}
+
+/// What anyone may touch but this role, or all of it.
+fn not_for(state: &State, role: Role) -> Vec<Entry> {
+    let (anyone, own) = (state.entries(Who::Anyone), state.entries(Who::Is(role)));
+    let others: Vec<Entry> = anyone.iter().filter(|entry| !own.contains(entry)).cloned().collect();
+    if others.is_empty() {
+        anyone
+    } else {
+        others
+    }
+}
+
+/// An event that is too short: cut anywhere, one of four leaves, or one without a role, as events were before.
+pub fn short(random: &mut Random, state: &State) -> Vec<u8> {
+    let event = event(random, state);
+    match random.below(20) {
+        0..=3 => with_four_leaves(&event),
+        4..=7 => without_role(&event),
+        8 => without_role(&with_four_leaves(&event)),
+        _ => event[..1 + random.below(EVENT - 1)].to_vec(),
     }
 }
 
@@ -118,15 +164,14 @@ fn unreadable(random: &mut Random, mut event: Vec<u8>) -> Vec<u8> {
             let at = random.below(EVENT);
             event[at] = random.draw() as u8;
         }
-        2 => put(&mut event[..PATH], random.pick(&paths).expect("paths")),
+        2 => put(&mut event[PATH_COLUMNS], random.pick(&paths).expect("paths")),
         3 => {
             let columns = leaf_columns(random.below(LEAVES));
             put(&mut event[columns], random.pick(&NO_FIELDS).expect("fields"));
         }
-        _ => put(
-            &mut event[PATH..PATH + ACTION],
-            random.pick(&["", "0", "5", "-1", "01", "+1", "1 ", "x"]).expect("actions"),
-        ),
+        _ => {
+            put(&mut event[ACTION_COLUMNS], random.pick(&["", "0", "5", "-1", "01", "+1", "1 ", "x"]).expect("actions"))
+        }
     }
     event
 }

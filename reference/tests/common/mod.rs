@@ -16,7 +16,7 @@ use std::array;
 use std::collections::BTreeSet;
 
 /// The operands that each kind uses, as places: A 1, B 2, C 3.
-pub const USED: [(i32, &[usize]); 27] = [
+pub const USED: [(i32, &[usize]); 28] = [
     (1, &[]),
     (2, &[]),
     (3, &[]),
@@ -44,6 +44,7 @@ pub const USED: [(i32, &[usize]); 27] = [
     (47, &[1, 2]),
     (48, &[1, 2]),
     (49, &[1]),
+    (50, &[1, 2, 3]),
 ];
 
 /// A sheet being written, row by row.
@@ -77,6 +78,11 @@ impl Sheet {
     /// The fail of type number. Row 0 must be the type number.
     pub fn fail(&mut self) -> i32 {
         self.row(45, 0, 0, 0)
+    }
+
+    /// A task for a role, with so many touches (CR 6).
+    pub fn gate(&mut self, role: i32, task: i32, touches: i32) -> i32 {
+        self.row(50, role, task, touches)
     }
 
     /// A plain write of a number into `cell`.
@@ -168,6 +174,11 @@ pub fn left(path: &str) -> Vec<u8> {
 
 pub fn right(path: &str) -> Vec<u8> {
     event::write(path, 4, [0; LEAVES])
+}
+
+/// The same event by another role than 1 (CR 6).
+pub fn by(role: u32, event: Vec<u8>) -> Vec<u8> {
+    event::with_role(&role.to_string(), event)
 }
 
 /// A session's input.

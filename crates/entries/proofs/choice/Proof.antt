@@ -12,7 +12,7 @@ use Rattle.entries.proofs.choice.Tie as tie
 pub choice-spec : {M : Type 1} → statement M
 choice-spec = tie.close (tie.spec
     (λ c κs. search needs)
-    (λ c κs. let s = c .before .before in let l = low-a (s .pre .0) _ (c .operand .result) refl (c .operand .ensures) (omega (arith, s .pre .1)) in fine-at (s .pre .0) (c .operand .result) (s .args .depth) (omega arith) ((s .pre .0) .room))
+    (λ c κs. let s = c .before .before in let l = low-a (s .pre .0) _ (c .operand .result) refl (c .operand .ensures) (omega (arith, s .pre .1)) (omega (arith, s .pre .1)) in fine-at (s .pre .0) (c .operand .result) (s .args .depth) (omega arith) ((s .pre .0) .room))
     (λ c κs. search needs)
     (λ c κs.
     let start = c .before .before .before .before in
@@ -33,4 +33,4 @@ choice-spec = tie.close (tie.spec
     let tried = operand2 .before in
     let operand = tried .before in
     let start = operand .before .before in
-    (room-after (start .args .list .now) (button .button .last .0) (button2 .button2 .last .0) (button .button .result) (button2 .button2 .result) (button .button .kept .0) (button .button .ensures .room) (button2 .button2 .ensures .room), entries-choice (start .args .rows .now) (start .args .state .now) (start .args .row) (start .args .env .now) (start .args .depth) (pathOf (start .args .marks)) (start .args .list .now) (start .pre .2) (button .button .last .0) (button2 .button2 .last .0) (operand .operand .result) (operand2 .operand2 .result) (button .button .result) (button2 .button2 .result) (tried .tried .result) (tried2 .tried2 .result) (start .pre .1) (operand .operand .ensures) (operand2 .operand2 .ensures) (button .button .kept .0) (tried .tried .ensures) (tried2 .tried2 .ensures) (button .button .ensures) (button2 .button2 .ensures))))
+    (room-after (start .args .list .now) (button .button .last .0) (button2 .button2 .last .0) (button .button .result) (button2 .button2 .result) (button .button .kept .0) (button .button .ensures .room) (button2 .button2 .ensures .room), λ v. entries-choice v (start .args .rows .now) (start .args .state .now) (start .args .row) (start .args .env .now) (start .args .depth) (pathOf (start .args .marks)) (start .args .list .now) (start .pre .2) (button .button .last .0) (button2 .button2 .last .0) (operand .operand .result) (operand2 .operand2 .result) (button .button .result) (button2 .button2 .result) (tried .tried .result) (tried2 .tried2 .result) (start .pre .1) (operand .operand .ensures) (operand2 .operand2 .ensures) (button .button .kept .0) (tried .tried .ensures) (tried2 .tried2 .ensures) (button .button .ensures) (button2 .button2 .ensures))))

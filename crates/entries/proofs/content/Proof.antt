@@ -16,14 +16,14 @@ content-spec = tie.close (tie.spec
     let operand = c .before in
     let get = operand .before in
     let start = get .before in
-    let l = low-a (start .pre .0) (get .get .result) (operand .operand .result) (get .get .ensures) (operand .operand .ensures) (omega (arith, start .pre .1, get .get .ensures)) in
+    let l = low-a (start .pre .0) (get .get .result) (operand .operand .result) (get .get .ensures) (operand .operand .ensures) (omega (arith, start .pre .1, get .get .ensures)) (omega (arith, start .pre .2, get .get .ensures)) in
     let f = start .pre .0 .low in
     omega arith)
     (λ c κs.
     let operand = c .before in
     let get = operand .before in
     let start = get .before in
-    let l = low-a (start .pre .0) (get .get .result) (operand .operand .result) (get .get .ensures) (operand .operand .ensures) (omega (arith, start .pre .1, get .get .ensures)) in
+    let l = low-a (start .pre .0) (get .get .result) (operand .operand .result) (get .get .ensures) (operand .operand .ensures) (omega (arith, start .pre .1, get .get .ensures)) (omega (arith, start .pre .2, get .get .ensures)) in
     let f = start .pre .0 .low in
     (omega arith, omega arith))
     (λ c.

@@ -11,7 +11,7 @@ use Rattle.entries.proofs.goes_on.Tie as tie
 pub goes-on-spec : {M : Type 1} → statement M
 goes-on-spec = tie.close (tie.spec
     (λ c κs. search needs)
-    (λ c κs. let s = c .before in let l = low-a (s .pre .0) _ (c .operand .result) refl (c .operand .ensures) (s .pre .1) in fine-at (s .pre .0) (c .operand .result) 0 (omega arith) (omega arith))
+    (λ c κs. let s = c .before in let l = low-a (s .pre .0) _ (c .operand .result) refl (c .operand .ensures) (s .pre .1) (s .pre .2) in fine-at (s .pre .0) (c .operand .result) 0 (omega arith) (omega arith))
     (λ c.
     let value = c .before .before in
     let operand = value .before in

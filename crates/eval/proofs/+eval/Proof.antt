@@ -84,7 +84,7 @@ pub +eval-spec : {M : Type 1} → statement M
     let match-at = c .before .before .before .before .before in
     let get = match-at .before in
     let start = get .before in
-    call-c (start .pre) (get .get .result) (c .operand2 .result) (get .get .ensures) (c .operand2 .ensures) (omega (arith, match-at .match .keys1)))
+    call-c (start .pre) (get .get .result) (c .operand2 .result) (get .get .ensures) (c .operand2 .ensures) (omega (arith, match-at .match .keys1)) (omega (arith, match-at .match .keys1)))
     (λ c κs.
     let start = c .before .before .before .before .before .before .before .before in
     (start .pre .1 .low, omega arith)) (λ c κs. search needs) (λ c κs. search needs) (λ c κs. search needs)
@@ -93,7 +93,7 @@ pub +eval-spec : {M : Type 1} → statement M
     let match-at = c .before .before in
     let get = match-at .before in
     let start = get .before in
-    call-a (start .pre) (get .get .result) (c .operand3 .result) (get .get .ensures) (c .operand3 .ensures) (omega (arith, match-at .match .keys2)))
+    call-a (start .pre) (get .get .result) (c .operand3 .result) (get .get .ensures) (c .operand3 .ensures) (omega (arith, match-at .match .keys2)) (omega (arith, match-at .match .keys2)))
     (λ c κs. search needs)
     (λ c κs.
     let start = c .before .before .before .before .before .before .before .before in
@@ -126,14 +126,14 @@ pub +eval-spec : {M : Type 1} → statement M
     let match-at = c .before .before .before .before .before .before .before in
     let get = match-at .before in
     let start = get .before in
-    call-c (start .pre) (get .get .result) (c .operand5 .result) (get .get .ensures) (c .operand5 .ensures) (omega (arith, match-at .match .keys2)))
+    call-c (start .pre) (get .get .result) (c .operand5 .result) (get .get .ensures) (c .operand5 .ensures) (omega (arith, match-at .match .keys2)) (omega (arith, match-at .match .keys2)))
     (λ c κs. search needs)
     (λ c κs. (c .before .before .before .pre .1 .low, omega arith))
     (λ c κs.
     let match-at = c .before .before in
     let get = match-at .before in
     let start = get .before in
-    call-a (start .pre) (get .get .result) (c .operand6 .result) (get .get .ensures) (c .operand6 .ensures) (omega (arith, match-at .match .keys3)))
+    call-a (start .pre) (get .get .result) (c .operand6 .result) (get .get .ensures) (c .operand6 .ensures) (omega (arith, match-at .match .keys3)) (omega (arith, match-at .match .keys3)))
     (λ c κs.
     let start = c .before .before .before .before .before .before in
     (start .pre .1 .low, omega arith))
@@ -147,7 +147,7 @@ pub +eval-spec : {M : Type 1} → statement M
     let match-at = c .before .before in
     let get = match-at .before in
     let start = get .before in
-    let h = low-a (start .pre .1) (get .get .result) (c .operand8 .result) (get .get .ensures) (c .operand8 .ensures) (omega (arith, match-at .match .keys4)) in
+    let h = low-a (start .pre .1) (get .get .result) (c .operand8 .result) (get .get .ensures) (c .operand8 .ensures) (omega (arith, match-at .match .keys4)) (omega (arith, match-at .match .keys4)) in
     omega (arith, start .pre .1 .low))
     (λ c κs. search needs)
     (λ c κs. (c .before .before .before .pre .1 .low, omega arith))
@@ -163,7 +163,7 @@ pub +eval-spec : {M : Type 1} → statement M
     let match-at = c .before .before .before .before .before in
     let get = match-at .before in
     let start = get .before in
-    let h = low-a (start .pre .1) (get .get .result) (c .operand10 .result) (get .get .ensures) (c .operand10 .ensures) (omega (arith, match-at .match .keys5)) in
+    let h = low-a (start .pre .1) (get .get .result) (c .operand10 .result) (get .get .ensures) (c .operand10 .ensures) (omega (arith, match-at .match .keys5)) (omega (arith, match-at .match .keys5)) in
     omega (arith, start .pre .1 .low))
     (λ c κs. search needs) (λ c κs. search needs)
     (λ c κs. search needs) (λ c κs. (c .before .before .before .pre .1 .low, omega arith))
@@ -171,7 +171,7 @@ pub +eval-spec : {M : Type 1} → statement M
     let match-at = c .before .before in
     let get = match-at .before in
     let start = get .before in
-    call-a (start .pre) (get .get .result) (c .operand11 .result) (get .get .ensures) (c .operand11 .ensures) (omega (arith, match-at .match .keys6)))
+    call-a (start .pre) (get .get .result) (c .operand11 .result) (get .get .ensures) (c .operand11 .ensures) (omega (arith, match-at .match .keys6)) (omega (arith, match-at .match .keys6)))
     (λ c κs. search needs) (λ c κs. search needs)
     (λ c.
     let if2 = c .before .before in
@@ -209,7 +209,7 @@ pub +eval-spec : {M : Type 1} → statement M
     let get = match-at .before in
     let start = get .before in
     call-a (start .pre) (get .get .result) (c .operand13 .result) (get .get .ensures) (c .operand13 .ensures)
-    (omega (arith, if4 .if4 .left, match-at .match .rest .0 .0 .0 .0 .0 .1)))
+    (omega (arith, if4 .if4 .left, match-at .match .rest .0 .0 .0 .0 .0 .1)) (omega (arith, c .before .before .if5 .taken)))
     (λ c κs. search needs) (λ c κs. search needs) (λ c κs. search needs) (λ c κs. search needs) (λ c κs. search needs)
     (λ c.
     let after = c .before in

@@ -29,7 +29,7 @@ edit-spec = tie.close (tie.spec
     let operand = c .before in
     let get = operand .before in
     let start = get .before in
-    (let h = low-a (start .pre .0) (get .get .result) (operand .operand .result) (get .get .ensures) (operand .operand .ensures) (let k = start .pre .1 in let g = get .get .ensures in omega arith) in let l = start .pre .0 .low in omega arith))
+    (let h = low-a (start .pre .0) (get .get .result) (operand .operand .result) (get .get .ensures) (operand .operand .ensures) (let k = start .pre .1 in let g = get .get .ensures in omega arith) (let k = start .pre .2 in let g = get .get .ensures in omega arith) in let l = start .pre .0 .low in omega arith))
     (λ c κs.
     let start = c .before .before .before .before .before in
     (start .pre .0 .low, start .pre .3))
@@ -46,12 +46,12 @@ edit-spec = tie.close (tie.spec
     let operand = c .before .before in
     let get = operand .before in
     let start = get .before in
-    ((let h = low-a (start .pre .0) (get .get .result) (operand .operand .result) (get .get .ensures) (operand .operand .ensures) (let k = start .pre .1 in let g = get .get .ensures in omega arith) in let l = start .pre .0 .low in omega arith), omega arith))
+    ((let h = low-a (start .pre .0) (get .get .result) (operand .operand .result) (get .get .ensures) (operand .operand .ensures) (let k = start .pre .1 in let g = get .get .ensures in omega arith) (let k = start .pre .2 in let g = get .get .ensures in omega arith) in let l = start .pre .0 .low in omega arith), omega arith))
     (λ c κs.
     let operand = c .before .before .before .before in
     let get = operand .before in
     let start = get .before in
-    ((let h = low-a (start .pre .0) (get .get .result) (operand .operand .result) (get .get .ensures) (operand .operand .ensures) (let k = start .pre .1 in let g = get .get .ensures in omega arith) in let l = start .pre .0 .low in omega arith), start .pre .3))
+    ((let h = low-a (start .pre .0) (get .get .result) (operand .operand .result) (get .get .ensures) (operand .operand .ensures) (let k = start .pre .1 in let g = get .get .ensures in omega arith) (let k = start .pre .2 in let g = get .get .ensures in omega arith) in let l = start .pre .0 .low in omega arith), start .pre .3))
     (λ c.
     let read2 = c .before .before in
     let match-at = read2 .before .before in

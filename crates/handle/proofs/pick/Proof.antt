@@ -15,7 +15,7 @@ pick-spec = tie.close (tie.spec
     (λ c κs.
     let start = c .before .before .before .before in
     let f = start .pre .0 in
-    let h = low-a f (numberOf (taskK xorK)) (c .operand .result) (sym (start .pre .1)) (c .operand .ensures) (omega arith) in
+    let h = low-a f (numberOf (taskK xorK)) (c .operand .result) (sym (start .pre .1)) (c .operand .ensures) (omega arith) (omega arith) in
     (f .low, fine-at f (c .operand .result) (start .args .depth) (omega arith) (f .room)))
     (λ c.
     let operand = c .before in

@@ -1,5 +1,5 @@
 -- `running::evaluate` meets its contract, an arm by the law of its kind; its measure is the row, which falls. Assumes nothing.
-use Rattle.running.proofs.Evaluating.{evaluate-content, evaluate-step, evaluate-two, evaluate-true, evaluate-false, evaluate-let, evaluate-tag}
+use Rattle.running.proofs.Evaluating.{evaluate-content, evaluate-step, evaluate-two, evaluate-true, evaluate-false, evaluate-let, evaluate-gate, evaluate-tag}
 use Rattle.running.proofs.Forms.{contentKinds}
 use Rattle.eval.proofs.Arms.{call-a, call-b, call-c}
 use Rattle.state.proofs.Calls.{low-b, fine-at}
@@ -18,6 +18,7 @@ use Rattle.eval.proofs.eval.Reads as eval-reads
 use Rattle.rows.proofs.get.Reads as get-reads
 use Rattle.rows.proofs.operand.Reads as operand-reads
 use Rattle.state.proofs.put_tag.Reads as put-tag-reads
+use Rattle.state.proofs.put_touches.Reads as put-touches-reads
 use Rattle.state.proofs.put_value.Reads as put-value-reads
 use Rattle.running.proofs.bind.Reads as bind-reads
 use Rattle.value.proofs.is_true.Reads as is-true-reads
@@ -35,7 +36,7 @@ evaluate-below t =
     and 3 evaluate-kinds.ps (falls 3 evaluate-kinds.ps _<_ μ-evaluate t) evaluate.Pre
 
 abbrev evaluate-calls : ℕ → evaluate-lts.Claims
-evaluate-calls t = (get-reads.Asked, get-reads.Learnt, operand-reads.Asked, operand-reads.Learnt, eval-reads.Asked, eval-reads.Learnt, is-true-reads.Asked, is-true-reads.Learnt, evaluate-below t, evaluate.Post, put-tag-reads.Asked, put-tag-reads.Learnt, put-value-reads.Asked, put-value-reads.Learnt, bind-reads.Asked, bind-reads.Learnt)
+evaluate-calls t = (get-reads.Asked, get-reads.Learnt, operand-reads.Asked, operand-reads.Learnt, eval-reads.Asked, eval-reads.Learnt, is-true-reads.Asked, is-true-reads.Learnt, evaluate-below t, evaluate.Post, put-tag-reads.Asked, put-tag-reads.Learnt, put-value-reads.Asked, put-value-reads.Learnt, bind-reads.Asked, bind-reads.Learnt, put-touches-reads.Asked, put-touches-reads.Learnt)
 
 pub +evaluate-spec : {M : Type 1} → statement M
 +evaluate-spec = close μ-evaluate λ t. evaluate-lts.spec (evaluate-calls t) (evaluate-at t)
@@ -46,7 +47,7 @@ pub +evaluate-spec : {M : Type 1} → statement M
     let match-at = c .before .before in
     let get = match-at .before in
     let start = get .before in
-    call-a (start .pre) (get .get .result) (c .operand .result) (get .get .ensures) (c .operand .ensures) (omega (arith, match-at .match .keys1)) .1)
+    call-a (start .pre) (get .get .result) (c .operand .result) (get .get .ensures) (c .operand .ensures) (omega (arith, match-at .match .keys1)) (omega (arith, match-at .match .keys1)) .1)
     (λ c κs. search needs)
     (λ c κs.
     let start = c .before .before .before .before .before .before .before .before in
@@ -82,7 +83,7 @@ pub +evaluate-spec : {M : Type 1} → statement M
     let match-at = c .before .before .before .before .before .before .before in
     let get = match-at .before in
     let start = get .before in
-    call-c (start .pre) (get .get .result) (c .operand3 .result) (get .get .ensures) (c .operand3 .ensures) (omega (arith, match-at .match .keys1)))
+    call-c (start .pre) (get .get .result) (c .operand3 .result) (get .get .ensures) (c .operand3 .ensures) (omega (arith, match-at .match .keys1)) (omega (arith, match-at .match .keys1)))
     (λ c κs.
     let start = c .before .before .before .before .before .before .before .before .before .before .before in
     (start .pre .1) .low)
@@ -91,7 +92,7 @@ pub +evaluate-spec : {M : Type 1} → statement M
     let match-at = c .before .before in
     let get = match-at .before in
     let start = get .before in
-    call-a (start .pre) (get .get .result) (c .operand4 .result) (get .get .ensures) (c .operand4 .ensures) (omega (arith, match-at .match .keys2))
+    call-a (start .pre) (get .get .result) (c .operand4 .result) (get .get .ensures) (c .operand4 .ensures) (omega (arith, match-at .match .keys2)) (omega (arith, match-at .match .keys2))
     .1)
     (λ c κs.
     let start = c .before .before .before .before .before .before in
@@ -116,10 +117,24 @@ pub +evaluate-spec : {M : Type 1} → statement M
     let get = match-at .before in
     let start = get .before in
     call-a (start .pre) (get .get .result) (c .operand6 .result) (get .get .ensures) (c .operand6 .ensures) (⊎-elim (λ e. omega (arith, e)) (λ e. omega (arith, e)) (match-at .match .keys3))
-    .1)
+    (⊎-elim (λ e. omega (arith, e)) (λ e. omega (arith, e)) (match-at .match .keys3)) .1)
     (λ c κs.
     let start = c .before .before .before .before .before .before in
     (start .pre .1) .low)
+    (λ c κs.
+    let start = c .before .before .before in
+    ((start .pre .1) .low, omega arith))
+    (λ c κs.
+    let start = c .before .before .before .before in
+    (start .pre .1) .low)
+    (λ c κs.
+    let start = c .before .before .before .before .before .before in
+    ((start .pre .1) .low, omega arith))
+    (λ c κs.
+    let match-at = c .before .before .before .before .before in
+    let get = match-at .before in
+    let start = get .before in
+    call-b (start .pre) (get .get .result) (c .operand7 .result) (get .get .ensures) (c .operand7 .ensures) (omega (arith, match-at .match .keys4)))
     (λ c κs.
     let start = c .before .before .before .before .before in
     ((start .pre .1) .low, omega arith))
@@ -127,7 +142,7 @@ pub +evaluate-spec : {M : Type 1} → statement M
     let if2 = c .before .before .before in
     let get = if2 .before .before in
     let start = get .before in
-    call-a (start .pre) (get .get .result) (c .operand7 .result) (get .get .ensures) (c .operand7 .ensures) (omega (arith, if2 .if2 .left)))
+    call-a (start .pre) (get .get .result) (c .operand8 .result) (get .get .ensures) (c .operand8 .ensures) (omega (arith, if2 .if2 .left)) (omega (arith, c .before .before .if3 .taken)))
     (λ c κs.
     let start = c .before .before .before .before .before .before .before .before in
     (start .pre .1) .low)
@@ -138,18 +153,18 @@ pub +evaluate-spec : {M : Type 1} → statement M
     let start = c .before .before .before .before .before .before .before in
     ((start .pre .1) .low, omega arith))
     (λ c κs.
-    let operand8 = c .before .before in
-    let if2 = operand8 .before .before .before .before in
+    let operand9 = c .before .before in
+    let if2 = operand9 .before .before .before .before in
     let get = if2 .before .before in
     let start = get .before in
-    call-a (start .pre) (get .get .result) (operand8 .operand8 .result) (get .get .ensures) (operand8 .operand8 .ensures)
-    (omega (arith, if2 .if2 .left)))
+    call-a (start .pre) (get .get .result) (operand9 .operand9 .result) (get .get .ensures) (operand9 .operand9 .ensures)
+    (omega (arith, if2 .if2 .left)) (omega (arith, operand9 .before .if5 .taken)))
     (λ c κs.
-    let operand9 = c .before .before .before in
-    let if2 = operand9 .before .before .before .before .before in
+    let operand10 = c .before .before .before in
+    let if2 = operand10 .before .before .before .before .before in
     let get = if2 .before .before in
     let start = get .before in
-    call-b (start .pre) (get .get .result) (operand9 .operand9 .result) (get .get .ensures) (operand9 .operand9 .ensures)
+    call-b (start .pre) (get .get .result) (operand10 .operand10 .result) (get .get .ensures) (operand10 .operand10 .ensures)
     (omega (arith, if2 .if2 .left)))
     (λ c κs.
     let start = c .before .before .before .before .before .before .before .before .before .before .before .before .before in
@@ -198,29 +213,39 @@ pub +evaluate-spec : {M : Type 1} → statement M
     (eval3 .eval3 .last .1 .0) (c .put-value2 .last .0) (operand6 .operand6 .result) (eval3 .eval3 .result) (operand6 .operand6 .ensures)
     (eval3 .eval3 .ensures) (c .put-value2 .ensures) (subst (OneOf contentKinds) (get .get .ensures) (match-at .match .keys3)))
     (λ c.
-    let evaluate4 = c .before .before in
-    let operand7 = evaluate4 .before in
-    let if3 = operand7 .before .before in
+    let operand7 = c .before in
+    let put-touches = operand7 .before .before in
+    let get2 = put-touches .before in
+    let match-at = get2 .before .before in
+    let get = match-at .before in
+    let start = get .before in
+    evaluate-gate (start .args .rows .now) (start .args .row) (start .args .env .now) (start .args .depth) (start .args .state .now)
+    (put-touches .put-touches .last .0) (c .evaluate4 .last .1 .0) (operand7 .operand7 .result) (get2 .get2 .result) (c .evaluate4 .result) (operand7 .operand7 .ensures)
+    (get2 .get2 .ensures) (put-touches .put-touches .ensures) (c .evaluate4 .ensures) (sym (get .get .ensures) ∙ match-at .match .keys4))
+    (λ c.
+    let evaluate5 = c .before .before in
+    let operand8 = evaluate5 .before in
+    let if3 = operand8 .before .before in
     let if2 = if3 .before in
     let get = if2 .before .before in
     let start = get .before in
     evaluate-step (start .args .rows .now) (start .args .row) (start .args .env .now) (start .args .depth) (start .args .state .now)
-    (evaluate4 .evaluate4 .last .1 .0) (c .put-tag3 .last .0) (operand7 .operand7 .result) (evaluate4 .evaluate4 .result) (operand7 .operand7 .ensures)
-    (evaluate4 .evaluate4 .ensures) (c .put-tag3 .ensures) (omega (arith, get .get .ensures, if2 .if2 .left))
+    (evaluate5 .evaluate5 .last .1 .0) (c .put-tag3 .last .0) (operand8 .operand8 .result) (evaluate5 .evaluate5 .result) (operand8 .operand8 .ensures)
+    (evaluate5 .evaluate5 .ensures) (c .put-tag3 .ensures) (omega (arith, get .get .ensures, if2 .if2 .left))
     (omega (arith, get .get .ensures, if3 .if3 .taken)))
     (λ c.
-    let evaluate6 = c .before .before in
-    let evaluate5 = evaluate6 .before .before in
-    let operand9 = evaluate5 .before .before in
-    let operand8 = operand9 .before in
-    let if5 = operand8 .before in
+    let evaluate7 = c .before .before in
+    let evaluate6 = evaluate7 .before .before in
+    let operand10 = evaluate6 .before .before in
+    let operand9 = operand10 .before in
+    let if5 = operand9 .before in
     let if4 = if5 .before in
     let get = if4 .before .before .before .before in
     let start = get .before in
     evaluate-two (start .args .rows .now) (start .args .row) (start .args .env .now) (start .args .depth) (start .args .state .now)
-    (evaluate5 .evaluate5 .last .1 .0) (evaluate6 .evaluate6 .last .1 .0) (c .put-tag4 .last .0) (operand8 .operand8 .result)
-    (operand9 .operand9 .result) (evaluate5 .evaluate5 .result) (evaluate6 .evaluate6 .result) (operand8 .operand8 .ensures) (operand9 .operand9 .ensures) (evaluate5 .evaluate5 .ensures)
-    (evaluate6 .evaluate6 .ensures) (c .put-tag4 .ensures) (omega (arith, get .get .ensures, if4 .if4 .left))
+    (evaluate6 .evaluate6 .last .1 .0) (evaluate7 .evaluate7 .last .1 .0) (c .put-tag4 .last .0) (operand9 .operand9 .result)
+    (operand10 .operand10 .result) (evaluate6 .evaluate6 .result) (evaluate7 .evaluate7 .result) (operand9 .operand9 .ensures) (operand10 .operand10 .ensures) (evaluate6 .evaluate6 .ensures)
+    (evaluate7 .evaluate7 .ensures) (c .put-tag4 .ensures) (omega (arith, get .get .ensures, if4 .if4 .left))
     (omega (arith, get .get .ensures, if5 .if5 .taken)))
     (λ c.
     let if2 = c .before .before in
@@ -229,7 +254,7 @@ pub +evaluate-spec : {M : Type 1} → statement M
     let start = get .before in
     let k = get .get .ensures in
     evaluate-tag (start .args .rows .now) (start .args .row) (start .args .env .now) (start .args .depth) (start .args .state .now)
-    (c .put-tag5 .last .0) (c .put-tag5 .ensures) (λ e. match-at .match .rest .0 .0 .1 (k ∙ e)) (λ e. match-at .match .rest .0 .1 (k ∙ e))
-    (λ e. match-at .match .rest .1 (subst (OneOf contentKinds) (sym k) e))
+    (c .put-tag5 .last .0) (c .put-tag5 .ensures) (λ e. match-at .match .rest .0 .0 .0 .1 (k ∙ e)) (λ e. match-at .match .rest .0 .0 .1 (k ∙ e))
+    (λ e. match-at .match .rest .0 .1 (subst (OneOf contentKinds) (sym k) e)) (λ e. match-at .match .rest .1 (k ∙ e))
     (λ p q. ⊎-elim (λ z. omega (arith, k, z .taken)) (⊎-elim (λ z. omega (arith, k, z .1 .left)) (λ z. omega (arith, k, z .1 .left))) (if2 .if2 .came))
     (λ p q. ⊎-elim (λ z. omega (arith, k, z .taken)) (⊎-elim (λ z. omega (arith, k, z .2 .taken)) (λ z. omega (arith, k, z .3 .left))) (if2 .if2 .came)))

@@ -86,7 +86,7 @@ pub +value-spec : {M : Type 1} → statement M
     let match-at = c .before in
     let get = match-at .before in
     let start = get .before .before .before in
-    let h = low-a (start .pre .1) (get .get .result) (c .operand2 .result) (get .get .ensures) (c .operand2 .ensures) (omega (arith, match-at .match .keys3)) in
+    let h = low-a (start .pre .1) (get .get .result) (c .operand2 .result) (get .get .ensures) (c .operand2 .ensures) (omega (arith, match-at .match .keys3)) (omega (arith, match-at .match .keys3)) in
     let l = (start .pre .1) .low in
     omega arith)
     (λ c κs. search needs)
@@ -97,7 +97,7 @@ pub +value-spec : {M : Type 1} → statement M
     let match-at = c .before in
     let get = match-at .before in
     let start = get .before .before .before in
-    call-a (start .pre) (get .get .result) (c .operand3 .result) (get .get .ensures) (c .operand3 .ensures) (omega (arith, match-at .match .keys4)))
+    call-a (start .pre) (get .get .result) (c .operand3 .result) (get .get .ensures) (c .operand3 .ensures) (omega (arith, match-at .match .keys4)) (omega (arith, match-at .match .keys4)))
     (λ c κs.
     let start = c .before .before .before .before .before .before in
     ((start .pre .1) .low, omega arith))
@@ -114,7 +114,7 @@ pub +value-spec : {M : Type 1} → statement M
     let match-at = c .before in
     let get = match-at .before in
     let start = get .before .before .before in
-    call-a (start .pre) (get .get .result) (c .operand5 .result) (get .get .ensures) (c .operand5 .ensures) (omega (arith, match-at .match .keys5)))
+    call-a (start .pre) (get .get .result) (c .operand5 .result) (get .get .ensures) (c .operand5 .ensures) (omega (arith, match-at .match .keys5)) (omega (arith, match-at .match .keys5)))
     (λ c.
     let value4 = c .before in
     let operand5 = value4 .before in

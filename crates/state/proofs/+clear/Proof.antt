@@ -1,9 +1,9 @@
 use borrow.Author.Needs.{needs}
 use Rattle.state.proofs.Calls.{low-a, low-b, low-c, fine-at}
-use Rattle.state.proofs.Clearing.{clear-fork, clear-if, clear-let, clear-leaf}
+use Rattle.state.proofs.Clearing.{clear-fork, clear-if, clear-let, clear-gate, clear-leaf}
 use native.Mathlib.Omega.{arith}
 use mathlib.Core.Path.{sym, _∙_}
-use mathlib.Core.Logic.{⊎-elim}
+use mathlib.Core.Logic.{inl, inr, ⊎-elim}
 use Prim.Native.Nat.{ℕ, _<_}
 use borrow.Fn.Kinds.{In}
 use borrow.Fn.PlainCycle.{Measures, is, falls, and}
@@ -53,7 +53,7 @@ pub +clear-spec : {M : Type 1} → statement M
     let match-at = operand2 .before .before .before .before in
     let get = match-at .before in
     let start = get .before in
-    let h = low-c (start .pre .1) (get .get .result) (operand2 .operand2 .result) (get .get .ensures) (operand2 .operand2 .ensures) (omega (arith, match-at .match .keys1)) in
+    let h = low-c (start .pre .1) (get .get .result) (operand2 .operand2 .result) (get .get .ensures) (operand2 .operand2 .ensures) (omega (arith, match-at .match .keys1)) (omega (arith, match-at .match .keys1)) in
     (omega (arith, start .pre .0), fine-at (start .pre .1) _ _ (omega arith) (start .pre .1 .room)))
     (λ c κs.
     let start = c .before .before .before .before .before .before .before .before .before in
@@ -74,26 +74,38 @@ pub +clear-spec : {M : Type 1} → statement M
     let match-at = operand3 .before in
     let get = match-at .before in
     let start = get .before in
-    let h = low-b (start .pre .1) (get .get .result) (operand3 .operand3 .result) (get .get .ensures) (operand3 .operand3 .ensures) (omega (arith, match-at .match .keys2)) in
+    let h = low-b (start .pre .1) (get .get .result) (operand3 .operand3 .result) (get .get .ensures) (operand3 .operand3 .ensures) (⊎-elim (λ e. omega (arith, e)) (λ e. omega (arith, e)) (match-at .match .keys2)) in
     (omega (arith, start .pre .0), fine-at (start .pre .1) _ _ (omega arith) (start .pre .1 .room)))
     (λ c κs.
     let start = c .before .before .before .before .before .before in
     start .pre .1 .low)
-    (λ c. let s = c .before .before .before .before .before .before .before in clear-let (s .args .rows .now) (s .args .row) (sym (c .before .before .before .before .before .before .get .ensures) ∙ c .before .before .before .before .before .match .keys2) (c .before .before .before .before .operand3 .ensures) (c .before .before .clear3 .ensures) (c .clear-row2 .ensures))
+    (λ c.
+    let clear3 = c .before .before in
+    let operand3 = clear3 .before .before in
+    let match-at = operand3 .before in
+    let get = match-at .before in
+    let start = get .before in
+    let rs = start .args .rows .now in
+    let i = start .args .row in
+    let q = sym (get .get .ensures) in
+    ⊎-elim
+    (λ e. clear-let rs i (q ∙ e) (operand3 .operand3 .ensures) (clear3 .clear3 .ensures) (c .clear-row2 .ensures))
+    (λ e. clear-gate rs i (q ∙ e) (operand3 .operand3 .ensures) (clear3 .clear3 .ensures) (c .clear-row2 .ensures))
+    (match-at .match .keys2))
     (λ c κs. c .before .before .before .pre .1 .low)
     (λ c.
     let match-at = c .before .before in
     let get = match-at .before in
     let start = get .before in
     let e = sym (get .get .ensures) ∙ match-at .match .keys3 in
-    clear-leaf (start .args .rows .now) (start .args .row) (λ z. omega arith) (λ z. omega arith) (λ x y z. z e) (c .clear-row3 .ensures))
+    clear-leaf (start .args .rows .now) (start .args .row) (λ z. omega arith) (λ z. omega arith) (λ z. omega arith) (λ x y z. z e) (c .clear-row3 .ensures))
     (λ c κs. search needs)
     (λ c κs.
     let operand4 = c .before in
     let if1 = operand4 .before .before in
     let get = if1 .before .before in
     let start = get .before in
-    let h = low-a (start .pre .1) (get .get .result) (operand4 .operand4 .result) (get .get .ensures) (operand4 .operand4 .ensures) (omega (arith, if1 .if1 .left)) in
+    let h = low-a (start .pre .1) (get .get .result) (operand4 .operand4 .result) (get .get .ensures) (operand4 .operand4 .ensures) (omega (arith, if1 .if1 .left)) (omega (arith, operand4 .before .if2 .taken)) in
     (omega (arith, start .pre .0), fine-at (start .pre .1) _ _ (omega arith) (start .pre .1 .room)))
     (λ c κs. search needs)
     (λ c κs.
@@ -128,5 +140,6 @@ pub +clear-spec : {M : Type 1} → statement M
     let get = match-at .before in
     let start = get .before in
     clear-leaf (start .args .rows .now) (start .args .row) (λ e. match-at .match .rest .0 .0 .1 (get .get .ensures ∙ e))
-    (λ e. match-at .match .rest .0 .1 (get .get .ensures ∙ e))
+    (λ e. match-at .match .rest .0 .1 (inl (get .get .ensures ∙ e)))
+    (λ e. match-at .match .rest .0 .1 (inr (get .get .ensures ∙ e)))
     (λ x y z. ⊎-elim (λ a. omega (arith, get .get .ensures)) (λ a. omega (arith, get .get .ensures)) (if1 .if1 .came)) (c .clear-row5 .ensures))

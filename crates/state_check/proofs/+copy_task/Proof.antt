@@ -3,13 +3,14 @@ use native.Mathlib.Omega.{arith}
 use borrow.Author.Needs.{needs}
 use Rattle.state.proofs.Calls.{fine-at}
 use Rattle.state_check.proofs.PartLaws.{call-lower, lower-as}
-use Rattle.state_check.proofs.Copying.{copy-bad, copy-alone, copy-filled, copy-below, copy-bound, copy-deep, copy-unbound, copy-two, copy-first}
+use Rattle.state_check.proofs.Copying.{copy-bad, copy-alone, copy-filled, copy-below, copy-bound, copy-deep, copy-unbound, copy-two, copy-first, copy-gate, copy-ungated}
 use Prim.Native.Nat.{ℕ, _+_, _<_}
 use borrow.Fn.Kinds.{In}
 use borrow.Fn.PlainCycle.{Measures, is, falls, and}
 use Rattle.state_check.proofs.copy_task.Reads as copy-task
 use Rattle.state_check.proofs.copy_task.Kinds as copy-task-kinds
 use Rattle.state_check.proofs.+copy_task.Lts-copy_task as copy-task-lts
+use Rattle.state_check.proofs.copy_touches.Reads as copy-touches-reads
 use Rattle.state_check.proofs.copy_value.Reads as copy-value-reads
 use Rattle.state_check.proofs.part_at.Reads as part-at-reads
 use Rattle.state.proofs.put_tag.Reads as put-tag-reads
@@ -45,6 +46,8 @@ pub +copy-task-spec : {M : Type 1} → statement M
   copy-task.Post,
   bound-reads.Asked,
   bound-reads.Learnt,
+  copy-touches-reads.Asked,
+  copy-touches-reads.Learnt,
 )
     (copy-task-at t)
     copy-task.Post
@@ -146,6 +149,26 @@ pub +copy-task-spec : {M : Type 1} → statement M
     copy-two (start .args .rows .now) (start .args .state .now) (start .args .work .now) (start .args .row) (start .args .env) (start .args .depth)
     (read .read .result) (part-at .part-at .result) (read .read .ensures) (part-at .part-at .ensures .0) (part4 .part4 .given .1)
     (put-tag3 .put-tag3 .ensures) (copy-task3 .copy-task3 .ensures) (if3 .if3 .taken) (c .copy-task4 .ensures))
+    (λ c. search needs)
+    (λ c κs.
+    let start = c .before .before .before .before .before .before in
+    start .pre .1 .low)
+    (λ c κs.
+    let part5 = c .before .before .before .before .before in
+    let part-at = part5 .before .before in
+    let start = part-at .before .before in
+    call-lower (start .pre) (part5 .part5 .given .0 .0) (start .args .depth)
+    (lower-as (start .args .row) (part-at .part-at .ensures .1) (part5 .part5 .given .1)) (start .pre .1 .room))
+    (λ c.
+    let if4 = c .before .before in
+    let copy-touches = if4 .before in
+    let part5 = copy-touches .before .before .before in
+    let part-at = part5 .before .before in
+    let read = part-at .before in
+    let start = read .before in
+    copy-gate (start .args .rows .now) (start .args .state .now) (start .args .work .now) (start .args .row) (start .args .env) (start .args .depth)
+    (read .read .result) (part-at .part-at .result) (read .read .ensures) (part-at .part-at .ensures .0) (part5 .part5 .given .1)
+    (copy-touches .copy-touches .ensures) (if4 .if4 .taken) (c .copy-task5 .ensures))
     (λ c.
     let part-at = c .before .before in
     let read = part-at .before in
@@ -198,3 +221,12 @@ pub +copy-task-spec : {M : Type 1} → statement M
     copy-first (start .args .rows .now) (start .args .state .now) (start .args .work .now) (start .args .row) (start .args .env) (start .args .depth)
     (read .read .result) (part-at .part-at .result) (read .read .ensures) (part-at .part-at .ensures .0) (part4 .part4 .given .1)
     (put-tag3 .put-tag3 .ensures) (copy-task3 .copy-task3 .ensures) (c .if3 .left))
+    (λ c.
+    let copy-touches = c .before in
+    let part5 = copy-touches .before .before .before in
+    let part-at = part5 .before .before in
+    let read = part-at .before in
+    let start = read .before in
+    copy-ungated (start .args .rows .now) (start .args .state .now) (start .args .work .now) (start .args .row) (start .args .env)
+    (start .args .depth) (read .read .result) (part-at .part-at .result) (read .read .ensures) (part-at .part-at .ensures .0)
+    (part5 .part5 .given .1) (copy-touches .copy-touches .ensures) (c .if4 .left))

@@ -22,6 +22,7 @@ node-from-spec =
     (λ c κs. search needs)
     (λ c κs. search needs)
     (λ c κs. search needs)
+    (λ c κs. search needs)
     (λ c. let q = c .before .args in node-one (q .i) (q .a) (q .b) (q .c) (1 ∷ 20 ∷ []) (q .k) (refl, (refl, tt)) (c .match .keys1))
     (λ c. let q = c .before .args in node-one (q .i) (q .a) (q .b) (q .c) (2 ∷ 21 ∷ []) (q .k) (refl, (refl, tt)) (c .match .keys2))
     (λ c. let q = c .before .args in node-one (q .i) (q .a) (q .b) (q .c) (3 ∷ 22 ∷ []) (q .k) (refl, (refl, tt)) (c .match .keys3))
@@ -50,12 +51,15 @@ node-from-spec =
     (λ c. let q = c .before .before .args in
     let e = c .named24 .ensures in
     node-one (q .i) (q .a) (q .b) (q .c) (31 ∷ []) (q .k) (e, tt) (c .before .match .keys12))
+    (λ c. let q = c .before .before .args in
+    let e = c .named14 .ensures in
+    node-one (q .i) (q .a) (q .b) (q .c) (50 ∷ []) (q .k) (e, tt) (c .before .match .keys13))
     (λ c.
     let if2 = c .before in
     let if1 = if2 .before in
     let start = if1 .before .before in
     let q = start .args in
-    let e = c .named14 .ensures in
+    let e = c .named15 .ensures in
     node-range (q .i) (q .a) (q .b) (q .c) 40 3 (q .k) (e, (e, (e, tt))) (if1 .if1 .left) (if2 .if2 .taken))
     (λ c.
     let if3 = c .before in

@@ -29,6 +29,17 @@ fn choices(mut rows: Vec<Row>, most: usize, left: bool) -> Vec<Row> {
     rows
 }
 
+/// 48 in 48, each in a 50, up to 256 rows.
+fn gated_choices() -> Vec<Row> {
+    let mut rows = editor();
+    while rows.len() + 3 <= MAX_ROWS {
+        choice(&mut rows, true);
+        let inner = rows.len() as i32 - 1;
+        rows.push(Row::new(50, 1, inner, 99));
+    }
+    rows
+}
+
 /// 43 around the last row, from an editor of the cell.
 fn step(rows: &mut Vec<Row>) {
     let inner = rows.len() as i32 - 1;
@@ -49,8 +60,17 @@ pub fn levels(count: usize) -> Vec<Row> {
     around(with_cell(), count)
 }
 
+/// 50 in 50 around the last row, up to 256 rows: each hands on to the next.
+fn gates(mut rows: Vec<Row>) -> Vec<Row> {
+    while rows.len() < MAX_ROWS {
+        let inner = rows.len() as i32 - 1;
+        rows.push(Row::new(50, 1, inner, 99));
+    }
+    rows
+}
+
 /// The deepest of 256 rows, with an action that is taken at the empty path.
-pub fn deepest() -> [(&'static str, Vec<Row>, u32); 4] {
+pub fn deepest() -> [(&'static str, Vec<Row>, u32); 6] {
     let mut stepped = choices(with_cell(), MAX_ROWS - 2, true);
     step(&mut stepped);
     [
@@ -58,10 +78,12 @@ pub fn deepest() -> [(&'static str, Vec<Row>, u32); 4] {
         ("48 in the right of 48, Right", choices(editor(), MAX_ROWS, false), 4),
         ("43 around 48 in 48, Left", stepped, 3),
         ("16 of 48 over 43, around 48 in 48, Left", around(choices(with_cell(), MAX_ROWS - 16 * 4, true), 16), 3),
+        ("50 in 50, value", gates(editor()), 1),
+        ("48 in 48 with 50 around each, Left", gated_choices(), 3),
     ]
 }
 
-/// An event at the empty path, with leaves 0.
+/// An event of role 1 at the empty path, with leaves 0.
 pub fn event(action: u32) -> Vec<u8> {
-    format!("{:16}{action:2}{}\n", 0, format!("{:12}", 0).repeat(MAX_LEAVES)).into_bytes()
+    format!("{:2}{:16}{action:2}{}\n", 1, 0, format!("{:12}", 0).repeat(MAX_LEAVES)).into_bytes()
 }

@@ -7,6 +7,7 @@ use fence::{Fence, Lent, Place};
 use nannyjiffy::{calls, exports, Ground};
 use reference::calls::Looked;
 use reference::engine::Engine;
+use reference::roles::Role;
 use std::cell::Cell;
 
 /// What the single answers hold before a call: no answer is this, so it shows where one is not written.
@@ -66,7 +67,7 @@ impl Engine for Archive {
         (number, written(strides))
     }
 
-    fn look(&self, rows: &[i32], state: &[i32], value: &mut [i32], list: &mut [u8]) -> Looked {
+    fn look(&self, rows: &[i32], state: &[i32], role: Role, value: &mut [i32], list: &mut [u8]) -> Looked {
         self.count_call();
         let (own, words) = (self.lend(0, rows), self.lend(1, state));
         let (leaves, entries) = (self.lend(2, value), self.lend(3, list));
@@ -78,6 +79,7 @@ impl Engine for Archive {
                 own.len(),
                 words.start(),
                 words.len(),
+                role,
                 leaves.start(),
                 leaves.len(),
                 entries.start(),
@@ -137,8 +139,8 @@ impl Engine for Calls {
         numbered(calls::start(rows, state))
     }
 
-    fn look(&self, rows: &[i32], state: &[i32], value: &mut [i32], list: &mut [u8]) -> Looked {
-        match calls::look(rows, state, value, list) {
+    fn look(&self, rows: &[i32], state: &[i32], role: Role, value: &mut [i32], list: &mut [u8]) -> Looked {
+        match calls::look(rows, state, role, value, list) {
             Ok(looked) => {
                 Looked { number: 0, valued: looked.has_value, fails: looked.failing, bytes: looked.entries.len() }
             }

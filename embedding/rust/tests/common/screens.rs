@@ -1,6 +1,6 @@
-//! A whole session by [`Flow`] and [`Rest`], printed as 01 prints it ("A session in full").
+//! A whole session by [`Flow`] and [`Rest`], printed as 01 prints it ("A session in full"), each screen in the role that CR 6 says.
 
-use nannyjiffy::{Flow, Ground, Rest, EVENT_BYTES, LINE_BYTES};
+use nannyjiffy::{Flow, Ground, Rest, Role, EVENT_BYTES, LINE_BYTES};
 use std::fmt::Write;
 
 /// Bytes of the row count with its byte 10.
@@ -16,18 +16,20 @@ pub fn screens(input: &[u8]) -> Option<Vec<u8>> {
         Err(ground) => print(&mut out, ground.number(), None),
         Ok(flow) => {
             let mut rest = Rest::start(&flow);
-            print(&mut out, 0, Some(&rest));
+            print(&mut out, 0, Some((&rest, Role::FIRST)));
             for event in events.chunks(EVENT_BYTES) {
                 let number = rest.handle(event).map_or_else(Ground::number, |()| 0);
-                print(&mut out, number, Some(&rest));
+                let whole = event.len() == EVENT_BYTES;
+                let role = Role::of_event(event).filter(|_| whole).unwrap_or(Role::FIRST);
+                print(&mut out, number, Some((&rest, role)));
             }
         }
     }
     Some(out.into_bytes())
 }
 
-fn print(out: &mut String, number: u32, rest: Option<&Rest>) {
-    let (strides, screen) = (rest.map_or(0, Rest::strides), rest.map(Rest::look));
+fn print(out: &mut String, number: u32, seen: Option<(&Rest, Role)>) {
+    let (strides, screen) = (seen.map_or(0, |(rest, _)| rest.strides()), seen.map(|(rest, role)| rest.look(role)));
     let [fails, valued] = screen.as_ref().map_or([false; 2], |s| [s.failing, s.value.is_some()]).map(u32::from);
     let leaves = screen.as_ref().and_then(|s| s.value).unwrap_or_default().map(|leaf| format!("{leaf:12}")).concat();
     let entries = screen.as_ref().map_or(&b""[..], |s| s.entries());

@@ -6,8 +6,11 @@ use reference::calls;
 use reference::flow::Flow;
 use reference::generate::{self, touches};
 use reference::random::Random;
+use reference::roles::{Role, FIRST};
 use reference::rules::Rules;
+use reference::session;
 use reference::sheet::Row;
+use reference::slips::Slip;
 use reference::state::State;
 use reference::words;
 use std::ops::RangeInclusive;
@@ -23,10 +26,11 @@ pub const SIZES: [(usize, RangeInclusive<usize>); 3] = [(16, 14..=18), (64, 58..
 /// Levels of 48 (43 (42, INNER), 45) at most.
 pub const LEVELS: usize = 16;
 
-/// A rest, and an event for it.
+/// A rest, a role to look at it in, and an event of that role for it.
 pub struct Touch {
     pub rows: Vec<i32>,
     pub state: Vec<i32>,
+    pub role: Role,
     pub event: Vec<u8>,
 }
 
@@ -45,9 +49,13 @@ fn of_sheet(random: &mut Random, rows: Vec<Row>) -> Vec<Touch> {
     let flow = Flow::of_rows(rows, Rules::default()).expect("accepted");
     let (mut state, _) = State::start(&flow);
     let mut touch = || {
-        let event = touches::event(random, &state.look().entries);
-        let touch =
-            Touch { rows: calls::words_of_rows(&flow.rows), state: words::write(&flow, &state), event: event.clone() };
+        let event = touches::event(random, &state);
+        let touch = Touch {
+            rows: calls::words_of_rows(&flow.rows),
+            state: words::write(&flow, &state),
+            role: session::role_after(&event, Slip::None),
+            event: event.clone(),
+        };
         // A refused event leaves the state as it is.
         let _ = state.handle(&event);
         touch
@@ -59,5 +67,5 @@ fn of_sheet(random: &mut Random, rows: Vec<Row>) -> Vec<Touch> {
 pub fn of_levels(count: usize) -> Touch {
     let flow = Flow::of_rows(deep::levels(count), Rules::default()).expect("accepted");
     let (rows, state) = (calls::words_of_rows(&flow.rows), words::write(&flow, &State::start(&flow).0));
-    Touch { rows, state, event: deep::event(3) }
+    Touch { rows, state, role: FIRST, event: deep::event(3) }
 }

@@ -13,8 +13,8 @@ slice-aggregate-result c =
     let start-at = fill .before .before .before .before in
     let start = start-at in
     let f = fill .fill in
-    part-long (start .args .rows .now) (start .args .state .now) (start .args .value .now) (start .args .list .now) (f .result) (f .last .1 .1 .0)
-    (f .last .1 .1 .1 .0) (f .ensures)
+    part-long (start .args .rows .now) (start .args .state .now) (start .args .role) (start .args .value .now) (start .args .list .now) (f .result) (f .last .1 .1 .1 .0)
+    (f .last .1 .1 .1 .1 .0) (f .ensures)
 
 returns : tie.Need-returns
 returns c =
@@ -22,8 +22,8 @@ returns c =
     let start-at = fill .before .before .before .before in
     let start = start-at in
     let f = fill .fill in
-    look-is (start .args .rows .now) (start .args .state .now) (start .args .value .now) (start .args .list .now) (f .result) (f .last .1 .1 .0)
-    (f .last .1 .1 .1 .0) (f .ensures)
+    look-is (start .args .rows .now) (start .args .state .now) (start .args .role) (start .args .value .now) (start .args .list .now) (f .result) (f .last .1 .1 .1 .0)
+    (f .last .1 .1 .1 .1 .0) (f .ensures)
 
 pub look-spec : {M : Type 1} → statement M
 look-spec = tie.close (tie.spec (λ c κs. search needs) slice-aggregate-result (λ c. search needs) returns)

@@ -29,7 +29,7 @@ returns c =
     let start = listed .before .before .before .before in
     let q = listed .entries in
     let room : length (start .args .work .now) ≡ maxRows * entryBytes = let g = listed .before .entries-arg .given in search needs in
-    show-24 (start .args .own .now) (start .args .words .now) _ (start .args .work .now) (q .last .1 .1 .1 .1 .1 .1 .1 .0) (start .args .n) (q .result) room (q .ensures .1) (start .args .value .now) (start .args .list .now) (c .if1 .taken)
+    show-24 (start .args .role) (start .args .own .now) (start .args .words .now) _ (start .args .work .now) (q .last .1 .1 .1 .1 .1 .1 .1 .1 .0) (start .args .n) (q .result) room (q .ensures .1) (start .args .value .now) (start .args .list .now) (c .if1 .taken)
 
 returns-2 : tie.Need-returns-2
 returns-2 c =
@@ -45,7 +45,7 @@ returns-2 c =
     let q = listed .entries in
     let v = found .value in
     let room : length (start .args .work .now) ≡ maxRows * entryBytes = let g = listed .before .entries-arg .given in search needs in
-    show-0 (start .args .own .now) (start .args .words .now) _ (start .args .work .now) (q .last .1 .1 .1 .1 .1 .1 .1 .0) (start .args .n) (q .result) room (q .ensures .1) (v .result) (v .ensures) (out .value-out .ensures .1)
+    show-0 (start .args .role) (start .args .own .now) (start .args .words .now) _ (start .args .work .now) (q .last .1 .1 .1 .1 .1 .1 .1 .1 .0) (start .args .n) (q .result) room (q .ensures .1) (v .result) (v .ensures) (out .value-out .ensures .1)
     (start .args .value .now) (out .value-out .last .1 .0) (start .args .list .now) (put .put-bytes .last .1 .1 .0) (has .flag2 .result) (failed .flag .result) (fails .fails .result)
     (if1 .if1 .left) (fails .fails .ensures) (failed .flag .ensures) (has .flag2 .ensures) (put .put-bytes .ensures) (out .value-out .ensures .0)
 

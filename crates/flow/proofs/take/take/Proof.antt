@@ -4,7 +4,7 @@ use borrow.Author.Needs.{needs}
 use borrow.Author.Tests.{not-false}
 use Rattle.call_definitions.specs.Calls.{opened}
 use Rattle.flow.proofs.OpenLaws.{opened-fine}
-use Rattle.flow.proofs.TakeLaws.{take-refused, take-8, take-failed, take-9, take-0, opened-room}
+use Rattle.flow.proofs.TakeLaws.{take-refused, take-8, take-failed, take-no, take-0, opened-room}
 use Rattle.flow.proofs.take.take.Statement.{statement}
 use Rattle.flow.proofs.take.take.Tie as tie
 use Rattle.flow.proofs.take.take.Reads as reads
@@ -85,7 +85,7 @@ returns-4 c =
     let start = opening .before .before .before .before in
     let o = opening .«open» in
     let h = handled .handle in
-    take-9 (start .args .rows .now) (start .args .state .now) (o .last .1 .1 .1 .0) (o .last .1 .1 .1 .1 .0) (o .result) (start .args .e) (if1 .if1 .left) (if3 .if3 .left) (if2 .if2 .left)
+    take-no (start .args .rows .now) (start .args .state .now) (o .last .1 .1 .1 .0) (o .last .1 .1 .1 .1 .0) (o .result) (start .args .e) (if1 .if1 .left) (if3 .if3 .left) (if2 .if2 .left)
     (h .last .1 .0) _ (h .result) (h .ensures) (o .ensures) (if4 .if4 .taken) (c .refused3 .result) (c .refused3 .ensures)
 
 normalise-requires : tie.Need-normalise-requires

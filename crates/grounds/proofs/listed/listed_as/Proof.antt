@@ -21,6 +21,9 @@ listed-as-spec = tie.close (tie.spec
     (λ c. search needs)
     (λ c. search needs)
     (λ c. search needs)
+    (λ c. search needs)
+    (λ c κs. search needs)
+    (λ c. search needs)
     (λ c. sym (ap (λ q. listedAs (askBy q) (c .before .before .args .w)) (c .enum-told .given .1)))
     (λ c.
     let enum-told2 = c .before in
@@ -34,4 +37,9 @@ listed-as-spec = tie.close (tie.spec
     (λ c. sym (ap (λ q. listedAs (askBy q) (c .before .before .args .w)) (c .enum-told8 .given .1)))
     (λ c. sym (ap (λ q. listedAs (askBy q) (c .before .before .args .w)) (c .enum-told9 .given .1)))
     (λ c. sym (ap (λ q. listedAs (askBy q) (c .before .before .args .w)) (c .enum-told10 .given .1)))
-    (λ c. sym (ap (λ q. listedAs (askBy q) (c .before .before .args .w)) (c .enum-told11 .given .1))))
+    (λ c. sym (ap (λ q. listedAs (askBy q) (c .before .before .args .w)) (c .enum-told11 .given .1)))
+    (λ c.
+    let enum-told12 = c .before in
+    let start = enum-told12 .before .before in
+    c .is-role .ensures ∙ sym (ap (λ q. listedAs (askBy q) (start .args .w)) (enum-told12 .enum-told12 .given .1)))
+    (λ c. sym (ap (λ q. listedAs (askBy q) (c .before .before .args .w)) (c .enum-told13 .given .1))))

@@ -12,7 +12,7 @@ use Rattle.grounds.proofs.table.asks_of.Tie as tie
 
 -- the arms of one number, the last first
 abbrev keys : List (List ℕ)
-keys = (48 ∷ []) ∷ (45 ∷ []) ∷ (42 ∷ []) ∷ (41 ∷ []) ∷ (40 ∷ 49 ∷ []) ∷ (31 ∷ []) ∷ (30 ∷ []) ∷ (29 ∷ []) ∷ (26 ∷ []) ∷ (25 ∷ []) ∷ (24 ∷ []) ∷ (21 ∷ []) ∷ (20 ∷ []) ∷ (10 ∷ []) ∷ (4 ∷ []) ∷ (1 ∷ []) ∷ []
+keys = (50 ∷ []) ∷ (48 ∷ []) ∷ (45 ∷ []) ∷ (42 ∷ []) ∷ (41 ∷ []) ∷ (40 ∷ 49 ∷ []) ∷ (31 ∷ []) ∷ (30 ∷ []) ∷ (29 ∷ []) ∷ (26 ∷ []) ∷ (25 ∷ []) ∷ (24 ∷ []) ∷ (21 ∷ []) ∷ (20 ∷ []) ∷ (10 ∷ []) ∷ (4 ∷ []) ∷ (1 ∷ []) ∷ []
 
 at-key : {k n : ℕ} → k ≡ n → asksOf n ≡ asksOf k
 at-key h = sym (ap asksOf h)
@@ -46,6 +46,7 @@ asks-of-spec = tie.close (tie.spec
     (λ c. at-key (c .match .keys14))
     (λ c. at-key (c .match .keys15))
     (λ c. at-key (c .match .keys16))
+    (λ c. at-key (c .match .keys17))
     (λ c. in-asks 1 3 (tt, (refl, (refl, tt))) (c .before .if1 .left) (c .if2 .taken) (c .before .before .match .rest))
     (λ c.
     let if3 = c .before in

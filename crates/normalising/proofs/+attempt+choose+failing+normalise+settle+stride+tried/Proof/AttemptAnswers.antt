@@ -72,7 +72,7 @@ pub attempt-clear-requires : (t : ℕ) → attempt-lts.Need-clear-requires (atte
 attempt-clear-requires t c κs =
     let start = c .before .before .before .before .before .before .before .before .before .before .before .before .before .before in
     fine-a (start .args .rows .now) (start .args .row) (start .args .depth) (start .pre .1 .0) _ (c .operand2 .result) refl (c .operand2 .ensures)
-    (start .pre .1 .1)
+    (start .pre .1 .1) (start .pre .1 .2)
 
 pub attempt-put-value-requires : (t : ℕ) → attempt-lts.Need-put-value-requires (attempt-calls t) (attempt-at t) attempt.Post
 attempt-put-value-requires t c κs =

@@ -19,14 +19,14 @@ choose-stride-requires t c κs =
     let operand = c .before .before in
     let start = operand .before in
     call-a (start .args .rows .now) (start .args .row) (start .args .depth) t 1 (start .pre .0, start .pre .1 .0) 2 (omega arith) 47
-    (operand .operand .result) (sym (start .pre .1 .1)) (operand .operand .ensures) (omega arith)
+    (operand .operand .result) (sym (start .pre .1 .1)) (operand .operand .ensures) (omega arith) (omega arith)
 
 pub choose-value-requires : (t : ℕ) → choose-lts.Need-value-requires (choose-calls t) (choose-at t) choose.Post
 choose-value-requires t c κs =
     let operand = c .before .before .before .before in
     let start = operand .before in
     fine-a (start .args .rows .now) (start .args .row) (start .args .depth) (start .pre .1 .0) 47 (operand .operand .result) (sym (start .pre .1 .1))
-    (operand .operand .ensures) (omega arith)
+    (operand .operand .ensures) (omega arith) (omega arith)
 
 pub choose-clear-requires : (t : ℕ) → choose-lts.Need-clear-requires (choose-calls t) (choose-at t) choose.Post
 choose-clear-requires t c κs =
@@ -73,7 +73,7 @@ choose-clear-requires-2 t c κs =
     let operand = c .before .before .before .before .before .before .before .before .before .before .before .before in
     let start = operand .before in
     fine-a (start .args .rows .now) (start .args .row) (start .args .depth) (start .pre .1 .0) 47 (operand .operand .result) (sym (start .pre .1 .1))
-    (operand .operand .ensures) (omega arith)
+    (operand .operand .ensures) (omega arith) (omega arith)
 
 pub choose-put-tag-requires-2 : (t : ℕ) → choose-lts.Need-put-tag-requires-2 (choose-calls t) (choose-at t) choose.Post
 choose-put-tag-requires-2 t c κs =

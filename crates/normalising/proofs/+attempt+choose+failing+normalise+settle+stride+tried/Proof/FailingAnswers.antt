@@ -59,7 +59,7 @@ failing-tried-requires t c κs =
     let get = match-at .before in
     let start = get .before .before .before in
     call-a (start .args .rows .now) (start .args .row) (start .args .depth) t 0 (start .pre) 5 (omega arith) (get .get .result) (c .operand2 .result)
-    (get .get .ensures) (c .operand2 .ensures) (omega (arith, match-at .match .keys2))
+    (get .get .ensures) (c .operand2 .ensures) (omega (arith, match-at .match .keys2)) (omega (arith, match-at .match .keys2))
 
 pub failing-operand-requires-3 : (t : ℕ) → failing-lts.Need-operand-requires-3 (failing-calls t) (failing-at t) failing.Post
 failing-operand-requires-3 t c κs =
@@ -85,7 +85,7 @@ failing-failing-requires-2 t c κs =
     let get = if3 .before .before in
     let start = get .before .before .before in
     call-a (start .args .rows .now) (start .args .row) (start .args .depth) t 0 (start .pre) 0 (omega arith) (get .get .result) (c .operand4 .result)
-    (get .get .ensures) (c .operand4 .ensures) (omega (arith, if3 .if3 .left))
+    (get .get .ensures) (c .operand4 .ensures) (omega (arith, if3 .if3 .left)) (omega (arith, c .before .if4 .taken))
 
 pub failing-operand-requires-5 : (t : ℕ) → failing-lts.Need-operand-requires-5 (failing-calls t) (failing-at t) failing.Post
 failing-operand-requires-5 t c κs =
@@ -98,7 +98,7 @@ failing-failing-requires-3 t c κs =
     let get = if3 .before .before in
     let start = get .before .before .before in
     call-a (start .args .rows .now) (start .args .row) (start .args .depth) t 0 (start .pre) 0 (omega arith) (get .get .result) (c .operand5 .result)
-    (get .get .ensures) (c .operand5 .ensures) (omega (arith, if3 .if3 .left))
+    (get .get .ensures) (c .operand5 .ensures) (omega (arith, if3 .if3 .left)) (omega (arith, c .before .if5 .taken))
 
 pub failing-operand-requires-6 : (t : ℕ) → failing-lts.Need-operand-requires-6 (failing-calls t) (failing-at t) failing.Post
 failing-operand-requires-6 t c κs =

@@ -59,7 +59,7 @@ stride-stride-requires-2 t c κs =
     let get = match-at .before in
     let start = get .before .before .before .before in
     call-a (start .args .rows .now) (start .args .row) (start .args .depth) t 2 (start .pre) 2 (omega arith) (get .get .result)
-    (operand2 .operand2 .result) (get .get .ensures) (operand2 .operand2 .ensures) (omega (arith, match-at .match .keys1))
+    (operand2 .operand2 .result) (get .get .ensures) (operand2 .operand2 .ensures) (omega (arith, match-at .match .keys1)) (omega (arith, match-at .match .keys1))
 
 pub stride-value-requires : (t : ℕ) → stride-lts.Need-value-requires (stride-calls t) (stride-at t) stride.Post
 stride-value-requires t c κs =
@@ -68,7 +68,7 @@ stride-value-requires t c κs =
     let get = match-at .before in
     let start = get .before .before .before .before in
     fine-a (start .args .rows .now) (start .args .row) (start .args .depth) (start .pre .1) (get .get .result) (operand2 .operand2 .result)
-    (get .get .ensures) (operand2 .operand2 .ensures) (omega (arith, match-at .match .keys1))
+    (get .get .ensures) (operand2 .operand2 .ensures) (omega (arith, match-at .match .keys1)) (omega (arith, match-at .match .keys1))
 
 pub stride-returns-2 : (t : ℕ) → stride-lts.Need-returns-2 (stride-calls t) (stride-at t) stride.Post
 stride-returns-2 t c =
@@ -91,7 +91,7 @@ stride-attempt-requires t c κs =
     let get = match-at .before in
     let start = get .before .before .before .before in
     let p = call-same (start .args .rows .now) (start .args .row) (start .args .depth) t 2 (start .pre) 1 (omega arith) in
-    (p .0, (p .1, omega (arith, (get .get .ensures), match-at .match .keys1)))
+    (p .0, (p .1, omega (arith, (get .get .ensures), match-at .match .keys1), omega (arith, (get .get .ensures), match-at .match .keys1)))
 
 pub stride-operand-requires-3 : (t : ℕ) → stride-lts.Need-operand-requires-3 (stride-calls t) (stride-at t) stride.Post
 stride-operand-requires-3 t c κs =
@@ -104,7 +104,7 @@ stride-stride-requires-3 t c κs =
     let get = match-at .before in
     let start = get .before .before .before .before in
     call-a (start .args .rows .now) (start .args .row) (start .args .depth) t 2 (start .pre) 2 (omega arith) (get .get .result) (c .operand3 .result)
-    (get .get .ensures) (c .operand3 .ensures) (omega (arith, match-at .match .keys2))
+    (get .get .ensures) (c .operand3 .ensures) (omega (arith, match-at .match .keys2)) (omega (arith, match-at .match .keys2))
 
 pub stride-operand-requires-4 : (t : ℕ) → stride-lts.Need-operand-requires-4 (stride-calls t) (stride-at t) stride.Post
 stride-operand-requires-4 t c κs =
@@ -117,7 +117,7 @@ stride-stride-requires-4 t c κs =
     let get = match-at .before in
     let start = get .before .before .before .before in
     call-a (start .args .rows .now) (start .args .row) (start .args .depth) t 2 (start .pre) 2 (omega arith) (get .get .result) (c .operand4 .result)
-    (get .get .ensures) (c .operand4 .ensures) (omega (arith, match-at .match .keys3))
+    (get .get .ensures) (c .operand4 .ensures) (omega (arith, match-at .match .keys3)) (omega (arith, match-at .match .keys3))
 
 pub stride-operand-requires-5 : (t : ℕ) → stride-lts.Need-operand-requires-5 (stride-calls t) (stride-at t) stride.Post
 stride-operand-requires-5 t c κs =

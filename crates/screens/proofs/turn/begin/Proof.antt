@@ -63,4 +63,4 @@ begin-spec = tie.close (tie.spec
     let l = load-counted .load-counted in
     let q = start .start in
     begin-started (a .n) (a .text .now) (a .rows .now) (a .state .now) (a .out .now) (l .result) (l .last .1 .1 .0) (l .ensures .0) (l .ensures .1)
-    (if1 .if1 .left) (q .result) (q .last .1 .0) (q .ensures .0) (if2 .if2 .left) (c .show .result) (c .show .last .1 .1 .1 .1 .0) (c .show .ensures)))
+    (if1 .if1 .left) (q .result) (q .last .1 .0) (q .ensures .0) (if2 .if2 .left) (c .show .result) (c .show .last .1 .1 .1 .1 .1 .0) (c .show .ensures)))

@@ -20,7 +20,7 @@ show-spec = tie.close (tie.spec
     let start = fill .before .before .before .before in
     let a = start .args in
     let q = fill .fill in
-    let b = bytes-few (a .rows .now) (a .state .now) (a .answer) (a .strides) (a .out .now) (start .pre .0) (q .result) (q .last .1 .1 .0) (q .last .1 .1 .1 .0) (q .kept .1 .1 .1 .0) (q .ensures) in
+    let b = bytes-few (a .rows .now) (a .state .now) (a .role) (a .answer) (a .strides) (a .out .now) (start .pre .0) (q .result) (q .last .1 .1 .1 .0) (q .last .1 .1 .1 .1 .0) (q .kept .1 .1 .1 .1 .0) (q .ensures) in
     record { fits = omega (arith, b) })
     (λ c κs. search needs)
     (λ c.
@@ -28,7 +28,7 @@ show-spec = tie.close (tie.spec
     let start = fill .before .before .before .before in
     let a = start .args in
     let q = fill .fill in
-    let b = bytes-few (a .rows .now) (a .state .now) (a .answer) (a .strides) (a .out .now) (start .pre .0) (q .result) (q .last .1 .1 .0) (q .last .1 .1 .1 .0) (q .kept .1 .1 .1 .0) (q .ensures) in
+    let b = bytes-few (a .rows .now) (a .state .now) (a .role) (a .answer) (a .strides) (a .out .now) (start .pre .0) (q .result) (q .last .1 .1 .1 .0) (q .last .1 .1 .1 .1 .0) (q .kept .1 .1 .1 .1 .0) (q .ensures) in
     record { fits = omega (arith, b) })
     (λ c. search needs)
     (λ c.
@@ -38,6 +38,6 @@ show-spec = tie.close (tie.spec
     let start = fill .before .before .before .before in
     let a = start .args in
     let q = fill .fill in
-    drawn (a .rows .now) (a .state .now) (a .answer) (a .strides) (a .out .now) (start .pre .0) (q .result) (q .last .1 .1 .0) (q .last .1 .1 .1 .0)
-    (q .kept .1 .1 .1 .0) (q .ensures) (start .pre .1) (start .pre .2) (q .kept .1 .1 .0) (copy-in .copy-in .ensures .1)
+    drawn (a .rows .now) (a .state .now) (a .role) (a .answer) (a .strides) (a .out .now) (start .pre .0) (q .result) (q .last .1 .1 .1 .0) (q .last .1 .1 .1 .1 .0)
+    (q .kept .1 .1 .1 .1 .0) (q .ensures) (start .pre .1) (start .pre .2) (q .kept .1 .1 .1 .0) (copy-in .copy-in .ensures .1)
     (copy-in .copy-in .last .1 .0) (write .write .last .0) (copy-in .copy-in .ensures .0) (write .write .kept .0) (write .write .ensures)))
