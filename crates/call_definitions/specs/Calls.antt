@@ -91,6 +91,7 @@ opened rows ws fits =
 
 -- ---- handle
 
+-- 01: "Then the result is normalised"
 unfoldable pub settled : List ℤ → (c : Code) → TaskOf c → Store → CallAnswer
 settled rows c t₁ s₁ =
     let (t, s, n) = normalise c [] s₁ t₁ in

@@ -168,8 +168,8 @@ fn shut(rows: &[u32; ROWS_WORDS], state: &[u32; STATE_SIZE], row: usize, who: u3
     read_touches(state, row) == 0
 }
 
-// The entries that the task at the row shows a role, or anyone (0), each with the path of these marks in front, from the front of the list on;
-// how many bytes they are. What one mark more adds to the path is `unit`.
+// The entries that the task at the row shows a role, or anyone (0), each with the path of these marks in front, from the front of the
+// list on; how many bytes they are. What one mark more adds to the path is `unit`.
 pub fn entries(
     rows: &[u32; ROWS_WORDS],
     state: &[u32; STATE_SIZE],

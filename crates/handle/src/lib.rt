@@ -1,7 +1,8 @@
 // Handling an event: the task at a row takes it, and the words say what the task is then, or refuses it, and every word is as it
-// was. What the rows of kind 50 that it passes say of its role and touches is answered, and their touches are used whatever they say (CR 6):
-// the caller drops the words where they refuse. Work that may be given up is done in a copy of the state, in `side` here and in `attempt` of crate normalising. Rests on the crates
-// below for values, evaluation, normalising and rows that hand on; specs/Events says what an event is.
+// was. What the rows of kind 50 that it passes say of its role and touches is answered, and their touches are used whatever they
+// say (CR 6): the caller drops the words where they refuse. Work that may be given up is done in a copy of the state, in `side`
+// here and in `attempt` of crate normalising. Rests on the crates below for values, evaluation, normalising and rows that hand on;
+// specs/Events says what an event is.
 use decimal::path::Front;
 use decimal::path::front_mark;
 use normalising::attempt;
