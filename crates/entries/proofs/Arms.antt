@@ -32,7 +32,7 @@ use Rattle.normalising.specs.Trying.{TriedOk}
 use Rattle.normalising.proofs.Asking.{two-kinds}
 use Rattle.formats.specs.Lists.{noKinds, numbersEntry, listText, under, Fits}
 use Rattle.entries.specs.Listing.{Lists, Wrote, ContentOk, GoesOnOk, EntriesOk, EntriesAt}
-use Rattle.entries.proofs.Fronts.{tailOf, lists-after, lists-none}
+use Rattle.entries.proofs.Fronts.{tailOf, After, after-lists, lists-none}
 use Rattle.entries.proofs.Texts.{button-text, offer-text, text-after, under-mark, fit-left, fit-right, fit-inner, fit-full}
 
 length-more : (p : Path) (m : Mark) → length p + 1 ≡ length (p ++ m ∷ [])
@@ -89,7 +89,7 @@ module _ (who : Who) (rs ws : List ℕ) (i : ℕ) (env : List ℕ) (d : ℕ) (p 
   pub entries-offer : (l₁ : List ℕ) (n r : ℕ) → ContentOk rs ws i r → Wrote list l₁ n (numbersEntry p (actNumber giving) (kindsOf r)) → EntriesOk who rs ws i env d p list l₁ n
   entries-offer l₁ n r f k c z Σ Γ τ s ρ t y w g m =
       let o = f d c z env Σ Γ τ s ρ t y w g in
-      subst (Lists list l₁ n) (ap (λ x. numbersEntry p (actNumber giving) (kindsOf x)) (o .1) ∙ sym (offer-text p (o .0) (o .2)) ∙ ap (λ es. listText (under p es)) (sym (o .3 who))) (k .lists)
+      subst (Lists list l₁ n) (ap (λ x. numbersEntry p (actNumber giving) (kindsOf x)) (o .1) ∙ sym (offer-text p (o .0) (o .2)) ∙ ap (λ es. listText (under p es)) (sym (o .3 who))) (λ h. k .counted)
 
   module _ (z : Unhanded rs ws i) where
     -- ---- 43: the left side's
@@ -100,43 +100,43 @@ module _ (who : Who) (rs ws : List ℕ) (i : ℕ) (env : List ℕ) (d : ℕ) (p 
         on-then-before rs ws d i Σ Γ (λ c t τ. Told l₁ n ρ s c t) z q (λ a b t σ υ k g y x m. f a (k .1) Σ Γ σ s ρ t y w (g .1) m) c k τ t y g
 
     -- ---- 44: the left side's, and Continue
-    pub entries-next : (l₁ l₂ : List ℕ) (a n m : ℕ) (x : Bool) → OfKind rs i (taskK nextK) → a ≡ opA rs i → length l₁ ≡ length list → Shows p list l₁ n a → GoesOnOk rs ws i env d x
-        → Wrote (tailOf n l₁) l₂ m (buttonText p x (actNumber (pressing continue))) → EntriesOk who rs ws i env d p list (putMid n (length l₁ - n) l₁ l₂) (n + m)
+    pub entries-next : (a : ℕ) (x : Bool) {l₁ l₂ : List ℕ} {n m j r : ℕ} → OfKind rs i (taskK nextK) → a ≡ opA rs i → After list l₁ n m j r → Shows p list l₁ n a → GoesOnOk rs ws i env d x
+        → Wrote (tailOf j l₁) l₂ m (buttonText p x (actNumber (pressing continue))) → EntriesOk who rs ws i env d p list (putMid j (length l₁ - j) l₁ l₂) r
     unfolding entries
-    entries-next l₁ l₂ a n m x q e kept h go wr c k Σ Γ τ s ρ t y w g =
+    entries-next a x {l₁} {l₂} {n} {m} {j} {r} q e af h go wr c k Σ Γ τ s ρ t y w g =
         let f = subst (Shows p list l₁ n) e h in
-        on-next-before rs ws d i Σ Γ (λ c t τ. Told (putMid n (length l₁ - n) l₁ l₂) (n + m) ρ s c t) z q
+        on-next-before rs ws d i Σ Γ (λ c t τ. Told (putMid j (length l₁ - j) l₁ l₂) r ρ s c t) z q
         (λ a b t σ υ k g y v fit.
         let o = go a b k Σ Γ σ υ s ρ t y v w g in
-        subst (Lists list (putMid n (length l₁ - n) l₁ l₂) (n + m))
+        subst (Lists list (putMid j (length l₁ - j) l₁ l₂) r)
         (ap (λ bs. listText (under p (entries who a ρ s t)) ++ bs) (sym (button-text p x continue) ∙ ap (λ es. listText (under p es)) o) ∙ sym (text-after p (entries who a ρ s t) _))
-        (lists-after list l₁ l₂ n m kept (f a (k .1) Σ Γ σ s ρ t y w (g .1) (fit-left (length p) (entries who a ρ s t) _ fit)) (wr .lists)))
+        (after-lists af (f a (k .1) Σ Γ σ s ρ t y w (g .1) (fit-left (length p) (entries who a ρ s t) _ fit)) (λ h. wr .counted)))
         c k τ t y g
 
     -- ---- 46 and 47: the left part's under the first mark, and the right part's under the second
-    module _ (l₁ l₂ : List ℕ) (n m : ℕ) (kept : length l₁ ≡ length list) where
+    module _ {l₁ l₂ : List ℕ} {n m j r : ℕ} (af : After list l₁ n m j r) where
       both-listed : (es fs : List Entry) → (Fits (length (p ++ first ∷ [])) es → Lists list l₁ n (listText (under (p ++ first ∷ []) es)))
-          → (Fits (length (p ++ second ∷ [])) fs → Lists (tailOf n l₁) l₂ m (listText (under (p ++ second ∷ []) fs))) → Fits (length p) (marked first es ++ marked second fs)
-          → Lists list (putMid n (length l₁ - n) l₁ l₂) (n + m) (listText (under p (marked first es ++ marked second fs)))
+          → (Fits (length (p ++ second ∷ [])) fs → Lists (tailOf j l₁) l₂ m (listText (under (p ++ second ∷ []) fs))) → Fits (length p) (marked first es ++ marked second fs)
+          → Lists list (putMid j (length l₁ - j) l₁ l₂) r (listText (under p (marked first es ++ marked second fs)))
       both-listed es fs f h k =
-          subst (Lists list (putMid n (length l₁ - n) l₁ l₂) (n + m))
+          subst (Lists list (putMid j (length l₁ - j) l₁ l₂) r)
           (ap₂ (λ x y. listText x ++ listText y) (sym (under-mark p first es)) (sym (under-mark p second fs)) ∙ sym (text-after p (marked first es) (marked second fs)))
-          (lists-after list l₁ l₂ n m kept
+          (after-lists af
           (f (subst (λ k. Fits k es) (length-more p first) (fit-inner (length p) first es (fit-left (length p) (marked first es) (marked second fs) k))))
           (h (subst (λ k. Fits k fs) (length-more p second) (fit-inner (length p) second fs (fit-right (length p) (marked first es) (marked second fs) k)))))
 
-      pub entries-both : (a b : ℕ) → FromKind rs i (taskK andK) → UpToKind rs i (taskK orK) → a ≡ opA rs i → b ≡ opB rs i → Shows (p ++ first ∷ []) list l₁ n a → Shows (p ++ second ∷ []) (tailOf n l₁) l₂ m b
-          → EntriesOk who rs ws i env d p list (putMid n (length l₁ - n) l₁ l₂) (n + m)
+      pub entries-both : (a b : ℕ) → FromKind rs i (taskK andK) → UpToKind rs i (taskK orK) → a ≡ opA rs i → b ≡ opB rs i → Shows (p ++ first ∷ []) list l₁ n a → Shows (p ++ second ∷ []) (tailOf j l₁) l₂ m b
+          → EntriesOk who rs ws i env d p list (putMid j (length l₁ - j) l₁ l₂) r
       unfolding entries
-      entries-both a b l r ea eb h h₁ c k Σ Γ τ s ρ t y w g =
+      entries-both a b lo hi ea eb h h₁ c k Σ Γ τ s ρ t y w g =
           let f = subst (Shows (p ++ first ∷ []) list l₁ n) ea h in
-          let f₁ = subst (Shows (p ++ second ∷ []) (tailOf n l₁) l₂ m) eb h₁ in
+          let f₁ = subst (Shows (p ++ second ∷ []) (tailOf j l₁) l₂ m) eb h₁ in
           ⊎-elim
-          (λ q. on-both rs ws d i Σ Γ (λ c t τ. Told (putMid n (length l₁ - n) l₁ l₂) (n + m) ρ s c t) q
+          (λ q. on-both rs ws d i Σ Γ (λ c t τ. Told (putMid j (length l₁ - j) l₁ l₂) r ρ s c t) q
           (λ a b t u σ υ k g y x l. both-listed (entries who a ρ s t) (entries who b ρ s u) (f a (k .1) Σ Γ σ s ρ t y w (g .1)) (f₁ b (k .2) Σ Γ υ s ρ u x w (g .2))) c k τ t y g)
-          (λ q. on-either rs ws d i Σ Γ (λ c t τ. Told (putMid n (length l₁ - n) l₁ l₂) (n + m) ρ s c t) z q
+          (λ q. on-either rs ws d i Σ Γ (λ c t τ. Told (putMid j (length l₁ - j) l₁ l₂) r ρ s c t) z q
           (λ a b t u σ k g y x. both-listed (entries who a ρ s t) (entries who b ρ s u) (f a (k .1) Σ Γ σ s ρ t y w (g .1)) (f₁ b (k .2) Σ Γ σ s ρ u x w (g .2))) c k τ t y g)
-          (two-kinds (numberOf (taskK andK)) (word rs i 0) l r)
+          (two-kinds (numberOf (taskK andK)) (word rs i 0) lo hi)
 
     -- no mark more: neither part shows an entry
     full-listed : (es fs : List Entry) → maxMarks ≤ length p → Fits (length p) (marked first es ++ marked second fs) → Lists list list 0 (listText (under p (marked first es ++ marked second fs)))
@@ -154,20 +154,20 @@ module _ (who : Who) (rs ws : List ℕ) (i : ℕ) (env : List ℕ) (d : ℕ) (p 
         (two-kinds (numberOf (taskK andK)) (word rs i 0) l r)
 
     -- ---- 48: Left and Right, each where that branch, settled, does not fail
-    pub entries-choice : (l₁ l₂ : List ℕ) (a b n m : ℕ) (x y : Bool) → OfKind rs i (taskK xorK) → a ≡ opA rs i → b ≡ opB rs i → length l₁ ≡ length list → TriedOk rs ws a env d x → TriedOk rs ws b env d y
-        → Wrote list l₁ n (buttonText p (not x) (actNumber (pressing left))) → Wrote (tailOf n l₁) l₂ m (buttonText p (not y) (actNumber (pressing right)))
-        → EntriesOk who rs ws i env d p list (putMid n (length l₁ - n) l₁ l₂) (n + m)
+    pub entries-choice : (a b : ℕ) (x y : Bool) {l₁ l₂ : List ℕ} {n m j r : ℕ} → OfKind rs i (taskK xorK) → a ≡ opA rs i → b ≡ opB rs i → After list l₁ n m j r → TriedOk rs ws a env d x → TriedOk rs ws b env d y
+        → Wrote list l₁ n (buttonText p (not x) (actNumber (pressing left))) → Wrote (tailOf j l₁) l₂ m (buttonText p (not y) (actNumber (pressing right)))
+        → EntriesOk who rs ws i env d p list (putMid j (length l₁ - j) l₁ l₂) r
     unfolding entries settle normalise
-    entries-choice l₁ l₂ a b n m x₀ y₀ q ea eb kept h h₁ wr wr₁ c k Σ Γ τ s ρ t y w g =
+    entries-choice a b x₀ y₀ {l₁} {l₂} {n} {m} {j} {r} q ea eb af h h₁ wr wr₁ c k Σ Γ τ s ρ t y w g =
         let f = subst (λ a. TriedOk rs ws a env d x₀) ea h in
         let f₁ = subst (λ b. TriedOk rs ws b env d y₀) eb h₁ in
-        on-unpicked rs ws d i Σ Γ (λ c t τ. Told (putMid n (length l₁ - n) l₁ l₂) (n + m) ρ s c t) z q
+        on-unpicked rs ws d i Σ Γ (λ c t τ. Told (putMid j (length l₁ - j) l₁ l₂) r ρ s c t) z q
         (λ a b σ k g y x fit.
-        subst (Lists list (putMid n (length l₁ - n) l₁ l₂) (n + m))
+        subst (Lists list (putMid j (length l₁ - j) l₁ l₂) r)
         (ap₂ _++_ (sym (button-text p (not x₀) left)) (sym (button-text p (not y₀) right))
         ∙ sym (text-after p (buttonIf (not x₀) left) (buttonIf (not y₀) right))
         ∙ ap₂ (λ u v. listText (under p (buttonIf (not u) left ++ buttonIf (not v) right))) (f a (k .1) Σ Γ σ s ρ y w (g .1)) (f₁ b (k .2) Σ Γ σ s ρ x w (g .2)))
-        (lists-after list l₁ l₂ n m kept (wr .lists) (wr₁ .lists)))
+        (after-lists af (λ h. wr .counted) (λ h. wr₁ .counted)))
         c k τ t y g
 
     -- ---- 45 and 49 show none, and no other kind is a task that does not hand on

@@ -22,7 +22,7 @@ use Rattle.state.specs.Contracts.{Fine}
 use Rattle.state.proofs.Calls.{fine-at}
 use Rattle.running.specs.Hands.{HandsOn, Under, Unhanded}
 use Rattle.entries.specs.Listing.{AtPath, EntriesOk, whoOf, ShutOk}
-use Rattle.entries.proofs.Fronts.{tailOf}
+use Rattle.entries.proofs.Fronts.{tailOf, After}
 use Rattle.entries.proofs.Marking.{mostUnit, at-first, at-second}
 use Rattle.entries.proofs.Arms.{entries-both, entries-hands, entries-open, entries-shut}
 
@@ -38,13 +38,13 @@ pub none-high : {k : ℕ} → numberOf (taskK xorK) ≤ k → (k ≡ numberOf (t
 none-high h n g = n (omega arith)
 
 -- 46 and 47, as the code has the paths of the parts
-pub entries-marked : (who : Who) (rs ws : List ℕ) (i : ℕ) (env : List ℕ) (d n u : ℕ) (list l₁ l₂ : List ℕ) (a b k m : ℕ) → AtPath n u → (u ≡ mostUnit → ⊥) → Unhanded rs ws i → length l₁ ≡ length list
-    → FromKind rs i (taskK andK) → UpToKind rs i (taskK orK) → a ≡ opA rs i → b ≡ opB rs i → EntriesOk who rs ws a env d (pathOf (n + u)) list l₁ k → EntriesOk who rs ws b env d (pathOf (n + 2 * u)) (tailOf k l₁) l₂ m
-    → EntriesOk who rs ws i env d (pathOf n) list (putMid k (length l₁ - k) l₁ l₂) (k + m)
-entries-marked who rs ws i env d n u list l₁ l₂ a b k m p f z e lo hi ea eb h g =
-    entries-both who rs ws i env d (pathOf n) list z l₁ l₂ k m e a b lo hi ea eb
+pub entries-marked : (who : Who) (rs ws : List ℕ) (i : ℕ) (env : List ℕ) (d n u : ℕ) (list : List ℕ) (a b : ℕ) {l₁ l₂ : List ℕ} {k m j r : ℕ} → AtPath n u → (u ≡ mostUnit → ⊥) → Unhanded rs ws i → After list l₁ k m j r
+    → FromKind rs i (taskK andK) → UpToKind rs i (taskK orK) → a ≡ opA rs i → b ≡ opB rs i → EntriesOk who rs ws a env d (pathOf (n + u)) list l₁ k → EntriesOk who rs ws b env d (pathOf (n + 2 * u)) (tailOf j l₁) l₂ m
+    → EntriesOk who rs ws i env d (pathOf n) list (putMid j (length l₁ - j) l₁ l₂) r
+entries-marked who rs ws i env d n u list a b {l₁} {l₂} {k} {m} {j} {r} p f z e lo hi ea eb h g =
+    entries-both who rs ws i env d (pathOf n) list z e a b lo hi ea eb
     (subst (λ p. EntriesOk who rs ws a env d p list l₁ k) (sym (at-first p f .0)) h)
-    (subst (λ p. EntriesOk who rs ws b env d p (tailOf k l₁) l₂ m) (sym (at-second p f .0)) g)
+    (subst (λ p. EntriesOk who rs ws b env d p (tailOf j l₁) l₂ m) (sym (at-second p f .0)) g)
 
 -- ---- rows of kind 50: shut, way by way
 

@@ -10,7 +10,7 @@ use borrow.Rule.Slice.PartMut.{putMid}
 use lib.ListN.{length, take, drop, set, length-append, length-drop, drop-of-length-le}
 use lib.Seq.{take-all, take-at, drop-at, drop-drop, set-at}
 use Rattle.decimal.specs.Field.{putAt}
-use Rattle.entries.specs.Listing.{Listed, Lists, Wrote}
+use Rattle.entries.specs.Listing.{listBytes, Counted, Lists, Wrote, Least}
 
 -- ---- the part from a on, as `&mut list[a..]` lends it
 
@@ -26,34 +26,45 @@ tailOf a xs = take (length xs - a) (drop a xs)
 pub length-tail : (a : ℕ) (xs : List ℕ) → length (tailOf a xs) ≡ length xs - a
 length-tail a xs = ap length (tail-part a xs) ∙ length-drop a xs
 
-module _ (list l₁ l₂ : List ℕ) (n m : ℕ) (k : length l₁ ≡ length list) where
-  -- n bytes, and m of the rest
-  pub room-after : n ≤ length list → m ≤ length (tailOf n l₁) → n + m ≤ length list
-  room-after h g = omega (arith, length-tail n l₁)
+-- xs, and ys after them: lent the part after those already written, or one of no byte where there is no room
+pub counted-after : {list l₁ l₂ : List ℕ} {n m k : ℕ} {xs ys : List ℕ} → length l₁ ≡ length list → Least n (length l₁) k → Counted list l₁ n xs → Counted (tailOf k l₁) l₂ m ys
+    → Counted list (putMid k (length l₁ - k) l₁ l₂) (n + m) (xs ++ ys)
+counted-after {list} {l₁} {l₂} {n} {m} {k} {xs} {ys} kept w p q =
+    let a = length-append xs ys in
+    let e = p .count in
+    let f = q .count in
+    record {
+      count = omega (arith, a, e, f);
+      fits = λ h.
+          let i : k ≡ n = w .first (omega (arith, a, e, h, kept)) in
+          let r = p .fits (omega (arith, a, h)) in
+          let part : tailOf k l₁ ≡ drop (length xs) list = tail-part k l₁ ∙ ap₂ drop i r ∙ drop-at xs (drop (length xs) list) n (sym e) in
+          let t = q .fits (let z = ap length part in let y = length-drop (length xs) list in omega arith) in
+          tail-put k l₁ l₂
+          ∙ ap₂ _++_ (ap₂ take i r ∙ take-at xs (drop (length xs) list) n (sym e)) (t ∙ ap (λ l. ys ++ drop (length ys) l) part)
+          ∙ sym (append-assoc xs ys (drop (length ys) (drop (length xs) list)))
+          ∙ ap (λ l. xs ++ ys ++ l) (drop-drop (length ys) (length xs) list ∙ ap (λ j. drop j list) (sym a));
+    }
 
-  -- xs, and ys after them
-  pub lists-after : {xs ys : List ℕ} → Lists list l₁ n xs → Lists (tailOf n l₁) l₂ m ys → Lists list (putMid n (length l₁ - n) l₁ l₂) (n + m) (xs ++ ys)
-  lists-after {xs} {ys} f g h =
-      let a = length-append xs ys in
-      let p = f (omega arith) in
-      let e = p .count in
-      let part : tailOf n l₁ ≡ drop (length xs) list = tail-part n l₁ ∙ ap (drop n) (p .whole) ∙ drop-at xs (drop (length xs) list) n (sym e) in
-      let q = g (let z = ap length part in let y = length-drop (length xs) list in omega arith) in
-      record {
-        count = let z = q .count in omega arith;
-        whole =
-            tail-put n l₁ l₂
-            ∙ ap₂ _++_ (ap (take n) (p .whole) ∙ take-at xs (drop (length xs) list) n (sym e)) (q .whole ∙ ap (λ l. ys ++ drop (length ys) l) part)
-            ∙ sym (append-assoc xs ys (drop (length ys) (drop (length xs) list)))
-            ∙ ap (λ l. xs ++ ys ++ l) (drop-drop (length ys) (length xs) list ∙ ap (λ j. drop j list) (sym a));
-      }
+-- a second call after one that gave n: where its part of the list starts, and what both give, at most an entry a row
+pub record After (list l₁ : List ℕ) (n m k r : ℕ) : Type 0 where
+  pub kept : length l₁ ≡ length list
+  pub place : Least n (length l₁) k
+  pub sum : Least (n + m) listBytes r
+
+pub after-lists : {list l₁ l₂ : List ℕ} {n m k r : ℕ} {xs ys : List ℕ} → After list l₁ n m k r → Lists list l₁ n xs → Lists (tailOf k l₁) l₂ m ys → Lists list (putMid k (length l₁ - k) l₁ l₂) r (xs ++ ys)
+after-lists {xs = xs} {ys = ys} w f g h =
+    let a = length-append xs ys in
+    let p = counted-after (w .kept) (w .place) (f (omega (arith, a, h))) (g (omega (arith, a, h))) in
+    let e = p .count in
+    record { count = w .sum .first (omega (arith, e, h)) ∙ e; fits = p .fits }
 
 -- nothing at all
 pub lists-none : (list : List ℕ) → Lists list list 0 []
-lists-none list h = record { count = refl; whole = refl }
+lists-none list h = record { count = refl; fits = λ g. refl }
 
 pub wrote-none : (list : List ℕ) → Wrote list list 0 []
-wrote-none list = record { room = omega arith; lists = lists-none list; short = λ h. absurd (omega arith) }
+wrote-none list = record { most = omega arith; counted = lists-none list (omega arith); short = λ h. refl }
 
 -- ---- fields
 
@@ -97,5 +108,5 @@ module _ {list pre : List ℕ} {at : ℕ} {l : List ℕ} (f : Front list pre at 
           ∙ set-at pre x r b at (f .long)
           ∙ sym (append-assoc pre (b ∷ []) (drop (at + 1) list) ∙ ap (λ r. pre ++ b ∷ r) (sym (drop-drop 1 at list) ∙ ap (drop 1) e))
 
-  pub front-listed : {n : ℕ} → n ≡ at → Listed list l n pre
-  front-listed e = record { count = e ∙ sym (f .long); whole = f .is ∙ ap (λ n. pre ++ drop n list) (sym (f .long)) }
+  pub front-counted : {n : ℕ} → n ≡ at → Counted list l n pre
+  front-counted e = record { count = e ∙ sym (f .long); fits = λ h. f .is ∙ ap (λ n. pre ++ drop n list) (sym (f .long)) }

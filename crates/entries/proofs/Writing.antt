@@ -25,7 +25,7 @@ use Rattle.formats.proofs.TouchesRead.{fields}
 use Rattle.shape.specs.Shape.{asType, kindsIn, kindsOf}
 use Rattle.value.proofs.Operators.{differ}
 use Rattle.entries.specs.Listing.{Wrote, OneDigit}
-use Rattle.entries.proofs.Fronts.{Text, Front, front-none, front-next, front-byte, front-listed, wrote-none}
+use Rattle.entries.proofs.Fronts.{Text, Front, front-none, front-next, front-byte, front-counted, wrote-none}
 
 -- ---- numbers of one digit, in fields of 2 columns
 
@@ -93,7 +93,7 @@ module _ (p : Path) (few : length p ≤ maxMarks) (action : ℕ) (small : action
         subst (λ bs. Front list bs entryBytes (set l₃ (entryBytes - 1) newline)) in-order (front-byte f₄ newline (omega arith))
 
     pub wrote-entry : Wrote list (set l₃ (entryBytes - 1) newline) entryBytes (numbersEntry p action ks)
-    wrote-entry = record { room = h; lists = λ g. front-listed front refl; short = λ g. absurd (let e = front .long in omega arith) }
+    wrote-entry = record { most = omega arith; counted = front-counted front refl; short = λ g. absurd (let e = front .long in omega arith) }
 
   long : length (numbersEntry p action ks) ≡ entryBytes
   unfolding itemsText
@@ -105,8 +105,8 @@ module _ (p : Path) (few : length p ≤ maxMarks) (action : ℕ) (small : action
       let w = kinds-wide in
       omega (arith, a, b, c, d, w)
 
-  pub wrote-nothing : (list : List ℕ) → length list < entryBytes → Wrote list list 0 (numbersEntry p action ks)
-  wrote-nothing list h = record { room = omega arith; lists = λ g. absurd (let e = long in omega arith); short = λ g. (refl, refl) }
+  pub wrote-nothing : (list : List ℕ) → length list < entryBytes → Wrote list list entryBytes (numbersEntry p action ks)
+  wrote-nothing list h = let e = long in record { most = omega arith; counted = record { count = sym e; fits = λ g. absurd (omega (arith, e, g, h)) }; short = λ g. refl }
 
 -- ---- buttons
 

@@ -1,9 +1,9 @@
--- What the functions of this crate ensure: the bytes of a task's entries stand at the front of the list that was lent, and bytes
--- after them are as they were. Rests on crate formats' lists, and on crate state's contracts.
+-- What the functions of this crate ensure: how many bytes a task's entries are, and, where the list that was lent has room for them, that
+-- they stand at its front and bytes after them are as they were. Rests on crate formats' lists, and on crate state's contracts.
 use mathlib.Core.Path.{_≡_}
 use mathlib.Core.Bool.{Bool, false, not}
 use mathlib.Core.List.{List, _∷_, _++_}
-use Prim.Native.Nat.{ℕ, zero, suc, _^_, _<_, _≤_}
+use Prim.Native.Nat.{ℕ, zero, suc, _*_, _^_, _<_, _≤_}
 use lib.ListN.{length, drop, getD}
 use Rattle.decimal.specs.Path.{Path, maxMarks, pathOf}
 use Rattle.tophat.specs.Syntax.{maxLeaves, Ty, leaves, Code, next, TaskOf, before, Env, Store}
@@ -15,28 +15,39 @@ use Rattle.tophat.specs.Showing.{offers, buttonIf}
 use Rattle.tophat.proofs.ComputeNormalising.{rightFails}
 use Rattle.tophat.proofs.ComputeEntries.{continueIf, entries}
 use Rattle.rows.specs.Kinds.{taskK, gateK}
-use Rattle.rows.specs.Rows.{OfKind, opA}
+use Rattle.rows.specs.Rows.{maxRows, OfKind, opA}
 use Rattle.shape.specs.Shape.{asShape}
 use Rattle.state.specs.Layout.{at}
 use Rattle.state.specs.Holds.{Sits, Holds, World}
+use Rattle.formats.specs.Touches.{entryBytes}
 use Rattle.formats.specs.Lists.{listText, under, Fits}
 
 -- ---- bytes at the front of a list
 
--- list₁ is list with the bytes at its front; n is how many
-pub record Listed (list list₁ : List ℕ) (n : ℕ) (bytes : List ℕ) : Type 0 where
+-- an entry a row
+abbrev pub listBytes : ℕ
+listBytes = maxRows * entryBytes
+
+-- n is how many the bytes are; where the list has room for them, list₁ is list with them at its front
+pub record Counted (list list₁ : List ℕ) (n : ℕ) (bytes : List ℕ) : Type 0 where
   pub count : n ≡ length bytes
-  pub whole : list₁ ≡ bytes ++ drop (length bytes) list
+  pub fits : length bytes ≤ length list → list₁ ≡ bytes ++ drop (length bytes) list
 
--- where there is room for them
+-- of bytes that are at most an entry a row
 abbrev pub Lists : List ℕ → List ℕ → ℕ → List ℕ → Type 0
-Lists list list₁ n bytes = length bytes ≤ length list → Listed list list₁ n bytes
+Lists list list₁ n bytes = length bytes ≤ listBytes → Counted list list₁ n bytes
 
--- without room every byte is as it was
+-- of one entry or none: without room every byte is as it was
 pub record Wrote (list list₁ : List ℕ) (n : ℕ) (bytes : List ℕ) : Type 0 where
-  pub room : n ≤ length list
-  pub lists : Lists list list₁ n bytes
-  pub short : length list < length bytes → (n ≡ 0) × (list₁ ≡ list)
+  pub most : n ≤ entryBytes
+  pub counted : Counted list list₁ n bytes
+  pub short : length list < length bytes → list₁ ≡ list
+
+-- r is the smaller of two
+pub record Least (a b r : ℕ) : Type 0 where
+  pub at-most : r ≤ b
+  pub first : a ≤ b → r ≡ a
+  pub second : b ≤ a → r ≡ b
 
 -- ---- paths
 

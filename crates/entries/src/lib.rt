@@ -1,5 +1,5 @@
-// The entries that a task shows, written as bytes one after another into the list that is lent (01, "Touches and what is shown").
-// Rests on crate decimal for fields, on crate normalising for what a button would do, and on crate running for rows that hand on.
+// The entries that a task shows, written as bytes one after another into the list that is lent (01, "Touches and what is shown"); lent a
+// list of no bytes they are counted. Rests on crate decimal for fields, on crate normalising for what a button would do, and on crate running for rows that hand on.
 use decimal::field;
 use decimal::field::ACTION_COLUMNS;
 use decimal::field::NEWLINE;
@@ -43,7 +43,7 @@ ghost use Rattle.rows.specs.Rows.{maxRows, OfKind, FromKind, UpToKind};
 ghost use Rattle.state.specs.Contracts.{Fine};
 ghost use Rattle.running.specs.Hands.{Unhanded};
 ghost use Rattle.formats.specs.Lists.{noKinds, numbersEntry};
-ghost use Rattle.entries.specs.Listing.{Wrote, AtPath, OneDigit, ContentOk, GoesOnOk, whoOf, ShutOk, EntriesOk};
+ghost use Rattle.entries.specs.Listing.{listBytes, Least, Wrote, AtPath, OneDigit, ContentOk, GoesOnOk, whoOf, ShutOk, EntriesOk};
 
 // How many bytes of entries a task shows at most.
 pub const LIST_BYTES: usize = MAX_ROWS * ENTRY_BYTES;
@@ -54,13 +54,23 @@ const LAST: usize = ENTRY_BYTES - 1;
 // What one mark more would add to a path of 16 marks.
 const MOST_UNIT: u32 = 1 << MAX_MARKS;
 
-// An entry at the front of the list, where there is room for it; how many bytes were written.
+// The smaller of two numbers.
+fn least(a: usize, b: usize) -> usize
+    ensures { λ r. ⌜ Least a b r ⌝ }
+{
+    if a < b {
+        return a;
+    }
+    b
+}
+
+// An entry at the front of the list, where there is room for it; how many bytes it has.
 fn write_entry(list: &mut [u8], marks: u32, action: u32, kinds: [u32; MAX_LEAVES]) -> usize
     requires { ⌜ (length (pathOf marks) ≤ maxMarks) × (action < 10) × OneDigit kinds ⌝ }
     ensures { λ r. ⌜ Wrote (now (list .entry)) (now (list .exit)) r (numbersEntry (pathOf marks) action kinds) ⌝ }
 {
     if list.len() < ENTRY_BYTES {
-        return 0;
+        return ENTRY_BYTES;
     }
     path::write(list, 0, marks);
     field::write(list, ENTRY_ACTION_AT, ACTION_COLUMNS, action);
@@ -69,7 +79,7 @@ fn write_entry(list: &mut [u8], marks: u32, action: u32, kinds: [u32; MAX_LEAVES
     ENTRY_BYTES
 }
 
-// The entry of a button, where it can be pressed.
+// The entry of a button, where it can be pressed; how many bytes it has.
 fn button(list: &mut [u8], marks: u32, action: u32, enabled: bool) -> usize
     requires { ⌜ (length (pathOf marks) ≤ maxMarks) × (action < 10) ⌝ }
     ensures { λ r. ⌜ Wrote (now (list .entry)) (now (list .exit)) r (cond enabled (numbersEntry (pathOf marks) action noKinds) []) ⌝ }
@@ -107,7 +117,7 @@ fn offer(
     list: &mut [u8],
 ) -> usize
     requires { ⌜ Fine (now rows) row 0 × FromKind (now rows) row (taskK editK) × UpToKind (now rows) row (taskK updateK) × (length (pathOf marks) ≤ maxMarks) ⌝ }
-    ensures { λ r. ⌜ (r ≤ length (now (list .entry))) × ((env : List ℕ) (d : ℕ) → (v : Who) → EntriesOk v (now (rows .entry)) (now (state .entry)) row env d (pathOf marks) (now (list .entry)) (now (list .exit)) r) ⌝ }
+    ensures { λ r. ⌜ (r ≤ listBytes) × ((env : List ℕ) (d : ℕ) → (v : Who) → EntriesOk v (now (rows .entry)) (now (state .entry)) row env d (pathOf marks) (now (list .entry)) (now (list .exit)) r) ⌝ }
 {
     let shape = content(rows, state, row);
     write_entry(list, marks, GIVE, leaf_kinds(shape))
@@ -143,12 +153,13 @@ fn choice(
     list: &mut [u8],
 ) -> usize
     requires { ⌜ Fine (now rows) row depth × OfKind (now rows) row (taskK xorK) × Unhanded (now rows) (now state) row × (length (pathOf marks) ≤ maxMarks) ⌝ }
-    ensures { λ r. ⌜ (r ≤ length (now (list .entry))) × ((v : Who) → EntriesOk v (now (rows .entry)) (now (state .entry)) row (now (env .entry)) depth (pathOf marks) (now (list .entry)) (now (list .exit)) r) ⌝ }
+    ensures { λ r. ⌜ (r ≤ listBytes) × ((v : Who) → EntriesOk v (now (rows .entry)) (now (state .entry)) row (now (env .entry)) depth (pathOf marks) (now (list .entry)) (now (list .exit)) r) ⌝ }
 {
     let left = tried(rows, state, operand(rows, row, 1), env, depth);
     let right = tried(rows, state, operand(rows, row, 2), env, depth);
     let n = button(list, marks, LEFT, !left);
-    n + button(&mut list[n..], marks, RIGHT, !right)
+    let at = least(n, list.len());
+    n + button(&mut list[at..], marks, RIGHT, !right)
 }
 
 // Whether the row is of kind 50 and shows them nothing: its role is another's, or it has no touch left (CR 6). 0 is anyone.
@@ -169,7 +180,7 @@ fn shut(rows: &[u32; ROWS_WORDS], state: &[u32; STATE_SIZE], row: usize, who: u3
 }
 
 // The entries that the task at the row shows a role, or anyone (0), each with the path of these marks in front, from the front of the
-// list on; how many bytes they are. What one mark more adds to the path is `unit`.
+// list on, where it has room for them; how many bytes they are, room or not. What one mark more adds to the path is `unit`.
 pub fn entries(
     rows: &[u32; ROWS_WORDS],
     state: &[u32; STATE_SIZE],
@@ -182,7 +193,7 @@ pub fn entries(
     list: &mut [u8],
 ) -> usize
     requires { ⌜ Fine (now rows) row depth × AtPath marks unit ⌝ }
-    ensures { λ r. ⌜ (r ≤ length (now (list .entry))) × EntriesOk (whoOf who) (now (rows .entry)) (now (state .entry)) row (now (env .entry)) depth (pathOf marks) (now (list .entry)) (now (list .exit)) r ⌝ }
+    ensures { λ r. ⌜ (r ≤ listBytes) × EntriesOk (whoOf who) (now (rows .entry)) (now (state .entry)) row (now (env .entry)) depth (pathOf marks) (now (list .entry)) (now (list .exit)) r ⌝ }
 {
     let part = handed_on(rows, state, row);
     if part != 0 {
@@ -203,7 +214,9 @@ pub fn entries(
         44 => {
             let n = entries(rows, state, a, env, depth, who, marks, unit, list);
             let enabled = goes_on(rows, state, row, env, depth);
-            n + button(&mut list[n..], marks, CONTINUE, enabled)
+            let at = least(n, list.len());
+            let m = button(&mut list[at..], marks, CONTINUE, enabled);
+            least(n + m, LIST_BYTES)
         }
         46..=47 => {
             if unit == MOST_UNIT {
@@ -211,18 +224,19 @@ pub fn entries(
             }
             let two = 2 * unit;
             let n = entries(rows, state, a, env, depth, who, marks + unit, two, list);
-            n
-                + entries(
-                    rows,
-                    state,
-                    b,
-                    env,
-                    depth,
-                    who,
-                    marks + two,
-                    two,
-                    &mut list[n..],
-                )
+            let at = least(n, list.len());
+            let m = entries(
+                rows,
+                state,
+                b,
+                env,
+                depth,
+                who,
+                marks + two,
+                two,
+                &mut list[at..],
+            );
+            least(n + m, LIST_BYTES)
         }
         48 => choice(rows, state, row, env, depth, marks, list),
         _ => 0,

@@ -7,7 +7,7 @@ use Prim.Native.Nat.{ℕ, zero, suc, _+_, _*_, _-_, _≤_, _<_}
 use native.Mathlib.Numerals.{add-one}
 use native.Mathlib.Nat.{le-of-lt}
 use native.Mathlib.Omega.{arith}
-use borrow.Author.Tests.{le-leb, lt-leb, eqb-true, eqb-false}
+use borrow.Author.Tests.{le-leb, leb-true, eqb-true, eqb-false}
 use borrow.Table.Steps.{cases}
 use lib.Dec.{leb, eqb}
 use lib.IntN.{ℤ}
@@ -36,9 +36,9 @@ use Rattle.state.specs.Contracts.{Fine, ValueOk}
 use Rattle.tophat.specs.Roles.{isRole, is}
 use Rattle.formats.specs.Touches.{entryBytes}
 use Rattle.formats.specs.Lists.{listText}
-use Rattle.formats.proofs.EntriesFit.{entries-bytes}
-use Rattle.entries.specs.Listing.{whoOf, Listed, EntriesOk}
-use Rattle.entries.proofs.Bounds.{entries-whole}
+use Rattle.formats.proofs.EntriesFit.{entries-bytes, bytes-most}
+use Rattle.entries.specs.Listing.{whoOf, Counted, EntriesOk}
+use Rattle.entries.proofs.Bounds.{entries-counted}
 use Rattle.flow.specs.declared.look.Looked.{Looked}
 use Rattle.flow.specs.declared.open.Opening.{Opening}
 use Rattle.call_definitions.specs.Memory.{LookAnswer, lookRefusal, flag, valueMemory, hasOne}
@@ -46,8 +46,8 @@ use Rattle.call_definitions.specs.States.{FlowState, taskState}
 use Rattle.call_definitions.specs.Calls.{Opened, refusedBy, restOf, opened, lookRest, lookIn, lookCall}
 use Rattle.call_definitions.proofs.LookAnswered.{looking}
 use Rattle.flow.specs.Opens.{Ready, OpensTo, to-task, to-failed, Opens, OpenOk}
-use Rattle.flow.specs.Looks.{Filled, FailsOk, ShowOk, ShowFailedOk, LookOk}
-use Rattle.flow.proofs.SiteLaws.{sits, around, small, marks, few-tasks, ready-writing}
+use Rattle.flow.specs.Looks.{Filled, FailsOk, RoomOk, ShowOk, ShowFailedOk, LookOk}
+use Rattle.flow.proofs.SiteLaws.{sits, around, small, marks, tasks-rows, few-tasks, ready-writing}
 use Rattle.flow.proofs.OpenLaws.{opened-fine, opened-fits}
 
 -- ---- the value
@@ -83,65 +83,73 @@ shut g = record { number = g; valued = 0; fails = 0; bytes = 0 }
 refused-filled : (g : ℕ) (vs : List ℤ) (list : List ℕ) → Filled (lookRefusal g vs list) (shut g) vs list
 refused-filled g vs list = record { number = refl; hasValue = refl; fails = refl; bytes = refl; value = refl; list = refl }
 
-module _ (role : ℕ) (own words env work work₁ : List ℕ) (n bytes : ℕ) (room : length work ≡ maxRows * entryBytes) (f : EntriesOk (whoOf role) own words (n - 1) env 0 (pathOf 0) work work₁ bytes) where
-  module _ {rows ws : List ℤ} {c : Code} {t : TaskOf c} {s : Store} (x : Ready rows ws own words n c t s) (i : isRole role ≡ true) where
-    abbrev text : List ℕ
-    text = listText (entries (is role) c [] s t)
+module _ (role : ℕ) (own words : List ℕ) (n : ℕ) where
+  -- ---- room
 
-    listed : Listed work work₁ bytes text
-    listed =
-        let v = ready-writing x in
-        let k = few-tasks (x .site) in
-        entries-whole (is role) (subst (λ w. EntriesOk w own words (n - 1) env 0 (pathOf 0) work work₁ bytes) (who-role role i) f) c (sits (x .site)) (marks (x .site)) (x .cells) (x .type) s t (x .writes .typed) (around (x .site) (v .stores) (x .writes .stored)) (v .holds) (omega (arith, room, k))
+  module _ {rows ws : List ℤ} {c : Code} {t : TaskOf c} {s : Store} (x : Ready rows ws own words n c t s) where
+    text-long : length (listText (entries (is role) c [] s t)) ≡ length (entries (is role) c [] s t) * entryBytes
+    text-long = entries-bytes (is role) (small (x .site)) (x .writes .stored) (x .writes .typed) (marks (x .site))
 
-    counted : bytes ≡ length (entries (is role) c [] s t) * entryBytes
-    counted = listed .count ∙ entries-bytes (is role) (small (x .site)) (x .writes .stored) (x .writes .typed) (marks (x .site))
+    -- an entry a row is enough
+    text-most : length (listText (entries (is role) c [] s t)) ≤ n * entryBytes
+    text-most = let b = bytes-most (is role) (small (x .site)) (x .writes .stored) (x .writes .typed) (marks (x .site)) in let l = tasks-rows (x .site) in omega (arith, b, l)
 
-    taken : take bytes work₁ ≡ text
-    taken = ap (take bytes) (listed .whole) ∙ take-at text (drop (length text) work) bytes (sym (listed .count))
+  pub room-enough : (room : ℕ) → n * entryBytes ≤ room → RoomOk own words n role room true
+  room-enough room h rows ws c t s x i =
+      let e = text-long x in
+      let b = text-most x in
+      sym (le-leb (length (entries (is role) c [] s t) * entryBytes) room (omega (arith, e, b, h)))
 
-    refuses : (vs : List ℤ) (list : List ℕ) → length list < bytes → lookRest role vs list (taskState c t s) ≡ lookRefusal listTooShort vs list
+  -- ---- what `entries` gives, lent some list
+  module _ {env list list₁ : List ℕ} {bytes : ℕ} (f : EntriesOk (whoOf role) own words (n - 1) env 0 (pathOf 0) list list₁ bytes) where
+    module _ {rows ws : List ℤ} {c : Code} {t : TaskOf c} {s : Store} (x : Ready rows ws own words n c t s) (i : isRole role ≡ true) where
+      listed : Counted list list₁ bytes (listText (entries (is role) c [] s t))
+      listed =
+          let v = ready-writing x in
+          entries-counted (is role) (subst (λ w. EntriesOk w own words (n - 1) env 0 (pathOf 0) list list₁ bytes) (who-role role i) f) c (sits (x .site)) (marks (x .site)) (x .cells) (x .type) s t (x .writes .typed) (around (x .site) (v .stores) (x .writes .stored)) (v .holds) (few-tasks (x .site))
+
+      counted : bytes ≡ length (entries (is role) c [] s t) * entryBytes
+      counted = listed .count ∙ text-long x
+
+      -- the failing flag: a task that fails shows no entry
+      fails-is : (b : Bool) → FailsOk own words (n - 1) bytes b → b ≡ failing c [] s t
+      fails-is b h = cases (eqb bytes 0)
+          (λ y. let v = ready-writing x in h .0 (eqb-true bytes 0 y) c (sits (x .site)) (x .cells) [] (x .type) s [] t (x .writes .typed) (around (x .site) (v .stores) (x .writes .stored)) (v .holds))
+          (λ y. h .1 (eqb-false bytes 0 y) ∙ sym (cases (failing c [] s t)
+          (λ u. let z = ap length (failing-empty (is role) c [] s t u) in let e = counted in absurd (eqb-false bytes 0 y (omega (arith, z, e))))
+          (λ u. u)))
+
+    pub room-counted : (room : ℕ) → RoomOk own words n role room (leb bytes room)
+    room-counted room rows ws c t s x i = ap (λ k. leb k room) (counted x i)
+
+  -- ---- by whether there is room
+
+  module _ (vs : List ℤ) (list : List ℕ) (has : Bool) (room : RoomOk own words n role (length list) has) where
+    -- ground 24
+    pub show-24 : has ≡ false → ShowOk own words n role vs list (shut listTooShort) vs list
     unfolding lookRest
-    refuses vs list l =
-        let e = counted in
-        let b : leb (length (entries (is role) c [] s t) * entryBytes) (length list) ≡ false = lt-leb (length (entries (is role) c [] s t) * entryBytes) (length list) (omega (arith, l, e)) in
-        rw b refl
+    show-24 z rows ws c t s x e i = let b = sym (room rows ws c t s x i) ∙ z in rw b (refused-filled listTooShort vs list)
 
-    answers : (vs : List ℤ) (list : List ℕ) → bytes ≤ length list → lookRest role vs list (taskState c t s) ≡ looking (taskState c t s) (entries (is role) c [] s t) (failing c [] s t) list
-    unfolding lookRest
-    answers vs list l =
-        let e = counted in
-        let b : leb (length (entries (is role) c [] s t) * entryBytes) (length list) ≡ true = le-leb (length (entries (is role) c [] s t) * entryBytes) (length list) (omega (arith, l, e)) in
-        rw b refl
-
-    -- the failing flag: a task that fails shows no entry
-    fails-is : (b : Bool) → FailsOk own words (n - 1) bytes b → b ≡ failing c [] s t
-    fails-is b h = cases (eqb bytes 0)
-        (λ y. let v = ready-writing x in h .0 (eqb-true bytes 0 y) c (sits (x .site)) (x .cells) [] (x .type) s [] t (x .writes .typed) (around (x .site) (v .stores) (x .writes .stored)) (v .holds))
-        (λ y. h .1 (eqb-false bytes 0 y) ∙ sym (cases (failing c [] s t)
-        (λ u. let z = ap length (failing-empty (is role) c [] s t u) in let e = counted in absurd (eqb-false bytes 0 y (omega (arith, z, e))))
-        (λ u. u)))
-
-  -- ground 24
-  pub show-24 : (vs : List ℤ) (list : List ℕ) → length list < bytes → ShowOk own words n role vs list (shut listTooShort) vs list
-  show-24 vs list l rows ws c t s x e i = subst (λ a. Filled a (shut listTooShort) vs list) (sym (refuses x i vs list l)) (refused-filled listTooShort vs list)
-
-  module _ (found : Found) (v : ValueOk own words (n - 1) found) (long : length (found .value .leaves) ≡ maxLeaves) where
-    pub show-0 : (vs vs₁ : List ℤ) (list list₁ : List ℕ) (has failed : ℕ) (b : Bool) → bytes ≤ length list → FailsOk own words (n - 1) bytes b → failed ≡ flag b → has ≡ flag (found .has)
-        → list₁ ≡ take bytes work₁ ++ drop bytes list → vs₁ ≡ laid (toZ w32) (found .value .leaves) vs → ShowOk own words n role vs list (record { number = 0; valued = has; fails = failed; bytes = bytes }) vs₁ list₁
-    show-0 vs vs₁ list list₁ has failed b l fb p q o u rows ws c t s x e i =
-        let w = ready-writing x in
-        let d : found ≡ asFound (value c t s) = v 0 c (sits (x .site)) (x .cells) [] (x .type) s t (x .writes .typed) (x .writes .stored) (small (x .site)) small-nil (w .holds) (w .stores) in
-        let y = listed x i in
-        subst (λ a. Filled a (record { number = 0; valued = has; fails = failed; bytes = bytes }) vs₁ list₁) (sym (answers x i vs list l))
-        (record {
-          number = refl;
-          hasValue = q ∙ ap (λ r. flag (r .has)) d ∙ value-flag (value c t s);
-          fails = p ∙ ap flag (fails-is x i b fb);
-          bytes = y .count;
-          value = u ∙ laid-all (found .value .leaves) vs (long ∙ sym e) ∙ ap (λ r. map (toZ w32) (r .value .leaves)) d ∙ value-back (value c t s) (value-type (x .writes .typed) (x .writes .stored));
-          list = o ∙ ap₂ _++_ (taken x i) (ap (λ n. drop n list) (y .count));
-        })
+    module _ (z : has ≡ true) {env list₁ : List ℕ} {bytes : ℕ} (f : EntriesOk (whoOf role) own words (n - 1) env 0 (pathOf 0) list list₁ bytes) (found : Found) (v : ValueOk own words (n - 1) found)
+        (long : length (found .value .leaves) ≡ maxLeaves) where
+      pub show-0 : {vs₁ : List ℤ} {valued failed : ℕ} {b : Bool} → FailsOk own words (n - 1) bytes b → failed ≡ flag b → valued ≡ flag (found .has) → vs₁ ≡ laid (toZ w32) (found .value .leaves) vs
+          → ShowOk own words n role vs list (record { number = 0; valued = valued; fails = failed; bytes = bytes }) vs₁ list₁
+      unfolding lookRest
+      show-0 {b = b} fb p q u rows ws c t s x e i =
+          let w = ready-writing x in
+          let d : found ≡ asFound (value c t s) = v 0 c (sits (x .site)) (x .cells) [] (x .type) s t (x .writes .typed) (x .writes .stored) (small (x .site)) small-nil (w .holds) (w .stores) in
+          let y = listed f x i in
+          let l = text-long x in
+          let o : leb (length (entries (is role) c [] s t) * entryBytes) (length list) ≡ true = sym (room rows ws c t s x i) ∙ z in
+          let g = leb-true (length (entries (is role) c [] s t) * entryBytes) (length list) o in
+          rw o (record {
+            number = refl;
+            hasValue = q ∙ ap (λ r. flag (r .has)) d ∙ value-flag (value c t s);
+            fails = p ∙ ap flag (fails-is f x i b fb);
+            bytes = y .count;
+            value = u ∙ laid-all (found .value .leaves) vs (long ∙ sym e) ∙ ap (λ r. map (toZ w32) (r .value .leaves)) d ∙ value-back (value c t s) (value-type (x .writes .typed) (x .writes .stored));
+            list = y .fits (omega (arith, l, g));
+          })
 
 -- a last row that failed as a whole
 pub show-failed : (vs vs₁ : List ℤ) → vs₁ ≡ laid (toZ w32) (noValue .leaves) vs → ShowFailedOk vs (record { number = 0; valued = 0; fails = 1; bytes = 0 }) vs₁
@@ -223,19 +231,6 @@ part-is rows ws role vs list a vs₁ list₁ h =
     front : (o : Opened) → Front (lookIn role vs list o)
     front (refusedBy g) = (omega arith, refl)
     front (restOf z) = cases (isRole role) (λ y. rw y (of-rest z)) (λ y. rw y (omega arith, refl))
-
--- ---- bytes over the front of a list, one by one
-
-pub put-more : (from to now : List ℕ) (i v : ℕ) → i < length from → i < length to → now ≡ take i from ++ drop i to → v ≡ getD from i 0 → set now i v ≡ take (i + 1) from ++ drop (i + 1) to
-put-more from to now i v h g e q =
-    ap (λ l. set l i v) (e ∙ ap (λ l. take i from ++ l) (drop-cons to i 0 g))
-    ∙ set-at (take i from) (getD to i 0) (drop (suc i) to) v i (length-take-le i from (le-of-lt h))
-    ∙ sym (append-snoc (take i from) v (drop (suc i) to))
-    ∙ ap (λ l. l ++ drop (suc i) to) (ap (λ w. take i from ++ w ∷ []) q ∙ sym (take-suc from i 0 h))
-    ∙ rw add-one
-
-pub put-done : (from to now : List ℕ) (i n : ℕ) → i ≡ n → now ≡ take i from ++ drop i to → now ≡ take n from ++ drop n to
-put-done from to now i n e h = subst (λ k. now ≡ take k from ++ drop k to) e h
 
 -- ---- the part
 

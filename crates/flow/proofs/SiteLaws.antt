@@ -80,12 +80,11 @@ module _ {rows : List ℤ} {own : List ℕ} {n : ℕ} {c : Code} {Σ : List Ty} 
   pub marks : MarksFit 0 c
   marks = marks-fit a
 
+  pub tasks-rows : taskRows c ≤ n
+  tasks-rows = let e = z .count in let t = task-rows-few (ownRows rows) (rowCount rows) (flowRows a) (loads-passed (a .loads) .some-rows) in omega (arith, e, t)
+
   pub few-tasks : taskRows c ≤ maxRows
-  few-tasks =
-      let l = loads-passed (a .loads) in
-      let f = l .few in
-      let t = task-rows-few (ownRows rows) (rowCount rows) (flowRows a) (l .some-rows) in
-      omega (arith, f, t)
+  few-tasks = let t = tasks-rows in let f = few-rows in omega (arith, t, f)
 
   -- ---- words that write a state, and lent memory
 

@@ -2,15 +2,18 @@
 -- them. Rests on Calls and Opens.
 use mathlib.Core.Path.{_≡_}
 use mathlib.Core.Bool.{Bool, true, false}
-use mathlib.Core.List.{List}
+use mathlib.Core.List.{List, []}
 use Prim.Native.Nat.{ℕ, _*_}
+use lib.Dec.{leb}
 use lib.IntN.{ℤ}
 use lib.ListN.{length, replicate}
 use Rattle.tophat.specs.Syntax.{maxLeaves, Ty, Code, TaskOf, Store}
-use Rattle.tophat.specs.Roles.{isRole}
+use Rattle.tophat.specs.Roles.{isRole, is}
+use Rattle.tophat.proofs.ComputeEntries.{entries}
 use Rattle.rows.specs.Enclosing.{maxBinders}
 use Rattle.state.specs.Holds.{valueLength}
 use Rattle.state.specs.Contracts.{FailingOk}
+use Rattle.formats.specs.Touches.{entryBytes}
 use Rattle.flow.specs.declared.look.Looked.{Looked}
 use Rattle.call_definitions.specs.Memory.{LookAnswer}
 use Rattle.call_definitions.specs.States.{taskState, failedState}
@@ -28,6 +31,11 @@ pub record Filled (a : LookAnswer) (r : Looked) (vs : List ℤ) (bs : List ℕ) 
 -- whether a rest that shows so many bytes fails: asked where it shows none, else no
 abbrev pub FailsOk : List ℕ → List ℕ → ℕ → ℕ → Bool → Type 0
 FailsOk own words i bytes r = (bytes ≡ 0 → FailingOk own words i (replicate (maxBinders * valueLength) 0) 0 r) × ((bytes ≡ 0 → ⊥) → r ≡ false)
+
+-- whether so many bytes are room for what a role is shown of a rest that is opened
+abbrev pub RoomOk : List ℕ → List ℕ → ℕ → ℕ → ℕ → Bool → Type 0
+RoomOk own words n role room r = (rows ws : List ℤ) (c : Code) (t : TaskOf c) (s : Store) → Ready rows ws own words n c t s → isRole role ≡ true
+    → r ≡ leb (length (entries (is role) c [] s t) * entryBytes) room
 
 -- what is shown to a role of a rest that is opened
 abbrev pub ShowOk : List ℕ → List ℕ → ℕ → ℕ → List ℤ → List ℕ → Looked → List ℤ → List ℕ → Type 0

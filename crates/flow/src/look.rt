@@ -1,7 +1,7 @@
 // The call look (01, "Four calls"): what a rest shows, in lent memory. Rests on `open`, and on crates running, normalising and entries.
 use super::open::open;
-use entries::LIST_BYTES;
 use entries::entries;
+use formats::ENTRY_BYTES;
 use normalising::failing;
 use rows::ROWS_WORDS;
 use rows::grounds::EVENT_NOT_READ;
@@ -14,9 +14,8 @@ use value::NO_VALUE;
 use value::Value;
 use word::copy_out;
 ghost use mathlib.Core.Path.{_≡_};
-ghost use mathlib.Core.List.{_++_};
 ghost use Prim.Native.Nat.{_-_, _≤_};
-ghost use lib.ListN.{length, take, drop};
+ghost use lib.ListN.{length};
 ghost use mir.Syntax.{w32};
 ghost use mir.Val.{toZ};
 ghost use Rattle.word.specs.Laid.{laid};
@@ -24,7 +23,7 @@ ghost use Rattle.tophat.specs.Syntax.{maxLeaves};
 ghost use Rattle.state.specs.Contracts.{Fine};
 ghost use Rattle.call_definitions.specs.Memory.{flag};
 ghost use Rattle.call_definitions.specs.Calls.{lookCall};
-ghost use Rattle.flow.specs.Looks.{Filled, FailsOk, ShowOk, ShowFailedOk, LookOk};
+ghost use Rattle.flow.specs.Looks.{Filled, FailsOk, RoomOk, ShowOk, ShowFailedOk, LookOk};
 
 // 0 or the ground, the flags, and how many bytes the part has.
 pub struct Looked {
@@ -41,16 +40,6 @@ fn flag(b: bool) -> u32
         return 1;
     }
     0
-}
-
-// The first n bytes, over the front of the list.
-fn put_bytes(from: &[u8], n: usize, list: &mut [u8])
-    requires { ⌜ (n ≤ length (now from)) × (n ≤ length (now list)) ⌝ }
-    ensures { λ _. ⌜ now (list .exit) ≡ take n (now (from .entry)) ++ drop n (now (list .entry)) ⌝ }
-{
-    for i in 0..n {
-        list[i] = from[i];
-    }
 }
 
 // The leaves' numbers, over the front of the lent words.
@@ -74,22 +63,38 @@ fn fails(own: &[u32; ROWS_WORDS], words: &[u32; STATE_SIZE], row: usize, bytes: 
     failing(own, words, row, &none, 0)
 }
 
-// What the rest shows to the role, where the list has room for it.
+// Whether so many bytes are room for what the rest shows the role. An entry a row is enough; else the entries are counted, lent no list.
+fn has_room(
+    own: &[u32; ROWS_WORDS],
+    words: &[u32; STATE_SIZE],
+    n: usize,
+    role: u32,
+    room: usize,
+) -> bool
+    requires { ⌜ (1 ≤ n) × Fine (now own) (n - 1) 0 ⌝ }
+    ensures { λ r. ⌜ RoomOk (now (own .entry)) (now (words .entry)) n role room r ⌝ }
+{
+    if n * ENTRY_BYTES <= room {
+        return true;
+    }
+    let none = [0u32; ENV_WORDS];
+    let mut nothing = [0u8; 0];
+    entries(own, words, n - 1, &none, 0, role, 0, 1, &mut nothing) <= room
+}
+
+// What the rest shows to the role, where the list has room for it: the entries are written into the list itself.
 fn show(
     own: &[u32; ROWS_WORDS],
     words: &[u32; STATE_SIZE],
     n: usize,
     role: u32,
-    work: &mut [u8; LIST_BYTES],
     value: &mut [i32],
     list: &mut [u8],
 ) -> Looked
     requires { ⌜ (1 ≤ n) × Fine (now own) (n - 1) 0 ⌝ }
     ensures { λ r. ⌜ ShowOk (now (own .entry)) (now (words .entry)) n role (now (value .entry)) (now (list .entry)) r (now (value .exit)) (now (list .exit)) ⌝ }
 {
-    let none = [0u32; ENV_WORDS];
-    let bytes = entries(own, words, n - 1, &none, 0, role, 0, 1, work);
-    if list.len() < bytes {
+    if !has_room(own, words, n, role, list.len()) {
         return Looked {
             number: LIST_TOO_SHORT,
             valued: 0,
@@ -97,10 +102,11 @@ fn show(
             bytes: 0,
         };
     }
+    let none = [0u32; ENV_WORDS];
+    let bytes = entries(own, words, n - 1, &none, 0, role, 0, 1, list);
     let found = running::value(own, words, n - 1);
     let failed = flag(fails(own, words, n - 1, bytes));
     let has_value = flag(found.has);
-    put_bytes(work, bytes, list);
     value_out(found.value, value);
     Looked {
         number: 0,
@@ -150,11 +156,11 @@ pub fn fill(rows: &[i32], state: &[i32], role: u32, value: &mut [i32], list: &mu
     if rest.failed {
         return show_failed(value);
     }
-    let mut work = [0u8; LIST_BYTES];
-    show(&own, &words, rest.n, role, &mut work, value, list)
+    show(&own, &words, rest.n, role, value, list)
 }
 
-// Looks in a role, and hands back the part of the list that was written.
+// Looks in a role, and hands back the part of the list that was written. The part is a new borrow, and the list's own is spent with it: no
+// clause can speak of the bytes behind the part, nor of the list on a refusal. `fill` states the whole list.
 pub fn look<'a>(
     rows: &[i32],
     state: &[i32],

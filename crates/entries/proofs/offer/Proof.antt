@@ -25,4 +25,4 @@ offer-spec = tie.close (tie.spec
     let leaf-kinds = write-entry .before in
     let content = leaf-kinds .before .before in
     let start = content .before .before in
-    (write-entry .write-entry .ensures .room, λ env d v. entries-offer v (start .args .rows .now) (start .args .state .now) (start .args .row) env d (pathOf (start .args .marks)) (start .args .list .now) (write-entry .write-entry .last .0) (write-entry .write-entry .result) (content .content .result) (content .content .ensures) (subst (λ ks. Wrote (start .args .list .now) (write-entry .write-entry .last .0) (write-entry .write-entry .result) (numbersEntry (pathOf (start .args .marks)) (actNumber giving) ks)) (leaf-kinds .leaf-kinds .ensures) (write-entry .write-entry .ensures)))))
+    (omega (arith, write-entry .write-entry .ensures .most), λ env d v. entries-offer v (start .args .rows .now) (start .args .state .now) (start .args .row) env d (pathOf (start .args .marks)) (start .args .list .now) (write-entry .write-entry .last .0) (write-entry .write-entry .result) (content .content .result) (content .content .ensures) (subst (λ ks. Wrote (start .args .list .now) (write-entry .write-entry .last .0) (write-entry .write-entry .result) (numbersEntry (pathOf (start .args .marks)) (actNumber giving) ks)) (leaf-kinds .leaf-kinds .ensures) (write-entry .write-entry .ensures)))))

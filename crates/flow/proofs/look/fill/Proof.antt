@@ -47,7 +47,7 @@ returns-3 c =
 
 show-requires : tie.Need-show-requires
 show-requires c κs =
-    let if3 = c .before .before .before .before .before in
+    let if3 = c .before .before .before .before in
     let if1 = if3 .before .before .before in
     let opening = if1 .before .before in
     let start = opening .before .before .before .before in
@@ -58,7 +58,7 @@ show-requires c κs =
 returns-4 : tie.Need-returns-4
 returns-4 c =
     let show = c .before .before .before in
-    let if3 = show .before .before .before .before .before .before in
+    let if3 = show .before .before .before .before .before in
     let if2 = if3 .before in
     let asked = if2 .before in
     let if1 = asked .before in
@@ -67,7 +67,7 @@ returns-4 c =
     let o = opening .«open» in
     let h = show .show in
     fill-ready (start .args .rows .now) (start .args .state .now) (start .args .role) (start .args .value .now) (start .args .list .now) (o .last .1 .1 .1 .0)
-    (o .last .1 .1 .1 .1 .0) (o .result) (o .ensures) (if1 .if1 .left) (sym (asked .is-role .ensures) ∙ not-false _ (if2 .if2 .left)) (if3 .if3 .left) (h .result) (h .last .1 .1 .1 .1 .1 .0) (h .last .1 .1 .1 .1 .1 .1 .0) (h .ensures)
+    (o .last .1 .1 .1 .1 .0) (o .result) (o .ensures) (if1 .if1 .left) (sym (asked .is-role .ensures) ∙ not-false _ (if2 .if2 .left)) (if3 .if3 .left) (h .result) (h .last .1 .1 .1 .1 .0) (h .last .1 .1 .1 .1 .1 .0) (h .ensures)
 
 pub fill-spec : {M : Type 1} → statement M
 fill-spec = tie.close (tie.spec (λ c κs. search needs) returns (λ c κs. search needs) returns-2 (λ c κs. search needs) (λ c. search needs) returns-3 show-requires (λ c. search needs) (λ c. search needs) returns-4)
