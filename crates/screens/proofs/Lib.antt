@@ -9,3 +9,6 @@ mod ShownCases
 mod BlankCases
 mod WideCases
 mod RoleCases
+mod StoreCases
+mod RuleCases
+mod TouchCases
