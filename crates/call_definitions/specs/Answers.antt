@@ -3,6 +3,7 @@
 -- the grounds before it do not hold. For memories of words each relation derives one answer, the one that the code's contract is an
 -- equation with, and no other (proofs/LoadAnswered, StartAnswered, LookAnswered, HandleAnswered). Rests on Memory and on the calculus'
 -- relations.
+-- Believed.
 use mathlib.Core.Path.{_≡_}
 use mathlib.Core.Bool.{Bool, true, false}
 use mathlib.Core.Option.{none, some}

@@ -1,6 +1,7 @@
 -- The calls start, look and handle as functions that compute, for every content of every memory: what the code's contracts are equations with
--- (load: sheet's Sheet). That they give what the rules alone give, and nothing else, is proved of Answers. Rests on Memory, on the formats, and
--- on the calculus' functions, which proofs tie to its rules.
+-- (load: sheet's Sheet). They give what the rules alone give, and nothing else. Rests on Memory, on the formats, and on the calculus' functions,
+-- which proofs tie to its rules.
+-- For contracts only: tied to Answers by `start-derived` and `start-only` (proofs/StartAnswered), and so for look and handle.
 use mathlib.Core.Bool.{Bool, true, cond, _&&_}
 use mathlib.Core.Option.{Option, none, some}
 use mathlib.Core.List.{List, [], _++_}

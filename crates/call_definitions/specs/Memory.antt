@@ -1,5 +1,6 @@
 -- What the calls answer, and what lent memory holds at exit (01, "Four calls"): a state's words, a value's words, flags and refusals. Rests on
 -- the writing of states and on the calculus' values.
+-- Believed.
 use mathlib.Core.Bool.{Bool, cond}
 use mathlib.Core.Option.{Option, none, some}
 use mathlib.Core.List.{List, []}

@@ -1,6 +1,7 @@
 -- What a state of a flow is: a task of a code, and a store (01, "A task of a row is"). The code is the flow's own; where the flow's start left
 -- the words it is 45 of the flow's type (CR 3), so that all that the rules say of a state they say of that code's task. Here that is said once,
 -- for whatever speaks of states. Rests on the calculus' relations.
+-- Believed.
 use mathlib.Core.Bool.{Bool}
 use mathlib.Core.Option.{Option}
 use mathlib.Core.List.{List, []}

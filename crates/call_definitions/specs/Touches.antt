@@ -2,6 +2,7 @@
 -- what a list of calls leaves of a state, and what stands after any such list, in bytes and words. What a call answers is read off the
 -- calls' own definitions (Calls), which the code's contracts are equations with; all else is said by the calculus' relations and by what
 -- bytes say (formats). Rests on Answers and Calls.
+-- Believed.
 use mathlib.Core.Path.{_≡_}
 use mathlib.Core.Bool.{true, false}
 use mathlib.Core.Option.{none, some}

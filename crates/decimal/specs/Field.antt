@@ -1,5 +1,6 @@
 -- Fields of text: a number right-justified after spaces, written and read (01, "The sheet").
 -- Rests on words (`half`) and on their bits (`ofZ w32`). A byte is a number below 256.
+-- Believed, but for `reading`, the code's answer: for contracts only.
 use Prim.Native.Nat.{ℕ, zero, suc, _+_, _*_, _-_, _/_, _%_}
 use mathlib.Core.Bool.{Bool, true, false, cond, _&&_}
 use mathlib.Core.List.{List, [], _∷_, _++_}

@@ -1,5 +1,6 @@
 -- Paths: which part of a screen an event is for (01, "Touches and what is shown").
 -- Rests on specs/Field.antt for bytes and columns.
+-- Believed down to `readsPathAt`. Paths as numbers are for contracts only: tied to paths by `path-number` and `number-path` (proofs/PathNumbers).
 use Prim.Native.Nat.{ℕ, zero, suc, _+_, _*_, _/_, _%_}
 use mathlib.Core.Bool.{cond}
 use mathlib.Core.List.{List, [], _∷_}

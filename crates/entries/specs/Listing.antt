@@ -1,5 +1,6 @@
 -- What the functions of this crate ensure: how many bytes a task's entries are, and, where the list that was lent has room for them, that
 -- they stand at its front and bytes after them are as they were. Rests on crate formats' lists, and on crate state's contracts.
+-- For contracts only: tied to `lookCall` by the proof of flow's `fill`.
 use mathlib.Core.Path.{_≡_}
 use mathlib.Core.Bool.{Bool, false, not}
 use mathlib.Core.List.{List, _∷_, _++_}

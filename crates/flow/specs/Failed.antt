@@ -1,4 +1,5 @@
 -- What the functions on a last row that failed as a whole leave and answer (CR 3). Rests on crate state's writing and on the calculus' evaluation.
+-- For contracts only: tied to `startCall` by the proof of `start`, and to `opened` by that of `open`.
 use mathlib.Core.Path.{_≡_}
 use mathlib.Core.Bool.{Bool, true}
 use mathlib.Core.List.{List, []}

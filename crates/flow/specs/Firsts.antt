@@ -1,4 +1,5 @@
 -- The cells' first contents, written. Rests on rows' cells and on crate state_check's terms for copied cells.
+-- For contracts only: tied to `startCall` by the proof of `start`.
 use mathlib.Core.List.{List}
 use Prim.Native.Nat.{ℕ}
 use Rattle.tophat.specs.Syntax.{Val}

@@ -1,5 +1,6 @@
 -- What the functions below `look` leave: number, flags, the part's length, value memory and list memory, as the definition has
 -- them. Rests on Calls and Opens.
+-- Believed: `Filled` and `LookOk`, which the contracts of the call name. The rest is for contracts only: tied to `lookCall` by the proof of `fill`.
 use mathlib.Core.Path.{_≡_}
 use mathlib.Core.Bool.{Bool, true, false}
 use mathlib.Core.List.{List, []}

@@ -1,5 +1,6 @@
 -- What `open` answers and leaves (grounds 20 to 23): the number that `opened` gives, and where it is 0, the flow's rows and a state of it, copied
 -- in. Rests on Calls.
+-- For contracts only: `OpenOk` names `opened`, which `opened-derived` and `shut-only` tie to the rules (call_definitions' Grounds).
 use mathlib.Core.Path.{_≡_}
 use mathlib.Core.Bool.{Bool, true, false}
 use mathlib.Core.List.{List}

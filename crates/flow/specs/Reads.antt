@@ -1,4 +1,5 @@
 -- An event as the engine reads it, field by field. Rests on formats' events and on crate handle's.
+-- For contracts only: tied to `eventOf` by the contract of `read_event`.
 use mathlib.Core.Path.{_≡_}
 use mathlib.Core.Bool.{Bool, true, false, cond}
 use mathlib.Core.Option.{Option, none, some, bind}

@@ -1,4 +1,5 @@
 -- What the functions below `start` leave: the task that the first contents come to. Rests on Calls, Failed and crate state's writing.
+-- Believed: `Answered`, which the contracts of `start` and `handle` name. `BeginOk` is for contracts only: tied to `startCall` by the proof of `start`.
 use mathlib.Core.Path.{_≡_}
 use mathlib.Core.Bool.{true, false}
 use mathlib.Core.List.{List, []}

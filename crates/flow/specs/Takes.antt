@@ -1,4 +1,5 @@
 -- What a flow answers to an event that is read. Rests on Calls and Reads.
+-- For contracts only: tied to `handleCall` by `take-handles` (proofs/TakeLaws).
 use mathlib.Core.Bool.{true}
 use mathlib.Core.Option.{Option}
 use mathlib.Core.List.{List}

@@ -60,7 +60,7 @@ pub extern "C" fn nannyjiffy_look(
     seen.number
 }
 
-// Handles an event: 0, or the first ground of 20 to 23, 8 and 9.
+// Handles an event: 0, or the first ground of 20 to 23, 8, 9, 30 and 31.
 #[no_mangle]
 pub extern "C" fn nannyjiffy_handle(
     rows: &[i32],

@@ -1,5 +1,6 @@
 -- The lines of a sheet (01, "The sheet"; ground 2; CR 2): their columns, and what they say. Rests on Records, and on the table of kinds
 -- for operands that are unused.
+-- Believed, but for `lineText`: for proofs only, tied to `lineSays` by `line-said` (proofs/LinesRead).
 use mathlib.Core.Bool.{Bool, true, false, cond}
 use mathlib.Core.Option.{Option, none, some, bind}
 use mathlib.Core.List.{List, [], _∷_, _++_}

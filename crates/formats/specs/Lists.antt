@@ -1,5 +1,6 @@
 -- The list shown, as bytes (01: "Entries are written one after another"): the text of entries, and the bytes of entry i. Rests on
 -- Touches, and on the calculus' entries.
+-- Believed, but for `noKinds` and `under`: for contracts only.
 use mathlib.Core.List.{List, [], _∷_, _++_, map}
 use mathlib.Core.Path.{_≡_}
 use mathlib.Core.Option.{some}

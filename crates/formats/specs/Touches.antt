@@ -1,6 +1,7 @@
 -- Events and entries as bytes (01, "Touches and what is shown"; ground 8): each a path, an action and a number for each leaf, read by
 -- the same rules but for blanks, which only an event has (CR 2); an event has a role in front of these (CR 6). And when an entry covers
 -- an event. Rests on Records, and on the calculus' tables of actions and leaf kinds.
+-- Believed.
 use mathlib.Core.Path.{_≡_}
 use mathlib.Core.Bool.{Bool, true, _&&_, cond}
 use mathlib.Core.Option.{Option, none, some, bind}

@@ -1,4 +1,5 @@
 -- Grounds 3 to 6 alone, and rows that an accepted sheet loads to (ground 20 of start, look and handle). Rests on rows.
+-- For contracts only: tied to rows' `groundOfRows` by `ground-form` (proofs/Grounds), and to `Loads` by `accepts-loads` (call_definitions' Flows).
 use mathlib.Core.Bool.{Bool, true, _&&_, not}
 use mathlib.Core.List.{List}
 use Prim.Native.Nat.{ℕ, _*_, _/_, _%_}

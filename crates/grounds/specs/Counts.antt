@@ -1,4 +1,5 @@
 -- The counts of ground 6 by the code's enum, and what their table holds. Rests on rows, and on the declarations of src/small.rt.
+-- For contracts only: tied to rows' `rowSmall` by `all-small` (proofs/Ground6).
 use mathlib.Core.Path.{_≡_}
 use mathlib.Core.Bool.{Bool}
 use mathlib.Core.List.{List, map}

@@ -1,4 +1,5 @@
 -- The code's enums as the table's entries (rows, Kinds). Rests on the declarations of src/table.rt.
+-- For contracts only: tied to rows' table by the contract of `asks_of`.
 use Rattle.rows.specs.Kinds.{Ask, unused, operator, truth, anyWord, aType, aBasic, aCell, aPlain, aTask, aBranch, likeB, aRole, someTouches}
 use Rattle.rows.specs.Kinds.{typeS, basicS, cellS, plainS, taskS, Own, is, asB, Around, nothing, binder, mark, Asks, asks, noAsks}
 use Rattle.grounds.specs.declared.table.Ask.{Ask as CodeAsk}

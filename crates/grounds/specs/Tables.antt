@@ -1,5 +1,6 @@
 -- What the tables in code hold: of the rows below i the numbers of their sorts (ground 4), of each row a count that stops
 -- (grounds 5 and 6). Rests on rows.
+-- For contracts only: tied to rows' `rowSorted` and `namedOnce` by the contracts of `sorted` and `named`.
 use mathlib.Core.Path.{_≡_}
 use mathlib.Core.Bool.{cond}
 use mathlib.Core.List.{List, map}

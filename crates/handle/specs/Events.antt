@@ -1,5 +1,6 @@
 -- What the engine's events stand for (01, "Touches and what is shown"): a role is its number (CR 6), a path is one number, an action's
 -- number is 1 to 4, and leaves are their bits, with a flag where one is blank (CR 2). Rests on the calculus' events and on the numbers of paths.
+-- For contracts only: tied to `eventOf` by the contract of flow's `read_event`.
 use mathlib.Core.Path.{_≡_}
 use mathlib.Core.Bool.{Bool, true, false, cond}
 use mathlib.Core.Option.{none, some}

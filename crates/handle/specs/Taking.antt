@@ -1,5 +1,6 @@
 -- What the functions of this crate take of an event, and leave: an editor that gets a value, a value that a step goes
 -- on with, a side that is picked; and what a row of kind 50 makes of its part's answer (CR 6). Rests on Events and on crate state's terms.
+-- For contracts only: tied to the calculus' `handle` by the contract of `handle`.
 use mathlib.Core.Path.{_≡_}
 use mathlib.Core.Bool.{Bool, true, false, cond}
 use mathlib.Core.Option.{Option, none, some, bind}

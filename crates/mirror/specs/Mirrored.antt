@@ -2,6 +2,7 @@
 -- halves of the value, and the two blocks of the list with their first marks"): what the exchange does to rows, text, events, values and
 -- calls, and what holds of the calls on both sheets, for every content of every memory. The theorem is proofs/Mirror. Rests on
 -- call_definitions.
+-- Believed.
 use mathlib.Core.Path.{_≡_}
 use mathlib.Core.Bool.{Bool, not, cond}
 use mathlib.Core.Option.{Option, none, some}

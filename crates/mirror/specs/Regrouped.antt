@@ -2,6 +2,7 @@
 -- a, (b, c), gives equal values and failing flags after corresponding touches"): which two sheets are meant, which two of their states and
 -- which two touches go together, and what holds of the calls on them. It holds with writes too. The theorem is proofs/Regroup. Rests on
 -- Mirrored, on the calculus' Redrawn and Renamed, and on call_definitions.
+-- Believed.
 use mathlib.Core.Path.{_≡_}
 use mathlib.Core.Bool.{Bool, true}
 use mathlib.Core.Logic.{_⊎_}

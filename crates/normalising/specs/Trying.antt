@@ -1,5 +1,6 @@
 -- What the functions between failing, normalise and stride ensure: a branch evaluated and normalised (01: "So whether a task fails
 -- depends on normal forms"), and the right side of a step tried under a value. Rests on crate state's contracts.
+-- For contracts only: it names the calculus' functions, which tophat's NormalisingSound and NormalisingComplete tie to the rules.
 use mathlib.Core.Path.{_≡_}
 use mathlib.Core.Bool.{Bool, true, false}
 use mathlib.Core.Logic.{_⊎_}

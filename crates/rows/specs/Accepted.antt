@@ -1,5 +1,6 @@
 -- An accepted flow (01: "the rows that an accepted sheet loads to; its own type is the one that typing gives the last row"): n rows
 -- that get no ground, and what they are. Rests on Ground and Trees.
+-- For contracts only: tied to `Loads` by `loads-found` (call_definitions' Flows).
 use mathlib.Core.Path.{_≡_}
 use mathlib.Core.List.{List}
 use Prim.Native.Nat.{ℕ, _≤_}

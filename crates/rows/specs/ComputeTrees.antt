@@ -1,5 +1,5 @@
--- The readings of Trees as functions that compute, from below: at most n readings deep. proofs/TreesAgree, CodeRead
--- and ExpRead show that they give what is read, and nothing else. Rests on Trees.
+-- The readings of Trees as functions that compute, from below: at most n readings deep. Rests on Trees.
+-- For contracts only: tied to Trees by `code-is` and `cells-are` (proofs/TreesAgree) and `code-read` (proofs/CodeRead).
 use mathlib.Core.Bool.{cond}
 use mathlib.Core.Option.{Option, none, some, bind}
 use mathlib.Core.List.{List, [], _∷_, _++_}

@@ -1,5 +1,6 @@
 -- Ground 6 (01, CR 4): a type row over 8 leaves, or over 16 binders or marks around a row. `Under` says what encloses a row;
 -- the counts from below, which compute, are proved to be the most that it allows (proofs/Most). Rests on Rows.
+-- Believed down to `Under`. The counts are for contracts only: tied to ground 6 by `small-of` and `of-small` (proofs/Most).
 use mathlib.Core.Path.{_≡_}
 use mathlib.Core.Bool.{Bool, true, _&&_, _||_, cond}
 use mathlib.Core.List.{List, [], _∷_, _++_}

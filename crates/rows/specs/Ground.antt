@@ -1,5 +1,6 @@
 -- Which ground n rows get (01, "Grounds in the input", "Order"): the first of 3 to 7 that holds over all of them, 0 if none does; by the
 -- rules, and as a function, which gives what they derive (proofs/GroundZero). Rests on Rows, Enclosing and Trees, and on the calculus' typing.
+-- Believed: by the rules. The function is for contracts only: tied to them by `ground-derived` and `ground-only` (proofs/GroundZero).
 use mathlib.Core.Path.{_≡_}
 use mathlib.Core.Bool.{Bool, true, false, _&&_}
 use mathlib.Core.Option.{Option, none, some, bind}

@@ -2,6 +2,7 @@
 -- in the table says its number, what its operands must be, its own sort, and what it puts around the rows below it. Number to
 -- kind, kind to number, grounds 3 to 6 and which operands are unused are readings of the table: a new kind is a constructor and a
 -- line. Rests on nothing.
+-- Believed, but for `kindLimit` and `kindOf`: for contracts only, tied to `numberOf` by `kind-number` and `number-kind` (proofs/KindNumbers).
 use mathlib.Core.Bool.{Bool, true, false, cond}
 use mathlib.Core.Option.{Option, none, some}
 use mathlib.Core.List.{List, [], _∷_}
@@ -94,13 +95,16 @@ table =
     line 28 (plainK esndK) (asks aPlain unused unused (is plainS) nothing) ∷
     line 29 (plainK ederefK) (asks aCell unused unused (is plainS) nothing) ∷
     line 30 (plainK eassignK) (asks aCell aPlain unused (is plainS) nothing) ∷
+    -- 01, ground 6: a binder each: 31, 43 and 44
     line 31 (eitherK letK) (asks aPlain aBranch unused asB binder) ∷
     line 40 (taskK editK) (asks aPlain unused unused (is taskS) nothing) ∷
     line 41 (taskK enterK) (asks aType unused unused (is taskS) nothing) ∷
     line 42 (taskK updateK) (asks aCell unused unused (is taskS) nothing) ∷
+    -- binders: 31, 43 and 44
     line 43 (taskK thenK) (asks aTask aTask unused (is taskS) binder) ∷
     line 44 (taskK nextK) (asks aTask aTask unused (is taskS) binder) ∷
     line 45 (taskK failK) (asks aType unused unused (is taskS) nothing) ∷
+    -- 01, ground 6: a mark each: 46 and 47
     line 46 (taskK andK) (asks aTask aTask unused (is taskS) mark) ∷
     line 47 (taskK orK) (asks aTask aTask unused (is taskS) mark) ∷
     line 48 (taskK xorK) (asks aTask aTask unused (is taskS) nothing) ∷

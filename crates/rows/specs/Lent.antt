@@ -1,5 +1,6 @@
 -- Lent rows and the engine's own: lent memory holds signed words, four a row; the engine's own are their bits, and rows of zeros after the
 -- last. Rests on words and Rows.
+-- Believed.
 use mathlib.Core.List.{List, _++_, map}
 use Prim.Native.Nat.{ℕ, _*_, _-_, _/_}
 use lib.IntN.{ℤ}

@@ -1,5 +1,6 @@
 -- Rows read as trees: `ReadsCode rs i c` says that row i is the task c, `ReadsExp` and `ReadsType` likewise. A cell is named
 -- by its row. Rests on Rows and on the calculus' syntax and typing.
+-- Believed.
 use mathlib.Core.List.{List, [], _∷_, _++_}
 use Prim.Native.Nat.{ℕ, zero, suc, _-_, _<_}
 use lib.Dec.{eqb}

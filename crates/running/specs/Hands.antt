@@ -1,5 +1,6 @@
 -- Rows that hand on: what has been taken, named or picked, and 25 and 31, are what the task below one operand is, and so is 50 but for
 -- touches and what it shows. Rests on the layout's tags.
+-- For contracts only: tied to the tasks that rows hold by the record `Hands` (proofs/Hands).
 use mathlib.Core.Path.{_≡_}
 use mathlib.Core.Logic.{_⊎_}
 use mathlib.Core.List.{List}

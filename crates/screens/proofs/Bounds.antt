@@ -1,4 +1,4 @@
--- The numbers on a screen have at most 4 digits: grounds are at most 24, and strides at most 1 more than the rows. Rests on the
+-- The numbers on a screen have at most 4 digits: grounds are at most 31, and strides at most 1 more than the rows. Rests on the
 -- definitions of the calls.
 use mathlib.Core.Path.{_≡_, subst, sym, _∙_}
 use mathlib.Core.Bool.{Bool, true, false, _&&_, cond}

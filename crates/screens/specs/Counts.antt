@@ -1,4 +1,5 @@
 -- The row count of a session (01, "A session in full"): 4 columns and byte 10. Rests on the fields of decimal.
+-- Believed.
 use mathlib.Core.Bool.{cond, _&&_}
 use mathlib.Core.List.{List}
 use Prim.Native.Nat.{ℕ, _+_}

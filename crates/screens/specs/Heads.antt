@@ -1,4 +1,5 @@
 -- What a head line says (01, "A session in full"), and its text. Rests on the records of formats.
+-- Believed, but for `fourDigits`: for contracts only.
 use mathlib.Core.List.{List, [], _∷_, _++_}
 use Prim.Native.Nat.{ℕ}
 use lib.ListN.{set}

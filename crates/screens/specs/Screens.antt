@@ -1,5 +1,6 @@
 -- What a session prints (01, "A session in full"): after a sheet, and after an event, the answer's head line and the entries, in memory
 -- that is lent for it. Rests on the definitions of the calls (crates sheet and call_definitions) and on Heads.
+-- Believed, but for `screenBytes`: for contracts only.
 use mathlib.Core.Path.{_≡_}
 use mathlib.Core.Bool.{Bool, true, false, cond}
 use mathlib.Core.Option.{Option, none, some}

@@ -1,4 +1,5 @@
 -- The digits of a shape as the code walks them. Rests on Shape.
+-- For contracts only: tied to Shape by `leaves-yes` (proofs/Laws) and `kinds-yes` (proofs/LeafKinds).
 use mathlib.Core.Bool.{cond}
 use mathlib.Core.List.{List, [], _∷_}
 use Prim.Native.Nat.{ℕ, zero, suc, _+_, _*_, _-_, _/_, _%_}

@@ -1,5 +1,6 @@
 -- A type as one number, its shape: what code carries for a type (01: "Types are equal when their shapes are"). What the
 -- functions of this crate give is said by the types that the numbers are shapes of. Rests on the calculus.
+-- Believed: `base`, `put` and `asShape`. The rest is for contracts only: tied to types by `as-type-again` and the laws after it (proofs/Shapes).
 use mathlib.Core.Bool.{cond}
 use mathlib.Core.Option.{Option, none, some, bind}
 use mathlib.Core.List.{List, [], map}

@@ -1,5 +1,6 @@
 -- Ground 20, as a test of rows memory: it holds exactly where no accepted sheet loads to these rows (proofs/AcceptedRows). Rests on rows'
 -- grounds.
+-- For contracts only: tied to `Loads` by `accepts-loads` and `loads-accepts` (call_definitions' Flows).
 use mathlib.Core.Bool.{Bool, cond}
 use mathlib.Core.List.{List}
 use Prim.Native.Nat.{ℕ}

@@ -1,4 +1,5 @@
--- What the scan of a sheet's lines answers and keeps: for the contracts of the code's own functions only. Rests on formats' lines.
+-- What the scan of a sheet's lines answers and keeps. Rests on formats' lines.
+-- For contracts only: tied to `linesSay` by the contract of `read_lines`.
 use mathlib.Core.Path.{_≡_}
 use mathlib.Core.Bool.{Bool, true, false, _&&_}
 use mathlib.Core.Option.{Option, none, some}

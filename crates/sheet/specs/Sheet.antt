@@ -1,5 +1,6 @@
 -- A sheet as text (01, "The sheet"), and the call load (01, "Four calls"), for every text and every rows memory: its number and the rows
 -- memory at exit. Rests on the lines of formats and on the grounds of rows.
+-- Believed: `lines`. `loaded` is for contracts only: tied to the rules by `load-derived` and `load-only` (call_definitions' LoadAnswered).
 use Prim.Native.Nat.{ℕ, zero, suc, _*_, _/_, _%_}
 use mathlib.Core.Bool.{Bool, cond, _&&_}
 use mathlib.Core.Option.{Option, none, some}

@@ -1,5 +1,6 @@
 -- What the engine's functions ensure, for whatever the rows and words read as: they give what the calculus' functions give,
 -- and change nothing else. `..At` is at one code, `..Ok` at whatever code sits at the row. Rests on Holds.
+-- For contracts only: it names the calculus' functions, which tophat's proofs tie to the rules.
 use mathlib.Core.Path.{_≡_}
 use mathlib.Core.Bool.{Bool}
 use mathlib.Core.Option.{Option, none, some}

@@ -1,6 +1,7 @@
 -- How code over words meets trees: where a code sits in the rows, which words hold a task and a store, and what is the same
 -- after a call. These are the terms of the engine's contracts; Layout's `encode` is the list that they fix (proofs/Encode).
 -- Rests on Layout.
+-- For contracts only: tied to Layout's `encode` by `encode-writing` and `writing-one` (proofs/Encode).
 use mathlib.Core.Path.{_≡_}
 use mathlib.Core.Logic.{_⊎_}
 use mathlib.Core.List.{List, [], _∷_}

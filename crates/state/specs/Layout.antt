@@ -1,6 +1,7 @@
 -- The layout of a state (docs/STATE.md): 16 words a row, one writing per state. Word 0 of a row is its tag, word 1 the shape
 -- of a value, and the value's leaves stand from word 2 on; every other word, and every word of a row that is not live, is 0.
 -- `encode` writes a state. Rests on the calculus' syntax, on rows and on shapes.
+-- Believed, but for `at`: for contracts only.
 use mathlib.Core.Bool.{cond}
 use mathlib.Core.List.{List, [], _∷_}
 use Prim.Native.Nat.{ℕ, zero, suc, _+_, _*_, _-_}

@@ -1,5 +1,6 @@
 -- Lent state words and the engine's own: the one pair between them. Lent memory holds signed words in the order of docs/STATE.md; the
 -- engine's own are their bits in an order of its own, today the same. Rests on words and Layout.
+-- Believed: `lentOf`. The rest is for contracts only: tied to it by `own-lent` and `lent-own` (proofs/LentLaws).
 use mathlib.Core.List.{List, _++_, map}
 use Prim.Native.Nat.{ℕ, _*_, _-_}
 use lib.IntN.{ℤ}

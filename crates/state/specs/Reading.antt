@@ -1,5 +1,6 @@
 -- Which words are the writing of a state (01, ground 22): `decode` reads the cells and the task of the last row from them,
 -- each content by its row's type, and asks that nothing else stands there. Rests on Layout, on Words and on typing.
+-- For contracts only: tied to the rules by `decode-sound` and `decode-is` (proofs/Reading).
 use mathlib.Core.Bool.{Bool, true, false, _&&_, cond}
 use mathlib.Core.Option.{Option, none, some, bind}
 use mathlib.Core.List.{List, [], _∷_, _++_}

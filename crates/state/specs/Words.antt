@@ -1,5 +1,6 @@
 -- What the leaf functions leave and return: rows of words written, values read from words, the value of a binder. Rests on
 -- Layout and Holds.
+-- For contracts only: tied to Holds by the proofs of the engine's functions.
 use mathlib.Core.Path.{_≡_}
 use mathlib.Core.Bool.{cond}
 use mathlib.Core.List.{List, _∷_}

@@ -1,5 +1,6 @@
 -- Words that are the writing of a state (01: "one writing per state"): proofs/Encode has that there is one for each state, and that it
 -- is `encode`'s. Rests on Holds.
+-- For contracts only: tied to Layout's `encode` by `encode-writing` and `writing-one` (proofs/Encode), to `encodeFailed` by proofs/Failed.
 use mathlib.Core.Path.{_≡_}
 use mathlib.Core.List.{List, [], _∷_}
 use Prim.Native.Nat.{ℕ}

@@ -1,5 +1,6 @@
 -- What copying a state from its words ensures: it answers as reading does (crate state's specs/Reading), and what is read is
 -- then held by the copy. Rests on Reading, on Holds and on typing.
+-- For contracts only: tied to crate state's Writing by the proof of `held`.
 use mathlib.Core.Path.{_≡_}
 use mathlib.Core.Bool.{Bool}
 use mathlib.Core.Option.{some}

@@ -1,4 +1,5 @@
 -- A state row by what reading it does: 7 ways for the 21 forms of tasks, by the row's kind and its tag. Rests on crate state.
+-- For contracts only: tied to crate state's Reading by the proof of `copy_task`.
 use mathlib.Core.Bool.{cond}
 use mathlib.Core.Option.{Option, none, some}
 use mathlib.Core.List.{List}

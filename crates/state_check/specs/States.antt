@@ -1,5 +1,6 @@
 -- What `held` answers (01, ground 22): are the words the writing of a well-typed task and store of the accepted rows? Rests
 -- on crate state's Writing.
+-- For contracts only: tied to `opened` by the proof of flow's `open`.
 use mathlib.Core.Path.{_≡_}
 use mathlib.Core.Bool.{Bool, true}
 use mathlib.Core.List.{List, []}

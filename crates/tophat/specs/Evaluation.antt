@@ -1,6 +1,7 @@
 -- Evaluation rules (the paper's appendix; 01, "The rules"): of plain expressions and of tasks as a sheet has them, left to
 -- right, carrying the store. Where a sum, difference or product leaves the words (CR 3), no value is derived: `Overflows` and
 -- `OverflowsTask` say so of the whole expression. Rests on Syntax and on Typing's At.
+-- Believed.
 use mathlib.Core.Bool.{Bool, true, false, _&&_, _||_}
 use mathlib.Core.List.{_∷_}
 use Prim.Native.Nat.{ℕ}

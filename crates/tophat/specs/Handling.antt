@@ -1,5 +1,6 @@
 -- Events and handling (the paper's Fig. 14 and the cases H-.. of its appendix, where our copies leave Fig. 16 blank; 01,
 -- "Handling" and "Touches and what is shown"). Rests on Leaves, Roles and Normalising.
+-- Believed.
 use mathlib.Core.Path.{_≡_}
 use mathlib.Core.Bool.{false}
 use mathlib.Core.Option.{some}

@@ -1,5 +1,6 @@
 -- Values as leaves (01, "Touches and what is shown"): the numbers that an event gives and that look shows, and the leaf kinds that
 -- an entry names. Rests on Syntax and Typing.
+-- Believed, but for `leafAt` and what is computed: for contracts only.
 use mathlib.Core.Path.{_≡_}
 use mathlib.Core.Bool.{Bool, true, false, _&&_, _||_, cond}
 use mathlib.Core.Option.{Option, none, some}

@@ -1,6 +1,7 @@
 -- The value of a task (the paper's Fig. 9), failing (Fig. 10), striding (Fig. 12) and normalising with the number of
 -- strides (Fig. 11). Failing asks for normal forms, normalising for strides, striding for failing: one mutual definition.
 -- What has been taken, named or picked, and 25 and 31, hand on to the task that they became, and 50 to its own. Rests on Evaluation.
+-- Believed.
 use mathlib.Core.Path.{_≡_}
 use mathlib.Core.Bool.{Bool, true, false, _&&_}
 use mathlib.Core.Option.{Option, none, some}

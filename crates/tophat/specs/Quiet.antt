@@ -1,5 +1,6 @@
 -- Quiet tasks (CR 1), which are those that show no entry to anyone (proofs/EntriesQuiet). A task that fails is quiet; a quiet one need not fail:
 -- the list shown speaks of the one, the failing flag of the other. Rests on Normalising.
+-- Believed.
 use mathlib.Core.Path.{_≡_}
 use mathlib.Core.Bool.{true}
 use mathlib.Core.Option.{none, some}

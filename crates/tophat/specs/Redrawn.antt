@@ -1,6 +1,7 @@
 -- A flow drawn another way (CR 5): the parts of a 46 exchanged, and three choices under a 47 regrouped, (a, b), c against a, (b, c). Which
 -- task of the one stands for which of the other, and where a touch of the one is made on the other. That they answer alike is in proofs/
 -- Mirroring, Regrouping and RegroupingTouches. Rests on Showing.
+-- Believed, but for `exchanged`, which the laws on trees name (proofs/Mirroring).
 use mathlib.Core.List.{List, [], _∷_, map}
 use Rattle.decimal.specs.Path.{first, second, Path}
 use Rattle.tophat.specs.Syntax.{AndT, both, OrT, either, orLeft, orRight}

@@ -1,5 +1,6 @@
 -- Cells renamed: a code that names the cell π n where another names n, its running tasks, and stores that hold at π n what another holds
 -- at n. A running task names no cell, so its contents stay as they are. proofs/Renaming shows that such codes compute alike. Rests on Typing.
+-- Believed, but for `SameTypes`, which the laws on trees name (proofs/RenamingTyped).
 use mathlib.Core.Path.{_≡_}
 use mathlib.Core.List.{List}
 use Prim.Native.Nat.{ℕ, _<_}

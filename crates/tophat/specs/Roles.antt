@@ -1,4 +1,5 @@
 -- Roles and touches (CR 6): the rows of kind 50 that an event passes, and whom they let touch what is below them. Rests on nothing.
+-- Believed, but for `verdict`: for contracts only, tied to `admits` by `verdict-admits` (proofs/Admitted).
 use mathlib.Core.Bool.{Bool, true, _&&_, cond}
 use mathlib.Core.List.{List, [], _∷_}
 use Prim.Native.Nat.{ℕ, _≤_}

@@ -1,5 +1,6 @@
 -- Lists of look and handle calls on trees (01, "Four lines on the contracts", 3), and what holds after any of them.
 -- proofs/EveryRun is the theorem; the crate `call_definitions` carries it to bytes and words. Rests on Showing.
+-- Believed: `Accepts` and `Refuses`. The rest says the theorem on trees, which no promise on the calls names.
 use mathlib.Core.Path.{_≡_}
 use mathlib.Core.Bool.{true, false}
 use mathlib.Core.Logic.{_⊎_, _↔_}

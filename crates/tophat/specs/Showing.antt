@@ -1,5 +1,6 @@
 -- What a task shows (the paper's inputs, Fig. 15, in 01's order: "A before B, A's entries before Continue, Left before
 -- Right"), to whom (CR 6), and which events an entry covers (01, "Touches and what is shown"). Rests on Handling.
+-- Believed, but for `Covers`, on trees what formats' `CoversBytes` is on bytes, and `MarksFit`: for proofs only.
 use mathlib.Core.Path.{_≡_}
 use mathlib.Core.Bool.{Bool, true, false, not}
 use mathlib.Core.Option.{none, some}

@@ -1,5 +1,6 @@
 -- Types, values, plain expressions and tasks (01, "The sheet"; the paper's Fig. 2 to 4 and 8), and the running task of a
 -- code (01, "A task of a row is"). Rests on nothing.
+-- Believed, but for `moves` and `taskRows`: for proofs only, `moves` tied to the rows by `moves-are` (rows' Moves).
 use mathlib.Core.Bool.{Bool}
 use mathlib.Core.List.{List}
 use mathlib.Core.HLevel.{Discrete}

@@ -1,5 +1,6 @@
 -- Typing rules (the paper's Fig. 5 and appendix; 01, "The sheet"), with 01's limits: of plain expressions, of tasks as a
 -- sheet has them, and of running tasks. Σ gives the cells' types, Γ the binders', the nearest first. Rests on Syntax.
+-- Believed, but for `AllSmall`: for contracts only.
 use mathlib.Core.Bool.{Bool}
 use mathlib.Core.List.{List, [], _∷_}
 use Prim.Native.Nat.{ℕ, zero, suc, _≤_}

@@ -1,5 +1,6 @@
 -- How the shapes of the binders around a row stand in an array of 16: Γ has their types, the nearest first, env their shapes, the
 -- outermost first. Rests on the crates shape and rows.
+-- For contracts only: tied to the calculus' typing by `code-good` (proofs/Agree).
 use mathlib.Core.Path.{_≡_}
 use mathlib.Core.List.{List, [], _∷_}
 use Prim.Native.Nat.{ℕ, _≤_}

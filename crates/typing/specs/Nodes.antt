@@ -1,5 +1,6 @@
 -- A row by what typing does with it: 14 ways for all kinds. A type row's type is itself, so types and cells are typed
 -- like all other rows. An operand that is not a lower row makes the row bad. Rests on Kinds and Rows.
+-- For contracts only: tied to the calculus' typing by `code-good` (proofs/Agree).
 use mathlib.Core.Bool.{cond}
 use mathlib.Core.Option.{Option, none, some}
 use mathlib.Core.List.{List}

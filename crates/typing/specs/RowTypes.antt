@@ -1,5 +1,6 @@
 -- The type of a row as a shape, 0 for none (01, "The sheet", as the calculus' rules have it), under n binders whose shapes
 -- env holds, the outermost first. proofs/Agree ties it to the calculus. Rests on Nodes, and on the crates shape and rows.
+-- For contracts only: tied to rows' `flowType` by `flow-agrees` (proofs/Agree).
 use mathlib.Core.Bool.{Bool, cond}
 use mathlib.Core.List.{List}
 use Prim.Native.Nat.{ℕ, zero, suc, _+_, _-_}

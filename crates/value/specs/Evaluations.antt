@@ -1,4 +1,5 @@
 -- What evaluating gives the engine (CR 3): a value, and whether a result left the words on the way. Rests on Values.
+-- For contracts only: tied to the calculus by `applied-value` (proofs/Meaning).
 use mathlib.Core.Bool.{Bool, false, not, _||_}
 use lib.IntN.{ℤ}
 use Rattle.word.specs.Word.{isWord}

@@ -1,4 +1,5 @@
 -- Is a shape and leaves a value of a type? Rests on Values, on the calculus' `given` and on shapes.
+-- For contracts only: tied to the calculus by `for-type` and `value-in` (proofs/Fitting).
 use mathlib.Core.Path.{_≡_}
 use mathlib.Core.Bool.{Bool, true, false, cond}
 use mathlib.Core.Option.{Option, none, some, bind}

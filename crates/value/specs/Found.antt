@@ -1,4 +1,5 @@
 -- A value or none: what the calculus' optional values are to the engine. Rests on Values.
+-- For contracts only: tied to the calculus by `found-none` and `found-some` (proofs/Meaning).
 use mathlib.Core.Bool.{true, false, _&&_, cond}
 use mathlib.Core.Option.{Option, none, some}
 use Rattle.tophat.specs.Syntax.{Val}

@@ -1,5 +1,6 @@
 -- What the engine's values stand for: a value of the calculus as its shape and the bits of its leaves; and what parts
 -- and pairs of such values are, whatever they stand for. Rests on the calculus' syntax and leaves, and on shapes.
+-- Believed: `leafBits`. The rest is for contracts only: tied to the calculus by `pair-value` and the laws beside it (proofs/Meaning).
 use mathlib.Core.Bool.{cond}
 use mathlib.Core.List.{List, map}
 use Prim.Native.Nat.{ℕ, _+_, _-_}

@@ -1,4 +1,5 @@
 -- A test's answer, and what it decides. Rests on nothing.
+-- For contracts only: no promise names it.
 use mathlib.Core.Path.{_≡_}
 use mathlib.Core.Bool.{Bool, true, false}
 

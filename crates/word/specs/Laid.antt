@@ -1,4 +1,5 @@
 -- What a slice holds after another was copied over its front. Rests on lists alone.
+-- For contracts only: no promise names it.
 use mathlib.Core.List.{List, _++_, map}
 use lib.ListN.{length, take, drop}
 

@@ -1,4 +1,5 @@
 -- What the exact result of a sum, difference or product comes to (CR 3): the bits of its word, or that it is no word. Rests on Word.
+-- For contracts only: tied to words by `word-of` and `beyond-of` (proofs/Results).
 use mathlib.Core.Bool.{cond}
 use lib.IntN.{ℤ}
 use mir.Syntax.{w32}

@@ -1,4 +1,5 @@
 -- A list by the place of its elements. Rests on lists alone.
+-- For contracts only: no promise names it.
 use mathlib.Core.List.{List, [], _∷_}
 use Prim.Native.Nat.{ℕ, zero, suc}
 

@@ -1,5 +1,6 @@
 -- Words: signed 32-bit numbers (01, "The sheet").
 -- A word's bits are those of two's complement: `toZ w32` reads bits as a number, `ofZ w32` gives a number's bits.
+-- Believed: `half`, `IsWord` and `eqZ`. The rest is for contracts only: `isWord` is tied to `IsWord` by `word-test` and `test-word` (proofs/Results).
 use Prim.Native.Nat.{ℕ, _<_}
 use mathlib.Core.Bool.{Bool, false}
 use mathlib.Core.List.{List}
