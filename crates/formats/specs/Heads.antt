@@ -1,5 +1,5 @@
 -- The head line of a screen (01, "A session in full"): its columns. Rests on Records.
--- Believed, but for `headLeaves`: for contracts only.
+-- Believed, but for `headLeaves`: for proofs only.
 use mathlib.Core.List.{List, [], _∷_, _++_}
 use Prim.Native.Nat.{ℕ}
 use lib.ListN.{replicate}

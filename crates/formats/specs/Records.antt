@@ -1,7 +1,7 @@
 -- Records of text: fields in columns, one after another, and byte 10 (01, "The sheet", "Touches and what is shown", "A session in
 -- full"). The widths of a record's fields are a list; its places and its length are computed from them. Rests on the fields of
 -- decimal.
--- Believed, but for `itemsIn`, and the code's answers after `itemsOf`: for contracts only.
+-- Believed, but for `itemsIn`, for proofs only, and the code's answers after `itemsOf`: for contracts only.
 use mathlib.Core.Bool.{Bool, true, false, _&&_}
 use mathlib.Core.Option.{Option, none, some, bind}
 use mathlib.Core.List.{List, [], _∷_, _++_, map}

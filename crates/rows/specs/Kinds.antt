@@ -2,7 +2,7 @@
 -- in the table says its number, what its operands must be, its own sort, and what it puts around the rows below it. Number to
 -- kind, kind to number, grounds 3 to 6 and which operands are unused are readings of the table: a new kind is a constructor and a
 -- line. Rests on nothing.
--- Believed, but for `kindLimit` and `kindOf`: for contracts only, tied to `numberOf` by `kind-number` and `number-kind` (proofs/KindNumbers).
+-- Believed, but for `kindLimit`, and `kindOf`, which `kind-number` and `number-kind` tie to `numberOf` (proofs/KindNumbers).
 use mathlib.Core.Bool.{Bool, true, false, cond}
 use mathlib.Core.Option.{Option, none, some}
 use mathlib.Core.List.{List, [], _∷_}

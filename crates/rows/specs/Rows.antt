@@ -1,6 +1,6 @@
 -- Rows of words, four a row (kind, A, B, C), and grounds 3, 4 and 5 over them (01, "Grounds in the input"). A word is given
 -- by its bits: a negative one is 2 ^ 31 or more, so it is no kind, no truth, and never a lower row. Rests on Kinds, and on the calculus' roles.
--- Believed, but for `kindAt`, `FromKind`, `UpToKind`, `BelowKind` and, at the end, `LowWords`: for contracts only.
+-- Believed, but for `kindAt`, `FromKind`, `UpToKind`, `BelowKind` and, at the end, `LowWords`: for contracts and proofs only.
 use mathlib.Core.Path.{_≡_}
 use mathlib.Core.Option.{Option}
 use Prim.Native.Nat.{ℕ, zero, suc, _+_, _*_, _<_, _≤_}
