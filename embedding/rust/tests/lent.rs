@@ -62,6 +62,22 @@ fn the_exports_answer_as_the_reference() {
     }
 }
 
+/// The list at its edges, for each rest that is shown: exactly the bytes of its entries, one less, an entry a row, one less, and plenty.
+#[test]
+fn lists_at_their_edges() {
+    let (seed, count) = (set("NANNYJIFFY_SEED", SEED) + 2, set("NANNYJIFFY_COUNT", COUNT) / 5);
+    let at_edges = |lent: Lent| {
+        let enough = lent.rows.len() / ROW_WORDS * ENTRY_BYTES;
+        let bytes = Answers::of(&Reference, &Lent { list: vec![7; enough], ..lent.clone() }).look.bytes;
+        let shown =
+            if bytes == 0 { vec![] } else { vec![bytes, bytes - 1, enough, enough - 1, enough + ENTRY_BYTES + 1] };
+        shown.into_iter().map(move |length| Lent { list: vec![7; length], ..lent.clone() })
+    };
+    let [.., look, _] = compare(lent::inputs(seed, count).flat_map(at_edges));
+    // One length of five is a byte too short; an entry a row less one byte is too, where each row shows one.
+    assert!(look.of(24) as u64 >= count / 5 && look.of(0) >= 3 * look.of(24), "{look}");
+}
+
 /// Words and bytes of a memory at most: the fence has room for them.
 const MOST_WORDS: usize = 60_000;
 const MOST_BYTES: usize = 4 * MOST_WORDS;
