@@ -12,3 +12,5 @@ pub mod Standing
 pub mod EveryTouch
 -- Events with blanks (CR 2).
 pub mod BlankTouches
+-- The calls computed on literal words.
+pub mod LentCases
