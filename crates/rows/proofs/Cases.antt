@@ -1,15 +1,18 @@
--- The grounds of some rows, computed: 01's session and the edges of 01 that rows can have, at least three for each ground.
--- Rests on Ground.
+-- The grounds of some rows, computed: 01's session and the edges of 01 that rows can have, at least three for each ground; and each operator
+-- by its number: what it reads as, what it is on, and what it gives. Rests on Ground, and on the calculus' evaluation.
 use mathlib.Core.Path.{_≡_, refl}
-use mathlib.Core.Bool.{Bool, true, _&&_}
-use mathlib.Core.List.{List, [], _∷_, _++_}
+use mathlib.Core.Bool.{Bool, true, false, _&&_}
+use mathlib.Core.Option.{Option, some, bind}
+use mathlib.Core.List.{List, [], _∷_, _++_, map}
 use Prim.Native.Nat.{ℕ, zero, suc, _+_, _*_}
 use native.Mathlib.Decide.{decLe}
 use lib.Dec.{eqb}
+use lib.IntN.{pos, negsuc}
 use lib.ListN.{length}
-use Rattle.tophat.specs.Syntax.{leaves}
+use Rattle.word.specs.Word.{isWord}
+use Rattle.tophat.specs.Syntax.{leaves, sum, difference, product, less, lessEqual, equal, andOp, orOp, Val, vtruth, vnumber}
 use Rattle.tophat.proofs.ComputeTyping.{ask, nth, takes, gives, numberTo, opTo, sameTo, ifTo, typeTo, firstTo, secondTo, assignTo, infer, inferTask}
-use mathlib.Core.Option.{bind}
+use Rattle.tophat.proofs.ComputeEvaluation.{leaf, isTrue, kept, exact, apply, eval}
 use Rattle.tophat.specs.Roles.{isRole}
 use Rattle.rows.specs.Kinds.{kindOf, asksOf}
 use Rattle.rows.specs.Rows.{every, listedAs, listed, truthCell, rowListed, sortBy, sorts, sortNumber, sortedAs, sorted, rowSorted, names, namesBy, namesIn, namings, namedOnce, lastFits}
@@ -39,6 +42,11 @@ around k (suc n) = around k n ++ (45, 0, 0, 0) ∷ (k, 2 * n + 2, 2 * n + 1, 0) 
 abbrev aroundShown : ℕ → ℕ → List Row
 aroundShown k zero = (1, 0, 0, 0) ∷ (20, 0, 0, 0) ∷ (49, 1, 0, 0) ∷ []
 aroundShown k (suc n) = aroundShown k n ++ (45, 0, 0, 0) ∷ (k, 2 * n + 3, 2 * n + 2, 0) ∷ []
+
+-- n rows of kind 50 around a row (CR 6)
+abbrev gates : ℕ → List Row
+gates zero = (1, 0, 0, 0) ∷ (45, 0, 0, 0) ∷ []
+gates (suc n) = gates n ++ (50, 1, n + 1, 9) ∷ []
 
 -- types of 1, 2, 4 and 8 leaves
 abbrev eightLeaves : List Row
@@ -96,15 +104,80 @@ cases =
     (0, around 48 17) ∷  -- 48 is no mark
     (0, aroundShown 47 16) ∷  -- 16 marks around a shown value and what it shows: 49 is no mark
     (6, aroundShown 47 17) ∷  -- 17 marks around a shown value
+    (0, gates 17) ∷  -- CR 6: 50 is no mark and no binder
     (0, around 43 16) ∷  -- 16 binders, of steps
     (6, around 43 17) ∷  -- 17 binders, of steps
     (6, around 44 17) ∷  -- 17 binders, of steps that wait
     []
 
+-- the ground of rows, with all that is unfolded on the way
+unfoldable pub groundOf : List Row → ℕ
+unfolding
+    groundOfRows passes3 passes4 passes5 passes6 passes7 flowType isSome every rowListed listed listedAs isRole truthCell rowSorted sorts sortBy
+    sorted sortedAs sortNumber namedOnce namings namesIn namesBy names lastFits rowSmall counts leavesBy mostBinders mostMarks bindersBy marksBy
+    kindOf asksOf operatorOf codeAt expAt typeAt cellTypes cellType bind inferTask infer nth ask opTo ifTo sameTo typeTo numberTo takes gives firstTo
+    secondTo assignTo leaves decLe
+groundOf rs = groundOfRows (wordsOf rs) (length rs)
+
 abbrev met : List (ℕ × List Row) → Bool
 met [] = true
-met (c ∷ cs) = eqb (groundOfRows (wordsOf (c .1)) (length (c .1))) (c .0) && met cs
+met (c ∷ cs) = eqb (groundOf (c .1)) (c .0) && met cs
 
 pub all-met : met cases ≡ true
-unfolding groundOfRows passes3 passes4 passes5 passes6 passes7 flowType isSome every rowListed listed listedAs isRole truthCell rowSorted sorts sortBy sorted sortedAs sortNumber namedOnce namings namesIn namesBy names lastFits rowSmall counts leavesBy mostBinders mostMarks bindersBy marksBy kindOf asksOf operatorOf codeAt expAt typeAt cellTypes cellType bind inferTask infer nth ask opTo ifTo sameTo typeTo numberTo takes gives firstTo secondTo assignTo leaves decLe
+unfolding groundOf
 all-met = refl
+
+-- ---- operators: 01's "1 sum, 2 difference, 3 product, 4 less, 5 less or equal, 6 equal (all on numbers), 7 and, 8 or (on truths, ..)"
+
+-- an operator on two rows of this kind with these A
+abbrev operation : ℕ → ℕ → ℕ → ℕ → List Row
+operation o k x y = (k, x, 0, 0) ∷ (k, y, 0, 0) ∷ (24, o, 0, 1) ∷ []
+
+-- which operator each number is
+pub operators-named : map operatorOf (1 ∷ 2 ∷ 3 ∷ 4 ∷ 5 ∷ 6 ∷ 7 ∷ 8 ∷ []) ≡ (sum ∷ difference ∷ product ∷ less ∷ lessEqual ∷ equal ∷ andOp ∷ orOp ∷ [])
+unfolding operatorOf
+operators-named = refl
+
+-- the ground of an editor of operator o on two numbers, and on two truths
+abbrev groundsOn : ℕ → ℕ × ℕ
+groundsOn o = (groundOf (operation o 22 1 1 ++ (40, 2, 0, 0) ∷ []), groundOf (operation o 21 1 1 ++ (40, 2, 0, 0) ∷ []))
+
+-- 0 and 9 are none; 1 to 6 are on numbers, 7 and 8 on truths
+pub operators-typed : map groundsOn (0 ∷ 1 ∷ 2 ∷ 3 ∷ 4 ∷ 5 ∷ 6 ∷ 7 ∷ 8 ∷ 9 ∷ [])
+    ≡ ((3, 3) ∷ (0, 7) ∷ (0, 7) ∷ (0, 7) ∷ (0, 7) ∷ (0, 7) ∷ (0, 7) ∷ (7, 0) ∷ (7, 0) ∷ (3, 3) ∷ [])
+unfolding groundOf
+operators-typed = refl
+
+-- operator, kind of both operands, their A, and the value
+abbrev results : List (ℕ × ℕ × ℕ × ℕ × Val)
+results =
+    (1, 22, 2, 3, vnumber (pos 5)) ∷
+    (2, 22, 2, 3, vnumber (negsuc 0)) ∷
+    (3, 22, 2, 3, vnumber (pos 6)) ∷
+    (4, 22, 1, 1, vtruth false) ∷
+    (4, 22, 1, 2, vtruth true) ∷
+    (4, 22, 2, 1, vtruth false) ∷
+    (4, 22, 4294967295, 0, vtruth true) ∷  -- -1 and 0
+    (5, 22, 1, 1, vtruth true) ∷
+    (5, 22, 1, 2, vtruth true) ∷
+    (5, 22, 2, 1, vtruth false) ∷
+    (5, 22, 0, 4294967295, vtruth false) ∷  -- 0 and -1
+    (6, 22, 1, 1, vtruth true) ∷
+    (6, 22, 1, 2, vtruth false) ∷
+    (6, 22, 2, 1, vtruth false) ∷
+    (7, 21, 0, 0, vtruth false) ∷
+    (7, 21, 0, 1, vtruth false) ∷
+    (7, 21, 1, 0, vtruth false) ∷
+    (7, 21, 1, 1, vtruth true) ∷
+    (8, 21, 0, 0, vtruth false) ∷
+    (8, 21, 0, 1, vtruth true) ∷
+    (8, 21, 1, 0, vtruth true) ∷
+    (8, 21, 1, 1, vtruth true) ∷
+    []
+
+abbrev valueOf : ℕ → ℕ → ℕ → ℕ → Option Val
+valueOf o k x y = bind (expAt (wordsOf (operation o k x y)) 3 2) λ e. some (eval e [] [] .0)
+
+pub operators-valued : map (λ (o, k, x, y, v). valueOf o k x y) results ≡ map (λ (o, k, x, y, v). some v) results
+unfolding expAt bind kindOf operatorOf eval apply exact kept isWord isTrue leaf
+operators-valued = refl
