@@ -1,5 +1,5 @@
--- 01's proved cases, P1 to P12, one for 01's numbers, and those of CR 1 to CR 4, as one computed check (CR 6: RoleCases): what the definitions give for each
--- flow and its touches is what 01 says. Rests on CaseScreens.
+-- 01's proved cases, P1 to P12, one for 01's numbers, one for what Continue writes, and those of CR 1 to CR 4, as one computed check (CR 6:
+-- RoleCases): what the definitions give for each flow and its touches is what 01 says. Rests on CaseScreens.
 use mathlib.Core.Path.{_≡_, refl}
 use mathlib.Core.Bool.{Bool, true, false}
 use mathlib.Core.Option.{none, some, bind}
@@ -307,8 +307,19 @@ nine = record {
   kept = [];
 }
 
+-- cell 7; Continue keeps what B wrote
+abbrev pub continue-writes : Case
+continue-writes = record {
+  flow = next (edit (num 1)) (let' (eassign 0 (num 3)) (edit (num 2)));
+  cells = cell 7;
+  events = pressed continue ∷ [];
+  type = some number;
+  shown = screen 0 1 0 0 (single (pos 0)) (editor [] ∷ buttonLine 2 ∷ []) ∷ screen 0 1 0 1 (single (pos 2)) (editor [] ∷ []) ∷ [];
+  kept = cell 3;
+}
+
 unfoldable pub cases : List Case
-cases = p1-p4 ∷ p5 ∷ p6 ∷ p7 ∷ p8 ∷ p9 ∷ p10 ∷ p11 ∷ p12 ∷ buttons ∷ quiet-both ∷ quiet-next ∷ shown-on ∷ blanks ∷ over-start ∷ over-then ∷ over-next ∷ over-xor ∷ wide ∷ nine ∷ []
+cases = p1-p4 ∷ p5 ∷ p6 ∷ p7 ∷ p8 ∷ p9 ∷ p10 ∷ p11 ∷ p12 ∷ buttons ∷ quiet-both ∷ quiet-next ∷ shown-on ∷ blanks ∷ over-start ∷ over-then ∷ over-next ∷ over-xor ∷ wide ∷ nine ∷ continue-writes ∷ []
 
 -- what is computed is what 01 says
 pub cases-hold : map computed cases ≡ map expected cases
