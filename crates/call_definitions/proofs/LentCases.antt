@@ -167,13 +167,13 @@ before = stateOf ((0, 0, 0, 0) ∷ (1, 3, 5, 0) ∷ (0, 0, 0, 0) ∷ (0, 0, 0, 0
 abbrev after : List ℤ
 after = stateOf ((0, 0, 0, 0) ∷ (0, 0, 0, 0) ∷ (0, 0, 0, 0) ∷ (1, 3, 5, 0) ∷ (2, 3, 5, 0) ∷ [])
 
--- a cell of 7, and an editor of 2147483647 and 1 under this operator: the sum leaves the range (CR 3), the difference does not
+-- 3 is written into a cell of 7, then an editor of 2147483647 and 1 under this operator: the sum leaves the range (CR 3), the difference does not
 abbrev reckoned : ℕ → List ℤ
-reckoned o = rowsOf ((3, 0, 0, 0) ∷ (10, 0, 7, 0) ∷ (22, 2147483647, 0, 0) ∷ (22, 1, 0, 0) ∷ (24, o, 2, 3) ∷ (40, 4, 0, 0) ∷ [])
+reckoned o = rowsOf ((3, 0, 0, 0) ∷ (10, 0, 7, 0) ∷ (22, 3, 0, 0) ∷ (30, 1, 2, 0) ∷ (22, 2147483647, 0, 0) ∷ (22, 1, 0, 0) ∷ (24, o, 4, 5) ∷ (40, 6, 0, 0) ∷ (31, 3, 7, 0) ∷ [])
 
 -- its last row failed as a whole, beside this content of the cell
 abbrev failedWhole : ℕ → List ℤ
-failedWhole c = stateOf ((0, 0, 0, 0) ∷ (1, 3, c, 0) ∷ (0, 0, 0, 0) ∷ (0, 0, 0, 0) ∷ (0, 0, 0, 0) ∷ (4, 0, 0, 0) ∷ [])
+failedWhole c = stateOf ((0, 0, 0, 0) ∷ (1, 3, c, 0) ∷ (0, 0, 0, 0) ∷ (0, 0, 0, 0) ∷ (0, 0, 0, 0) ∷ (0, 0, 0, 0) ∷ (0, 0, 0, 0) ∷ (0, 0, 0, 0) ∷ (4, 0, 0, 0) ∷ [])
 
 -- an editor of a pair of numbers that holds 12 and 5
 abbrev pairs : List ℤ
@@ -187,7 +187,7 @@ pair-12-5 = stateOf ((0, 0, 0, 0) ∷ (0, 0, 0, 0) ∷ (2, 60, 12, 5) ∷ [])
 starts : (start editor (words 32) ≡ (0, 1, empty))
     × (start once (words 48) ≡ (0, 1, onceLeft 1))  -- C touches when evaluated
     × (start step (words 80) ≡ (0, 2, after))  -- the step is taken, then a stride that changes nothing
-    × (start (reckoned 1) (words 96) ≡ (0, 1, failedWhole 7))  -- CR 3: failed as a whole
+    × (start (reckoned 1) (words 144) ≡ (0, 1, failedWhole 7))  -- CR 3: failed as a whole, with the cell's first content
 unfolding start
 starts = (refl, refl, refl, refl)
 
@@ -277,7 +277,7 @@ looks-22 : (look editor (words 32) 1 (words 8) (bytes 40) ≡ (22, 0, 0, words 8
     × (look editor behind 1 (words 8) (bytes 40) ≡ (22, 0, 0, words 8, [], bytes 40))
     × (look editor untyped 1 (words 8) (bytes 40) ≡ (22, 0, 0, words 8, [], bytes 40))
     × (look once (onceLeft 2) 2 (words 8) (bytes 40) ≡ (22, 0, 0, words 8, [], bytes 40))  -- C + 1 touches
-    × (look (reckoned 1) (failedWhole 8) 1 (words 8) (bytes 40) ≡ (22, 0, 0, words 8, [], bytes 40))  -- failed as a whole, with another content of the cell
+    × (look (reckoned 1) (failedWhole 3) 1 (words 8) (bytes 40) ≡ (22, 0, 0, words 8, [], bytes 40))  -- failed as a whole, with another content of the cell
     × (look (reckoned 2) (failedWhole 7) 1 (words 8) (bytes 40) ≡ (22, 0, 0, words 8, [], bytes 40))  -- in a flow that starts well
     × (look editor (words 32) 9 (words 8) (bytes 34) ≡ (22, 0, 0, words 8, [], bytes 34))  -- role 9 and list too short
 unfolding look
@@ -286,7 +286,7 @@ looks-22 = (refl, refl, refl, refl, refl, refl, refl, refl)
 handles-22 : (handle editor (words 32) value-1 ≡ (22, 0, words 32))
     × (handle editor dead value-1 ≡ (22, 0, dead))
     × (handle once (onceLeft 2) value-2 ≡ (22, 0, onceLeft 2))
-    × (handle (reckoned 1) (failedWhole 8) value-1 ≡ (22, 0, failedWhole 8))
+    × (handle (reckoned 1) (failedWhole 3) value-1 ≡ (22, 0, failedWhole 3))
     × (handle (reckoned 2) (failedWhole 7) value-1 ≡ (22, 0, failedWhole 7))
     × (handle editor (words 32) (bytes 117) ≡ (22, 0, words 32))  -- no event
 unfolding handle bytesFrom
