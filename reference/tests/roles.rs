@@ -9,6 +9,7 @@ use reference::flow::Flow;
 use reference::roles::{Passed, Role, Who};
 use reference::rules::Rules;
 use reference::session;
+use reference::sheet::Row;
 use reference::slips::Slip;
 use reference::state::State;
 use std::fs;
@@ -252,7 +253,7 @@ fn two_roles_side_by_side() {
     assert_eq!(state.last_row.task().gates(), [Passed { role: 1, left: 0 }, Passed { role: 2, left: 1 }]);
 }
 
-/// The example prints its screens, and its page tells the answers and the touches left.
+/// The example prints its screens, and its page tells the answers and the touches left; a row that is gone has none.
 #[test]
 fn the_example() {
     let read = |name: &str| fs::read(format!("../examples/counter-and-customer.{name}")).expect("an example");
@@ -267,7 +268,39 @@ fn the_example() {
     }
     let cells = |line: &str| line.split(" | ").map(str::to_string).collect::<Vec<_>>();
     let lines = page.lines().skip_while(|line| !line.starts_with("| start ")).map(cells);
-    let numbers = |cell: &str| cell.split(' ').map(|word| word.parse().expect("a number")).collect::<Vec<i32>>();
+    let numbers = |cell: &str| {
+        let words = cell.split(' ').filter(|word| *word != "-");
+        words.map(|word| word.parse().expect("a number")).collect::<Vec<i32>>()
+    };
     let page: Vec<(i32, Vec<i32>)> = lines.map(|cells| (numbers(&cells[2])[0], numbers(&cells[5]))).collect();
     assert_eq!(page, told);
+}
+
+/// Why the example is drawn so: with one limit of 4 touches around the customer's half, 12, 6 and 7 copies and Order use it up,
+/// and Pay is 31 for ever. As it is drawn, a fourth number is 31, Order and Pay go through, and no order uses up the 99.
+#[test]
+fn the_example_locks_nobody_out() {
+    let example = fs::read("../examples/counter-and-customer.session").expect("an example");
+    let drawn = session::load(&mut &example[..], Rules::default()).expect("memory").expect("accepted").rows;
+    let (copies, half) = (5, 21);
+    assert_eq!((drawn[copies], drawn[half]), (Row::new(50, 1, 4, 3), Row::new(50, 1, 20, 99)));
+    let mut limited = drawn.clone();
+    limited[copies].operands[2] = 99;
+    limited[half].operands[2] = 4;
+    let copies_of = |number| value("1", number);
+    let order = [
+        by(2, value("22", 1)),
+        copies_of(12),
+        copies_of(6),
+        copies_of(7),
+        copies_of(8),
+        go_on("1"),
+        go_on("1"),
+        go_on("1"),
+    ];
+    let answers = |rows: Vec<Row>, events: &[Vec<u8>]| answers_after_start(&Sheet(rows).text(), events);
+    assert_eq!(answers(drawn.clone(), &order), [0, 0, 0, 0, 31, 0, 0, 9]);
+    assert_eq!(last_screen(&Sheet(drawn), &order).value, Some(padded(&[553, 0, 1])));
+    let ordered = [&order[..4], &order[5..]].concat();
+    assert_eq!(answers(limited, &ordered), [0, 0, 0, 0, 0, 31, 31]);
 }
