@@ -2,6 +2,7 @@
 #![allow(dead_code)]
 
 pub mod pairs;
+pub mod tables;
 
 use reference::edges;
 use reference::event::{self, ENTRY, LEAF};
