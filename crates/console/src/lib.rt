@@ -4,6 +4,7 @@ ghost use Prim.Native.Nat.{_≤_};
 ghost use Rattle.io.specs.Counts.{Counts};
 use formats::EVENT_BYTES;
 use formats::LINE_BYTES;
+use libc::STDERR_FILENO;
 use libc::STDIN_FILENO;
 use libc::STDOUT_FILENO;
 use rows::MAX_ROWS;
@@ -27,7 +28,16 @@ pub fn read(to: &mut [u8], left: usize) -> usize
     io::read_full(STDIN_FILENO, to)
 }
 
-// Hands events to a flow and prints their screens, until the input ends or no byte is left. How many are left.
+// Prints bytes. Where the output takes no more, says so on standard error. Whether all were printed.
+fn print(bytes: &[u8]) -> bool {
+    let printed = io::write_all(STDOUT_FILENO, bytes);
+    if !printed {
+        io::write_all(STDERR_FILENO, b"nannyjiffy: output lost\n");
+    }
+    printed
+}
+
+// Hands events to a flow and prints their screens, until the input ends, no byte is left or the output is lost. How many are left.
 fn events(rows: &[i32], state: &mut [i32], left: usize) -> usize
     ensures { λ r. ⌜ r ≤ left ⌝ }
 {
@@ -40,8 +50,10 @@ fn events(rows: &[i32], state: &mut [i32], left: usize) -> usize
             return rest;
         }
         let bytes = touch(rows, state, &event[..got], &mut out);
-        io::write_all(STDOUT_FILENO, &out[..bytes]);
         rest -= got;
+        if !print(&out[..bytes]) {
+            return rest;
+        }
     }
     rest
 }
@@ -54,8 +66,7 @@ fn run(n: usize, sheet: &mut [u8], rows: &mut [i32], state: &mut [i32], left: us
     let mut out = [0u8; SCREEN_BYTES];
     let begun = begin(n, &sheet[..got], rows, state, &mut out);
     let bytes = begun.bytes;
-    io::write_all(STDOUT_FILENO, &out[..bytes]);
-    if !begun.started {
+    if !print(&out[..bytes]) || !begun.started {
         return left - got;
     }
     events(rows, state, left - got)
