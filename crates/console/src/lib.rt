@@ -1,5 +1,6 @@
 // A session over standard input and standard output (01, "A session in full"). Reads, calls crate screens, prints. The memory is
-// of a fixed size, and the input of any length.
+// of a fixed size, and the input of any length. Output that is lost, and input that cannot be read, are told on standard error: a
+// program has no exit status to tell them by.
 ghost use Prim.Native.Nat.{_≤_};
 ghost use Rattle.io.specs.Counts.{Counts};
 use formats::EVENT_BYTES;
@@ -18,14 +19,40 @@ use screens::turn::touch;
 use state::STATE_SIZE;
 use state::STATE_WORDS;
 
-// Reads until `to` is full, `left` bytes are read, or the input ends. How many bytes it put at the front of `to`.
+// Reads once. Where the input cannot be read, says so on standard error. How many bytes it put at the front of `to`.
+fn read_some(to: &mut [u8]) -> usize
+    ensures { λ r. ⌜ Counts r (now (to .exit)) ⌝ }
+{
+    let got = libc::read(STDIN_FILENO, to);
+    if got < 0 {
+        io::write_all(STDERR_FILENO, b"nannyjiffy: input lost\n");
+    }
+    io::count(got, to)
+}
+
+// Reads until `to` is full, or the input ends or cannot be read. How many bytes it put at the front of `to`.
+fn read_full(to: &mut [u8]) -> usize
+    ensures { λ r. ⌜ Counts r (now (to .exit)) ⌝ }
+{
+    let mut done = 0;
+    while done < to.len() {
+        let more = read_some(&mut to[done..]);
+        if more == 0 {
+            return done;
+        }
+        done += more;
+    }
+    done
+}
+
+// Reads until `to` is full, `left` bytes are read, or the input ends or cannot be read. How many bytes it put at the front of `to`.
 pub fn read(to: &mut [u8], left: usize) -> usize
     ensures { λ r. ⌜ (r ≤ left) × Counts r (now (to .exit)) ⌝ }
 {
     if left < to.len() {
-        return io::read_full(STDIN_FILENO, &mut to[..left]);
+        return read_full(&mut to[..left]);
     }
-    io::read_full(STDIN_FILENO, to)
+    read_full(to)
 }
 
 // Prints bytes. Where the output takes no more, says so on standard error. Whether all were printed.

@@ -23,7 +23,7 @@ read-spec = tie.close (tie.spec
     let a = start .args in
     let q = read-full .read-full in
     let k = front (a .left) (a .to .now) (le-of-lt (if1 .if1 .taken)) in
-    (omega (arith, q .ensures .0, q .kept .1 .0, k), counts-front (q .result) (q .last .1 .0) (drop (a .left) (a .to .now)) (q .ensures)))
+    (omega (arith, q .ensures .0, q .kept .0, k), counts-front (q .result) (q .last .0) (drop (a .left) (a .to .now)) (q .ensures)))
     (λ c κs. search needs)
     (λ c. search needs)
     (λ c. search needs))
