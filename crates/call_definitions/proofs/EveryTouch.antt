@@ -21,15 +21,18 @@
 --   where they are 0, is said by some event's bytes;
 -- - the task is quiet (tophat's Quiet) exactly when every readable event gets 9, and then the lists of all roles are empty; the list of a
 --   role is empty exactly when every readable event of that role is refused (`dark-takes-none`);
+-- - where no row of the flow is of kind 50, the list of each role is empty exactly when the task is quiet (`empty-iff-quiet`), and handle
+--   answers neither 30 nor 31 (`neither-30-nor-31`);
 -- - the failing flag is 1 exactly when the rules say that the task fails, and 0 exactly when they say that it does not; a task that fails is
 --   quiet, and a quiet one need not fail.
 --
 -- What start, look and handle answer is what their definitions in specs/Calls give, and the contracts of the code (crate flow) are
 -- equations with these; nothing else here speaks of the engine: the rules are tophat's relations, and what bytes say is formats'. That start
 -- of an accepted flow answers 0, and with which task, store and strides, is in StartAnswered; that every accepted sheet loads to such a
--- flow, of one code and one type, is in Flows. Rests on Standing and StartAnswered.
+-- flow, of one code and one type, is in Flows. Rests on Standing, Ungated and StartAnswered.
 use mathlib.Core.Path.{_≡_, refl, ap, _∙_}
-use mathlib.Core.Option.{some}
+use mathlib.Core.Bool.{true}
+use mathlib.Core.Option.{Option, none, some}
 use mathlib.Core.Logic.{_⊎_, ⊎-elim, _↔_}
 use mathlib.Core.List.{List, [], _∷_}
 use Prim.Native.Nat.{ℕ, _*_, _<_}
@@ -39,13 +42,16 @@ use lib.ListN.{length}
 use Rattle.decimal.specs.Path.{Path}
 use Rattle.tophat.specs.Syntax.{Ty, Code}
 use Rattle.tophat.specs.Handling.{Action}
-use Rattle.tophat.specs.Roles.{IsRole}
+use Rattle.tophat.specs.Roles.{IsRole, otherRole, noTouch, ofRole, touchesLeft, is, admits}
+use Rattle.tophat.proofs.Basics.{apart}
 use Rattle.formats.specs.Touches.{entryBytes, actionOf, eventOf}
 use Rattle.formats.proofs.CoversRead.{event-of}
 use Rattle.call_definitions.specs.Answers.{AcceptedFlow, IsRest}
 use Rattle.call_definitions.specs.Calls.{handleCall}
-use Rattle.call_definitions.specs.Touches.{Call, run, Started, Stands}
-use Rattle.call_definitions.proofs.Standing.{stands, call-rest}
+use Rattle.call_definitions.specs.States.{QuietIn}
+use Rattle.call_definitions.specs.Touches.{Call, run, Started, ungated, Stands}
+use Rattle.call_definitions.proofs.Standing.{role-quiet, stands, call-rest}
+use Rattle.call_definitions.proofs.Ungated.{passes-none}
 use Rattle.call_definitions.proofs.StartAnswered.{started-is-rest}
 
 module _ {rows : List ℤ} {c : Code} {Σ : List Ty} {τ : Ty} (a : AcceptedFlow rows c Σ τ) where
@@ -78,3 +84,27 @@ dark-takes-none {rows} {ws} z role r = (
     none-in : (shown : List ℕ) (k : ℕ) → length shown ≡ k * entryBytes → (0 < k → ⊥) → shown ≡ []
     none-in [] k e f = refl
     none-in (x ∷ xs) k e f = absurd (f (omega (arith, e)))
+
+-- flows of which no row is of kind 50
+module _ {rows ws : List ℤ} {c : Code} {Σ : List Ty} {τ : Ty} (a : AcceptedFlow rows c Σ τ) (u : ungated rows ≡ true) (z : Stands rows ws c Σ τ) where
+  -- handle answers neither 30 nor 31, whatever the event's bytes
+  pub neither-30-nor-31 : (event : List ℕ) → (handleCall rows ws event .number ≡ otherRole → ⊥) × (handleCall rows ws event .number ≡ noTouch → ⊥)
+  unfolding ofRole touchesLeft
+  neither-30-nor-31 event = by (eventOf event) refl
+    where
+      by : (o : Option (ℕ × Path × Action)) → eventOf event ≡ o → (handleCall rows ws event .number ≡ otherRole → ⊥) × (handleCall rows ws event .number ≡ noTouch → ⊥)
+      by none e = let q = ap (λ r. r .number) (z .unread event e) in ((λ h. omega (arith, q, h)), (λ h. omega (arith, q, h)))
+      by (some (role, p, x)) e = (
+        λ h. let (gs, k, n) = z .other event role p x e .0 h in apart (ap (ofRole role) (passes-none a u (z .rest .writes) k)) n,
+        λ h. let (gs, k, m, n) = z .spent event role p x e .0 h in apart (ap touchesLeft (passes-none a u (z .rest .writes) k)) n,
+      )
+
+  -- CR 1: "The list is empty exactly for quiet tasks", for each role
+  pub empty-iff-quiet : (role : ℕ) → IsRole role → (z .shown role ≡ []) ↔ QuietIn (z .rest .state)
+  unfolding admits
+  empty-iff-quiet role r = (
+    λ q. role-quiet a (z .rest) role r (λ event p x e t₁ s₁ gs h w.
+        dark-takes-none z role r .0 q event p x e
+        (z .taken event role p x e .1 (t₁, s₁, gs, h, ap (admits (is role)) (passes-none a u (z .rest .writes) (t₁, s₁, h))))),
+    λ q. z .quiet-dark q role,
+  )

@@ -9,6 +9,7 @@ pub mod LookAnswered
 pub mod HandleAnswered
 -- What stands at a rest, and after every list of calls.
 pub mod Standing
+pub mod Ungated
 pub mod EveryTouch
 -- Events with blanks (CR 2).
 pub mod BlankTouches

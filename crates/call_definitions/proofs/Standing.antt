@@ -26,7 +26,7 @@ use Rattle.tophat.proofs.Bound.{normalises-bound}
 use Rattle.tophat.proofs.ResidualTyped.{residual-typed}
 use Rattle.tophat.proofs.EveryRun.{rest-stands}
 use Rattle.tophat.specs.Roles.{IsRole, Gate, otherRole, noTouch, ofRole, touchesLeft, Who, anyone, is, admits}
-use Rattle.formats.specs.Touches.{eventOf}
+use Rattle.formats.specs.Touches.{actionOf, eventOf}
 use Rattle.formats.specs.Lists.{listText, CoversAt, Fits}
 use Rattle.formats.proofs.EntriesFit.{entries-fit}
 use Rattle.formats.proofs.ListsRead.{list-length}
@@ -239,26 +239,28 @@ module _ {rows ws : List ℤ} {c : Code} {Σ : List Ty} {τ : Ty} (a : AcceptedF
 
   -- ---- quiet
 
-  -- where every event that can be read gets 9, anyone's list has no entry: an event that it covers would be derived
-  unlit : ((event : List ℕ) (role : ℕ) (p : Path) (x : Action) → eventOf event ≡ some (role, p, x) → handleCall rows ws event .number ≡ notHandled) → tree .shown anyone ≡ []
-  unlit f = none-in (tree .shown anyone) (λ l.
-      let one : IsRole 1 = (omega arith, omega arith) in
-      let (event, k, q) = list-covers-some (fit anyone) 1 one 0 l in
+  -- where no rule derives a step for any event of one role, anyone's list has no entry, as it would cover such an event; so the task is quiet
+  unlit : (role : ℕ) → IsRole role → ((event : List ℕ) (p : Path) (x : Action) → eventOf event ≡ some (role, p, x) → RefusesIn at p x) → tree .shown anyone ≡ []
+  unlit role i f = none-in (tree .shown anyone) (λ l.
+      let (event, k, q) = list-covers-some (fit anyone) role i 0 l in
       let o = event-of event (k .1 .event-says) in
       let (y, d, v) = covers-list (fit anyone) o k in
       let (t₁, s₁, gs, h, w) = tree .accepted-iff-covered anyone _ _ .1 (0, y, d, v) in
-      refused-of (outcome a r event o) .0 (f event _ _ _ o) t₁ s₁ gs h w)
+      f event _ _ (o ∙ ap (λ r. some (r, k .1 .path, actionOf (k .1 .act) (k .1 .leaves))) q) t₁ s₁ gs h w)
     where
       none-in : (l : List Entry) → (0 < length l → ⊥) → l ≡ []
       none-in [] n = refl
       none-in (e ∷ l) n = absurd (n (omega arith))
+
+  pub role-quiet : (role : ℕ) → IsRole role → ((event : List ℕ) (p : Path) (x : Action) → eventOf event ≡ some (role, p, x) → RefusesIn (r .state) p x) → QuietIn (r .state)
+  role-quiet role i f = tree .empty-iff-quiet .0 (unlit role i f)
 
   is-quiet : QuietIn at ↔ ((event : List ℕ) (role : ℕ) (p : Path) (x : Action) → eventOf event ≡ some (role, p, x) → handleCall rows ws event .number ≡ notHandled)
   is-quiet = (
     λ q event role p x e. refused-of (outcome a r event e) .1 (λ t₁ s₁ gs h y.
         let (i, z, d, v) = tree .accepted-iff-covered anyone p x .0 (t₁, s₁, gs, h, y) in
         no-at (tree .empty-iff-quiet .1 q) d),
-    λ f. tree .empty-iff-quiet .0 (unlit f),
+    λ f. role-quiet 1 (omega arith, omega arith) (λ event p x e. refused-of (outcome a r event e) .0 (f event 1 p x e)),
   )
     where
       no-at : {l : List Entry} {i : ℕ} {e : Entry} → l ≡ [] → At l i e → ⊥

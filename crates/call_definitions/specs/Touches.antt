@@ -4,7 +4,7 @@
 -- bytes say (formats). Rests on Answers and Calls.
 -- Believed.
 use mathlib.Core.Path.{_≡_}
-use mathlib.Core.Bool.{true, false}
+use mathlib.Core.Bool.{Bool, true, false, not}
 use mathlib.Core.Option.{none, some}
 use mathlib.Core.Logic.{_⊎_, _↔_}
 use mathlib.Core.List.{List, [], _∷_}
@@ -21,7 +21,8 @@ use Rattle.tophat.specs.Roles.{IsRole, Gate, otherRole, noTouch, ofRole, touche
 use Rattle.formats.specs.Touches.{eventSays, eventOf, entrySays}
 use Rattle.formats.specs.Lists.{entryAt, Entries, CoversAt}
 use Rattle.rows.specs.GroundNumbers.{eventNotRead, notHandled, wrongMemory, listTooShort}
-use Rattle.rows.specs.Rows.{movers}
+use Rattle.rows.specs.Kinds.{taskK, gateK}
+use Rattle.rows.specs.Rows.{isKind, every, movers}
 use Rattle.rows.specs.Lent.{ownRows, rowCount}
 use Rattle.call_definitions.specs.Memory.{refusal, lookRefusal}
 use Rattle.call_definitions.specs.States.{FlowState, TypedState, FailsIn, QuietIn, AcceptsIn, RefusesIn, PassesIn}
@@ -55,6 +56,10 @@ Bounded rows n = n ≤ 1 + movers (ownRows rows) (rowCount rows)
 -- the grounds on which an event that can be read is refused at a rest
 abbrev pub Refusing : ℕ → Type 0
 Refusing g = (g ≡ notHandled) ⊎ ((g ≡ otherRole) ⊎ (g ≡ noTouch))
+
+-- no row is of kind 50
+unfoldable pub ungated : List ℤ → Bool
+ungated rows = every (rowCount rows) (λ i. not (isKind (ownRows rows) i (taskK gateK)))
 
 -- ---- what holds of the state words of a flow after any list of calls
 

@@ -30,6 +30,8 @@ pub mod HandlingSound
 pub mod Blanks
 pub mod EntriesAgree
 pub mod EveryRun
+-- flows without a row of kind 50
+pub mod Ungated
 -- flows drawn another way (CR 5), and cells at other places
 pub mod TypedParts
 pub mod StrideMaps
