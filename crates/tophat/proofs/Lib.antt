@@ -32,6 +32,9 @@ pub mod EntriesAgree
 pub mod EveryRun
 -- flows without a row of kind 50
 pub mod Ungated
+-- the touches that an event uses (CR 6)
+pub mod LaterTasks
+pub mod TouchesUsed
 -- flows drawn another way (CR 5), and cells at other places
 pub mod TypedParts
 pub mod StrideMaps
