@@ -2,10 +2,10 @@
 use super::failed::is_failed;
 use normalising::stride;
 use rows::ROWS_WORDS;
-use rows::grounds::NOT_ACCEPTED;
-use rows::grounds::NOT_AT_REST;
-use rows::grounds::NOT_STATE;
-use rows::grounds::WRONG_MEMORY;
+use rows::ground_numbers::NOT_ACCEPTED;
+use rows::ground_numbers::NOT_AT_REST;
+use rows::ground_numbers::NOT_STATE;
+use rows::ground_numbers::WRONG_MEMORY;
 use sheet::accepted_rows;
 use state::ENV_WORDS;
 use state::STATE_SIZE;

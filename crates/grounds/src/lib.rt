@@ -3,11 +3,11 @@
 use match_laws;
 use rows::ROW_WORDS;
 use rows::ROWS_WORDS;
-use rows::grounds::NOT_LISTED;
-use rows::grounds::NOT_NAMED;
-use rows::grounds::NOT_SMALL;
-use rows::grounds::NOT_SORTED;
-use rows::grounds::NOT_TYPED;
+use rows::ground_numbers::NOT_LISTED;
+use rows::ground_numbers::NOT_NAMED;
+use rows::ground_numbers::NOT_SMALL;
+use rows::ground_numbers::NOT_SORTED;
+use rows::ground_numbers::NOT_TYPED;
 use shape;
 use tophat;
 use typing;

@@ -1,5 +1,5 @@
 // Rows of words: how a word of a row is read, and the numbers that 01 gives to rows, each under one name: sizes here, kinds in
-// `kinds`, grounds in `grounds`.
+// `kinds`, grounds in `ground_numbers`.
 use decimal::path::PATH_COLUMNS;
 use tophat::MAX_ROLE;
 ghost use mathlib.Core.Path.{_≡_};
@@ -8,7 +8,7 @@ ghost use lib.ListN.{length};
 ghost use Rattle.tophat.specs.Roles.{isRole};
 ghost use Rattle.rows.specs.Rows.{maxRows, rowWords, word};
 
-pub mod grounds;
+pub mod ground_numbers;
 pub mod kinds;
 
 // 01: "1 to 256 lines", "4 words a row"

@@ -16,7 +16,7 @@ use formats::EVENT_BYTES;
 use formats::HEAD_BYTES;
 use formats::LINE_BYTES;
 use formats::read_role;
-use rows::grounds::NOT_SIZED;
+use rows::ground_numbers::NOT_SIZED;
 use sheet::load;
 use tophat::MAX_LEAVES;
 use word::copy_in;
