@@ -68,9 +68,6 @@ path-number (second ∷ p) =
     let e : (n - 1) / 2 ≡ pathNumber p = omega arith in
     path-front n (omega arith) ∙ rw (ne-eqb (n % 2) 1 (λ g. omega arith), e) (ap (λ q. second ∷ q) (path-number p))
 
-pub number-injective : (p q : Path) → pathNumber p ≡ pathNumber q → p ≡ q
-number-injective p q e = sym (path-number p) ∙ ap pathOf e ∙ path-number q
-
 -- a mark put outside, and a mark put at the inner end
 pub path-more : (m : Mark) (n : ℕ) → pathOf (markNumber m + 2 * n) ≡ m ∷ pathOf n
 unfolding pathNumber

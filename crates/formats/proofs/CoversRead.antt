@@ -117,10 +117,6 @@ says-of s h =
     let f = some-is g in
     (t .2, t .3, e ∙ ap (λ q. some (q .0, q .1, t .2, t .3)) f, ap (λ q. q .2) f)
 
--- its role is 1 to 8
-pub role-of : (s : List ℕ) {r : ℕ} {p : Path} {x : Action} → eventOf s ≡ some (r, p, x) → IsRole r
-role-of s h = let (a, ls, e, f) = says-of s h in readable-role s (readable s e)
-
 -- by the action it was said with
 given-of : (a : Act) (ls : List Given) {ms : List Given} → actionOf a ls ≡ give ms → (a ≡ giving) × (ls ≡ ms)
 unfolding actionOf

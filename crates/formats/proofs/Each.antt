@@ -11,7 +11,6 @@ use lib.Seq.{take-suc}
 use Rattle.decimal.specs.Field.{Field, number, blank, unreadable}
 use Rattle.tophat.proofs.Basics.{no-some, some-is}
 use Rattle.formats.specs.Records.{numberSaid, each}
-use Rattle.formats.specs.Touches.{leafSaid}
 
 module _ {X Y : Type 0} (f : X → Option Y) where
   -- the first of several, and the others
@@ -81,8 +80,3 @@ pub numbers-said : (zs : List ℤ) → each numberSaid (map number zs) ≡ some 
 unfolding each numberSaid bind
 numbers-said [] = refl
 numbers-said (z ∷ zs) = let e = numbers-said zs in rw e
-
-pub leaves-said : (zs : List ℤ) → each leafSaid (map number zs) ≡ some (map some zs)
-unfolding each leafSaid bind
-leaves-said [] = refl
-leaves-said (z ∷ zs) = let e = leaves-said zs in rw e

@@ -90,9 +90,6 @@ module _ (rs : List ℕ) (n : ℕ) (q : Sorted rs n) where
 
   -- the tree of a row of small rows has at most 16 binders and 16 marks around any part
   module _ (s : every n (λ i. rowSmall rs i) ≡ true) where
-    pub exp-fits : {i : ℕ} {a : Exp} → i < n → ReadsExp rs i a → FitsExp 0 a
-    exp-fits {i} l d = fits-exp 0 (record { low = l; room = omega (arith, few-binders rs n q s i l) }) d
-
     pub code-fits : {i : ℕ} {c : Code} → i < n → ReadsCode rs i c → FitsCode 0 c
     code-fits {i} l d = fits-code 0 (record { low = l; room = omega (arith, few-binders rs n q s i l) }) d
 

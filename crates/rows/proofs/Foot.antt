@@ -8,7 +8,7 @@ use Rattle.rows.specs.Rows.{FromKind, firstExpression}
 use Rattle.rows.specs.Enclosing.{Under, here}
 use Rattle.rows.proofs.Exists.{Sorted}
 use Rattle.rows.proofs.Places.{Place, opAt, Names, lower, above}
-use Rattle.rows.proofs.Steps.{under-step, under-elim, under-trans, under-le}
+use Rattle.rows.proofs.Steps.{under-step, under-elim, under-le}
 
 -- row i is row j or stands under it, whatever is around it
 pub record Foot (rs : List ℕ) (j i : ℕ) : Type 0 where
@@ -37,9 +37,6 @@ foot-cases {rs} f = under-elim (λ j i b m. (i ≡ j) ⊎ NamedIn rs j i) (λ j.
     (λ e. record { by = j; place = p; within = foot-here; names = h; is = sym e })
     (λ s. record { by = s .by; place = s .place; within = foot-up j p h (s .within); names = s .names; is = s .is }) r))
     (f .under)
-
-pub foot-trans : {rs : List ℕ} {j k i : ℕ} → Foot rs j k → Foot rs k i → Foot rs j i
-foot-trans f g = record { binders = _; marks = _; under = under-trans (f .under) (g .under) }
 
 module _ (rs : List ℕ) (n : ℕ) (q : Sorted rs n) where
   -- no row of a foot is above its top

@@ -1,14 +1,13 @@
--- The kind of a row that reads as a type, a plain expression or a task is of that group, or of the two kinds that are what their
--- B is. So what is computed of a row by its kind needs only its group. Rests on Trees.
+-- The kind of a row that reads as a type or a plain expression is of that group, or of the two kinds that are what their B is.
+-- So what is computed of a row by its kind needs only its group. Rests on Trees.
 use mathlib.Core.List.{List}
 use Prim.Native.Nat.{ℕ}
-use Rattle.tophat.specs.Syntax.{Ty, Exp, Code}
-use Rattle.rows.specs.Kinds.{TypeKind, PlainKind, EitherKind, TaskKind, typeK, unitK, truthK, numberK, pairK, plainK, eunitK, etruthK, enumberK, ebinderK, eopK, epairK, efstK, esndK, ederefK, eassignK}
-use Rattle.rows.specs.Kinds.{eitherK, ifK, letK, taskK, editK, enterK, updateK, thenK, nextK, failK, andK, orK, xorK, viewK, gateK}
+use Rattle.tophat.specs.Syntax.{Ty, Exp}
+use Rattle.rows.specs.Kinds.{TypeKind, PlainKind, EitherKind, typeK, unitK, truthK, numberK, pairK, plainK, eunitK, etruthK, enumberK, ebinderK, eopK, epairK, efstK, esndK, ederefK, eassignK}
+use Rattle.rows.specs.Kinds.{eitherK, ifK, letK}
 use Rattle.rows.specs.Rows.{OfKind, opB}
 use Rattle.rows.specs.Trees.{ReadsType, r-unit, r-truth, r-number, r-pair}
 use Rattle.rows.specs.Trees.{ReadsExp, r-eunit, r-etruth, r-enumber, r-ebinder, r-eop, r-eif, r-epair, r-efst, r-esnd, r-ederef, r-eassign, r-elet}
-use Rattle.rows.specs.Trees.{ReadsCode, r-edit, r-enter, r-update, r-then, r-next, r-fail, r-and, r-or, r-xor, r-view, r-gate, r-if, r-let}
 
 module _ (rs : List ℕ) (i : ℕ) where
   pub data TypeRow : Type 0 where
@@ -17,10 +16,6 @@ module _ (rs : List ℕ) (i : ℕ) where
   pub data ExpRow : Type 0 where
     plain-row : (k : PlainKind) → OfKind rs i (plainK k) → ExpRow
     plain-by : (k : EitherKind) {b : Exp} → OfKind rs i (eitherK k) → ReadsExp rs (opB rs i) b → ExpRow
-
-  pub data CodeRow : Type 0 where
-    task-row : (k : TaskKind) → OfKind rs i (taskK k) → CodeRow
-    task-by : (k : EitherKind) {b : Code} → OfKind rs i (eitherK k) → ReadsCode rs (opB rs i) b → CodeRow
 
 module _ {rs : List ℕ} {i : ℕ} where
   pub type-group : {τ : Ty} → ReadsType rs i τ → TypeRow rs i
@@ -42,18 +37,3 @@ module _ {rs : List ℕ} {i : ℕ} where
   exp-group (r-eassign k p q c d) = plain-row eassignK k
   exp-group (r-eif k p q r d e f) = plain-by ifK k e
   exp-group (r-elet k p q d e) = plain-by letK k e
-
-  pub code-group : {c : Code} → ReadsCode rs i c → CodeRow rs i
-  code-group (r-edit k p d) = task-row editK k
-  code-group (r-enter k p d) = task-row enterK k
-  code-group (r-update k p c) = task-row updateK k
-  code-group (r-then k p q d e) = task-row thenK k
-  code-group (r-next k p q d e) = task-row nextK k
-  code-group (r-fail k p d) = task-row failK k
-  code-group (r-and k p q d e) = task-row andK k
-  code-group (r-or k p q d e) = task-row orK k
-  code-group (r-xor k p q d e) = task-row xorK k
-  code-group (r-view k p d) = task-row viewK k
-  code-group (r-gate k p d) = task-row gateK k
-  code-group (r-if k p q r d e f) = task-by ifK k e
-  code-group (r-let k p q d e) = task-by letK k e

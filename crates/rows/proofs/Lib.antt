@@ -10,14 +10,12 @@ pub mod TreesAgree
 pub mod Groups
 pub mod Exists
 pub mod CodeRead
-pub mod ExpRead
 pub mod CellsAt
 -- rows as a tree: places of operands, what stands under a row, the naming rule
 pub mod Places
 pub mod Steps
 pub mod Named
 pub mod Foot
-pub mod UnderLast
 pub mod Disjoint
 pub mod TaskFoot
 -- what the grounds give: lower operands, few binders and marks

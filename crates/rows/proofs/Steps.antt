@@ -4,7 +4,6 @@ use mathlib.Core.Path.{_≡_, refl, sym, subst}
 use mathlib.Core.Bool.{true}
 use mathlib.Core.List.{List}
 use Prim.Native.Nat.{ℕ, _+_, _<_, _≤_}
-use native.Mathlib.Nat.{add-assoc, zero-add}
 use native.Mathlib.Omega.{arith}
 use Rattle.rows.specs.Kinds.{Asks, asks, noAsks}
 use Rattle.rows.specs.Rows.{names, asksAt}
@@ -25,18 +24,6 @@ marksAt (asks p q r o x) placeA v = marksBy x + v
 marksAt (asks p q r o x) placeB v = marksBy x + v
 marksAt (asks p q r o x) placeC v = v
 marksAt noAsks p v = v
-
-binders-plus : (s : Asks) (p : Place) (v w : ℕ) → bindersAt s p v + w ≡ bindersAt s p (v + w)
-binders-plus (asks a b c o x) placeA v w = refl
-binders-plus (asks a b c o x) placeB v w = add-assoc _ _ _
-binders-plus (asks a b c o x) placeC v w = refl
-binders-plus noAsks p v w = refl
-
-marks-plus : (s : Asks) (p : Place) (v w : ℕ) → marksAt s p v + w ≡ marksAt s p (v + w)
-marks-plus (asks a b c o x) placeA v w = add-assoc _ _ _
-marks-plus (asks a b c o x) placeB v w = add-assoc _ _ _
-marks-plus (asks a b c o x) placeC v w = refl
-marks-plus noAsks p v w = refl
 
 module _ {rs : List ℕ} where
   step-by : (j : ℕ) {i b m : ℕ} (s : Asks) → asksAt rs j ≡ s → (p : Place) → names (askAt s p) ≡ true → Under rs (opAt rs j p) i b m → Under rs j i (bindersAt s p b) (marksAt s p m)
@@ -64,11 +51,6 @@ module _ {rs : List ℕ} where
     under-elim (inA e h d) = at _ _ _ _ _ e placeA h d (under-elim d)
     under-elim (inB e h d) = at _ _ _ _ _ e placeB h d (under-elim d)
     under-elim (inC e h d) = at _ _ _ _ _ e placeC h d (under-elim d)
-
-  -- rows under a row that is under a row
-  pub under-trans : {j k i b m b₁ m₁ : ℕ} → Under rs j k b m → Under rs k i b₁ m₁ → Under rs j i (b + b₁) (m + m₁)
-  under-trans {i = i} {b₁ = b₁} {m₁ = m₁} d e = under-elim (λ j k b m. Under rs k i b₁ m₁ → Under rs j i (b + b₁) (m + m₁)) (λ j e. rw (zero-add b₁, zero-add m₁) e)
-      (λ j k b m p h d f e. rw (binders-plus _ p b b₁, marks-plus _ p m m₁) (under-step j p h (f e))) d e
 
 -- in rows that pass ground 4 a row under a row is not above it
 pub under-le : (rs : List ℕ) (n : ℕ) → Sorted rs n → {j i b m : ℕ} → j < n → Under rs j i b m → i ≤ j

@@ -69,18 +69,12 @@ module _ {rs : List ℕ} where
   pub type-is : {i : ℕ} {τ : Ty} → ReadsType rs i τ → (n : ℕ) → i < n → typeAt rs n i ≡ some τ
   type-is d n l = type-at n l d
 
-  pub exp-is : {i : ℕ} {a : Exp} → ReadsExp rs i a → (n : ℕ) → i < n → expAt rs n i ≡ some a
-  exp-is d n l = exp-at n l d
-
   pub code-is : {i : ℕ} {c : Code} → ReadsCode rs i c → (n : ℕ) → i < n → codeAt rs n i ≡ some c
   code-is d n l = code-at n l d
 
   -- one tree at most
   pub one-type : {i : ℕ} {τ υ : Ty} → ReadsType rs i τ → ReadsType rs i υ → τ ≡ υ
   one-type {i} d e = some-is (sym (type-is d (suc i) (omega arith)) ∙ type-is e (suc i) (omega arith))
-
-  pub one-exp : {i : ℕ} {a b : Exp} → ReadsExp rs i a → ReadsExp rs i b → a ≡ b
-  one-exp {i} d e = some-is (sym (exp-is d (suc i) (omega arith)) ∙ exp-is e (suc i) (omega arith))
 
   pub one-code : {i : ℕ} {c d : Code} → ReadsCode rs i c → ReadsCode rs i d → c ≡ d
   one-code {i} d e = some-is (sym (code-is d (suc i) (omega arith)) ∙ code-is e (suc i) (omega arith))

@@ -24,12 +24,6 @@ unfolding maybeShape
 as-type-again none h = no-type
 as-type-again (some τ) h = as-type τ h
 
--- 0 is the shape of none alone
-pub no-shape : (o : Option Ty) → maybeShape o ≡ 0 → o ≡ none
-unfolding maybeShape
-no-shape none h = refl
-no-shape (some τ) h = absurd (shape-pos τ h)
-
 module _ (o : Option Ty) (h : SmallO o) where
   pub first-of : firstShape (maybeShape o) ≡ maybeShape (bind o firstTo)
   unfolding firstShape

@@ -180,8 +180,3 @@ writing-one {rs} {i} {c} {t} {s} {x} {y} l p q = words-one x y l (λ j. row j (f
     row j (yes f) d = holds-alike rs x y i c t (p .holds) (q .holds) j f
     row j (no n) (yes k) = alike (p .stores .cells j k) (q .stores .cells j k)
     row j (no n) (no m) = alike (p .rest j (⊎-elim n m)) (q .rest j (⊎-elim n m))
-
--- so what holds a task and a store is their encoding
-pub encode-is : (rs : List ℕ) (n d : ℕ) (c : Code) (t : TaskOf c) (s : Store) (ws : List ℕ) → Within rs n → Sits rs d (n - 1) c → Fits c t → ((k : ℕ) → Short (getD s k vunit))
-    → length ws ≡ n * stateWords → Writing rs (n - 1) c t s ws → ws ≡ encode rs n c t s
-encode-is rs n d c t s ws within sits fits short l w = let (v, m) = encode-writing rs n d c t s within sits fits short in writing-one (l ∙ sym m) w v

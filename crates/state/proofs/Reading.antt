@@ -3,7 +3,7 @@
 use mathlib.Core.Path.{_≡_, refl, sym, ap, ap₂, _∙_, subst}
 use mathlib.Core.Bool.{Bool, true, false, _&&_, cond, false≢true}
 use mathlib.Core.Option.{Option, none, some, bind}
-use mathlib.Core.Logic.{_↔_, ⊎-elim}
+use mathlib.Core.Logic.{⊎-elim}
 use mathlib.Core.List.{List, [], _∷_, _++_}
 use Prim.Native.Nat.{ℕ, zero, suc, _-_, _≤_, _<_}
 use native.Mathlib.Nat.{eq-or-lt-of-le, le-of-suc-le-suc}
@@ -17,7 +17,7 @@ use Rattle.tophat.specs.Syntax.{maxLeaves, Ty, unit, truth, number, leaves, Cod
 use Rattle.tophat.specs.Typing.{CodeType, t-edit, t-enter, t-update, t-then, t-next, t-fail, t-and, t-or, t-xor, t-view, t-gate, t-if-task, t-let-task, ValueType, v-unit, ValueTypes, v-nil, v-cons, AllSmall, small-nil, small-cons}
 use Rattle.tophat.specs.Typing.{TaskType, k-filled, k-blank, k-entered, k-shared, k-then-before, k-then-after, k-next-before, k-next-after, k-failed, k-both, k-either, k-or-left, k-or-right}
 use Rattle.tophat.specs.Typing.{k-unpicked, k-picked-left, k-picked-right, k-viewed, k-gated, k-if-true, k-if-false, k-bound}
-use Rattle.tophat.proofs.Basics.{no-some, All, all-none, all-some, all-is}
+use Rattle.tophat.proofs.Basics.{All, all-none, all-some, all-is}
 use Rattle.tophat.proofs.TypingAgrees.{infer-is, infer-task-is, bind-all}
 use Rattle.tophat.proofs.TypeLeaves.{type-leaves, task-type-leaves}
 use Rattle.tophat.proofs.Leaves.{given-gives}
@@ -281,11 +281,3 @@ module _ (rs : List ℕ) (n : ℕ) (a : AcceptedRows rs n) (ws : List ℕ) where
         let q = holds-read rs ws g (n - 1) (a .code) (w .typed) small-nil (v .holds) in
         let e : same (encode rs n (a .code) t s) ws ≡ true = ap (same (encode rs n (a .code) t s)) (w .writing) ∙ same-self (encode rs n (a .code) t s) in
         rw (p, q, e)
-
-    -- and nothing is decoded exactly where the words are no writing of a well-typed state
-    pub decode-none : (decode rs n (a .code) (a .cells) ws ≡ none) ↔ ((t : TaskOf (a .code)) (s : Store) → Written t s → ⊥)
-    decode-none = by (decode rs n (a .code) (a .cells) ws) refl
-      where
-        by : (o : Option (TaskOf (a .code) × Store)) → decode rs n (a .code) (a .cells) ws ≡ o → (o ≡ none) ↔ ((t : TaskOf (a .code)) (s : Store) → Written t s → ⊥)
-        by none e = ((λ z t s w. no-some (sym e ∙ decode-is w)), (λ h. refl))
-        by (some q) e = ((λ z. no-some (sym z)), (λ h. absurd (h (q .0) (q .1) (decode-sound e))))

@@ -27,13 +27,13 @@ use Rattle.typing.proofs.Cells.{cell-known}
 use Rattle.value.specs.Fits.{Got, got-none, got-some}
 use Rattle.state.specs.Holds.{treeOf, Row, Clear, Same}
 use Rattle.state.specs.Layout.{stateWords, place}
-use Rattle.state.specs.Reading.{readTask, readStore, decode}
+use Rattle.state.specs.Reading.{readTask, readStore}
 use Rattle.state.proofs.Words.{zeroWords}
 use Rattle.state.proofs.Frames.{same-row, foot-cell}
-use Rattle.state.proofs.Encode.{zero-row, writing-one, writing-same, padded-same, taken-same}
+use Rattle.state.proofs.Encode.{zero-row, writing-one, taken-same}
 use Rattle.state.specs.Writing.{Writing}
-use Rattle.state.proofs.SitsOf.{last-sits, within, state-writing, state-is}
-use Rattle.state.proofs.Reading.{read-typed, holds-read, store-typed, stores-read, decode-sound, decode-is}
+use Rattle.state.proofs.SitsOf.{last-sits, within}
+use Rattle.state.proofs.Reading.{read-typed, holds-read, store-typed, stores-read}
 use Rattle.state_check.specs.Copies.{Sheet, Site, Copy, CopyOk, CopyCells, CellsOk}
 use Rattle.state_check.specs.States.{State, Alike, ZerosAfter, HeldOk}
 
@@ -169,23 +169,6 @@ module _ {rs ws zs y : List ℕ} {n : ℕ} {q : Bool} (l : 1 ≤ n) (zero : (j :
           },
           λ z. sym (whole z),
         )
-
--- ---- the words of n rows
-
-module _ {rs : List ℕ} {n : ℕ} (a : AcceptedRows rs n) (ws : List ℕ) (rest : (j : ℕ) → n ≤ j → word rs j 0 ≡ 0) where
-  -- the words of the n rows of a state are decoded to it
-  pub state-decodes : n * stateWords ≤ length ws → (st : State rs n a ws) → decode rs n (a .code) (a .cells) (take (n * stateWords) ws) ≡ some (st .task, st .store)
-  state-decodes h st =
-      let w = writing-same (taken-same 0 (within rs n a rest) (last-sits rs n a) (st .writing)) (st .writing) in
-      let e = length-take-le (n * stateWords) ws h in
-      decode-is rs n a (take (n * stateWords) ws) rest (record { typed = st .typed; stored = st .stored; writing = state-is rs n a rest (st .typed) (st .stored) e w })
-
-  -- and words of n rows that are decoded, with zeros after them, are a state
-  pub decodes-state : {t : TaskOf (a .code)} {s : Store} (m : ℕ) → decode rs n (a .code) (a .cells) ws ≡ some (t, s) → State rs n a (ws ++ zeroWords m)
-  decodes-state {t} {s} m e =
-      let w = decode-sound rs n a ws e in
-      let v : Writing rs (n - 1) (a .code) t s ws = subst (Writing rs (n - 1) (a .code) t s) (sym (w .writing)) (state-writing rs n a rest (w .typed) (w .stored) .0) in
-      record { task = t; store = s; typed = w .typed; stored = w .stored; writing = writing-same (padded-same ws m) v }
 
 -- ---- words that are no state are given up
 

@@ -125,26 +125,6 @@ verdict-admits r gs = let e = admits-role r gs in rw e (by (ofRole r gs) (touche
     by true false = (λ h. absurd (omega arith), λ h. apart h refl)
     by false b = (λ h. absurd (omega arith), λ h. apart h refl)
 
--- 30 is that one has another role
-pub verdict-other : (r : ℕ) (gs : List Gate) → (verdict r gs ≡ otherRole) ↔ (ofRole r gs ≡ false)
-unfolding verdict
-verdict-other r gs = by (ofRole r gs) (touchesLeft gs)
-  where
-    by : (a b : Bool) → (cond a (cond b 0 noTouch) otherRole ≡ otherRole) ↔ (a ≡ false)
-    by true true = (λ h. absurd (omega arith), λ h. apart refl h)
-    by true false = (λ h. absurd (omega arith), λ h. apart refl h)
-    by false b = (λ h. refl, λ h. refl)
-
--- 31 that all have the role, and one has no touch left
-pub verdict-spent : (r : ℕ) (gs : List Gate) → (verdict r gs ≡ noTouch) ↔ ((ofRole r gs ≡ true) × (touchesLeft gs ≡ false))
-unfolding verdict
-verdict-spent r gs = by (ofRole r gs) (touchesLeft gs)
-  where
-    by : (a b : Bool) → (cond a (cond b 0 noTouch) otherRole ≡ noTouch) ↔ ((a ≡ true) × (b ≡ false))
-    by true true = (λ h. absurd (omega arith), λ h. apart refl (h .1))
-    by true false = (λ h. (refl, refl), λ h. refl)
-    by false b = (λ h. absurd (omega arith), λ h. apart (h .0) refl)
-
 -- no verdict is 9
 pub verdict-told : (r : ℕ) (gs : List Gate) → verdict r gs ≡ 9 → ⊥
 unfolding verdict

@@ -197,10 +197,6 @@ module _ (c : Code) (ρ : Env) where
   normalise-lives s t l = strides-live (suc (moves c)) s t l
 
   -- the same where a code is evaluated first
-  pub settle-failing : (s : Store) → let r = settle c ρ s in failing c ρ (r .1) (r .0) ≡ failing c ρ (evaluate c ρ s .1) (evaluate c ρ s .0)
-  unfolding settle
-  settle-failing s = normalise-failing (evaluate c ρ s .1) (evaluate c ρ s .0)
-
   pub settle-lives : (s : Store) → let r = settle c ρ s in 1 < r .2 → failing c ρ (r .1) (r .0) ≡ false
   unfolding settle
   settle-lives s l = normalise-lives (evaluate c ρ s .1) (evaluate c ρ s .0) l

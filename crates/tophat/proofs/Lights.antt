@@ -8,12 +8,12 @@ use Prim.Native.Nat.{ℕ, suc, _+_}
 use native.Mathlib.Omega.{arith}
 use lib.ListN.{length}
 use Rattle.decimal.specs.Path.{Mark, first, second, Path}
-use Rattle.tophat.specs.Syntax.{Ty, GateT, Val, Store}
+use Rattle.tophat.specs.Syntax.{Ty, GateT, Val}
 use Rattle.tophat.specs.Typing.{At, here, there}
 use Rattle.tophat.specs.Handling.{Button, continue, left, right, Action, give, press}
 use Rattle.tophat.specs.Showing.{Entry, Covers, c-fill, c-button, marked, offers, buttonIf, entriesIf}
 use Rattle.tophat.proofs.Basics.{no-some}
-use Rattle.tophat.proofs.ComputeHandling.{Taken, mapTask, passGate, thenSome, atEditor, atMark, atSides, atContinue, unlessFailing}
+use Rattle.tophat.proofs.ComputeHandling.{Taken, mapTask, passGate, thenSome, atEditor, atMark, atSides, atContinue}
 use Rattle.tophat.specs.Leaves.{given}
 use Rattle.tophat.proofs.ComputeEntries.{continueIf}
 use Rattle.tophat.proofs.Leaves.{given-gives, gives-given, gives-meets, meets-gives}
@@ -88,11 +88,6 @@ mark-covered m (there d) k = let (i, e, f, l) = mark-covered m d k in (suc i, e,
 pub data Open {X : Type 0} : Bool → Option X → Type 0 where
   opened : {r : X} → Open false (some r)
   shut : Open true none
-
-pub unless-open : {A C : Type 0} (y : Bool) (K : A → C) (t : A) (s : Store) → Open y (unlessFailing y K t s)
-unfolding unlessFailing
-unless-open true K t s = shut
-unless-open false K t s = opened
 
 -- one answer, else the other
 unfoldable orElse : {X : Type 0} → Option X → Option X → Option X

@@ -1,25 +1,25 @@
 -- The type of a row by shapes is the shape of the type that the calculus gives the tree which the row reads as; so in rows
 -- that pass grounds 4 and 6 the last row's is that of the flow's own type. Rests on Steps, Cells, TypeRows and TaskLaws.
 use mathlib.Core.Path.{_≡_, refl, sym, ap, subst, _∙_}
-use mathlib.Core.Bool.{Bool, true, false, not}
-use mathlib.Core.Option.{Option, none, some, bind}
+use mathlib.Core.Bool.{Bool, true, false}
+use mathlib.Core.Option.{none, some, bind}
 use mathlib.Core.List.{List, [], _∷_}
 use Prim.Native.Nat.{ℕ, suc, _-_, _<_, _≤_}
 use native.Mathlib.Decide.{decLe}
 use native.Mathlib.Omega.{arith}
-use lib.Dec.{ltb, eqb}
+use lib.Dec.{ltb}
 use lib.ListN.{length, replicate}
 use lib.IntN.{pos, negsuc}
 use lib.Signed.{mag}
 use mir.Syntax.{w32}
 use mir.Val.{toZ, sel}
-use borrow.Author.Tests.{lt-ltb, ltb-true, ltb-false, ne-eqb}
+use borrow.Author.Tests.{lt-ltb, ltb-true, ltb-false}
 use Rattle.word.specs.Word.{half, IsWord}
 use Rattle.tophat.specs.Syntax.{maxLeaves, Ty, number, pair, leaves, Exp, Code}
 use Rattle.tophat.proofs.ComputeTyping.{ask, nth, numberTo, typeTo, infer, inferTask}
 use Rattle.tophat.proofs.TypingAgrees.{type-to}
 use Rattle.shape.specs.Shape.{put, asShape, maybeShape}
-use Rattle.shape.proofs.Puts.{by-test, shape-pos}
+use Rattle.shape.proofs.Puts.{by-test}
 use Rattle.rows.specs.Kinds.{Sort, taskS, typeK, unitK, truthK, numberK, pairK, cellK, plainK, eunitK, etruthK, enumberK, ebinderK, eopK, epairK, efstK, esndK, ederefK, eassignK, eitherK, ifK, letK, taskK, editK, enterK, updateK, thenK, nextK, failK, andK, orK, xorK, viewK, gateK}
 use Rattle.rows.specs.Rows.{opA, opB, opC, sameSort, sortNumber, rowSorted}
 use Rattle.rows.specs.Enclosing.{maxBinders}
@@ -27,7 +27,7 @@ use Rattle.rows.specs.Trees.{ReadsType, r-unit, r-truth, r-number, r-pair, Read
 use Rattle.rows.specs.Trees.{ReadsExp, r-eunit, r-etruth, r-enumber, r-ebinder, r-eop, r-eif, r-epair, r-efst, r-esnd, r-ederef, r-eassign, r-elet}
 use Rattle.rows.specs.Trees.{ReadsCode, r-edit, r-enter, r-update, r-then, r-next, r-fail, r-and, r-or, r-xor, r-view, r-gate, r-if, r-let}
 use Rattle.rows.specs.ComputeTrees.{codeAt, cellTypes}
-use Rattle.rows.specs.Ground.{flowType, isSome, passes4, passes6, passes7}
+use Rattle.rows.specs.Ground.{flowType, passes4, passes6}
 use Rattle.rows.proofs.Basics.{every-at}
 use Rattle.rows.proofs.Exists.{Sorted, Has, has-type, has-basic, has-cell, has-plain, has-task, exists, sortAt, same-sort, code-exists}
 use Rattle.rows.proofs.TreesAgree.{code-is}
@@ -178,12 +178,3 @@ module _ (rs : List ℕ) (n : ℕ) (h : 1 ≤ n) (p : passes4 rs n ≡ true) (q 
       by-test (λ r. r ≡ maybeShape (flowType rs n)) (isTask rs (n - 1))
       (λ t. let (c, d) = code-exists rs n sorted-rows (n - 1) (omega arith) (same-sort (sortAt rs (n - 1)) taskS (sym (task-sort rs (n - 1)) ∙ t)) in task-type c d)
       (λ f. let z = no-code (sym (task-sort rs (n - 1)) ∙ f) (exists rs n sorted-rows (n - 1) (omega arith)) in sym (rw z))
-
--- ground 7 does not hold where the last row's shape is not 0
-pub seventh : (rs : List ℕ) (n r : ℕ) → r ≡ maybeShape (flowType rs n) → passes7 rs n ≡ not (eqb r 0)
-unfolding passes7 isSome maybeShape
-seventh rs n r e = by (flowType rs n) e
-  where
-    by : (o : Option Ty) → r ≡ maybeShape o → isSome o ≡ not (eqb r 0)
-    by none e = rw e
-    by (some τ) e = rw (ne-eqb r 0 (λ z. shape-pos τ (sym e ∙ z)))

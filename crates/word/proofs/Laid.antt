@@ -3,36 +3,16 @@ use mathlib.Core.Path.{_≡_, refl, sym, ap, _∙_}
 use mathlib.Core.List.{List, [], _∷_, _++_, map, append-nil}
 use Prim.Native.Nat.{ℕ, zero, suc, _+_, _-_, _≤_, _<_}
 use native.Mathlib.Numerals.{add-one}
-use native.Mathlib.Nat.{le-of-lt, le-of-suc-le-suc}
+use native.Mathlib.Nat.{le-of-lt}
 use native.Mathlib.Omega.{arith}
-use lib.ListN.{length, take, drop, getD, set, length-map, length-append, length-drop, length-take, drop-of-length-le, List·getD-append}
-use lib.Seq.{take-suc, drop-cons, set-at, append-snoc, length-take-le, take-all, take-at, drop-at, getD-take, getD-drop}
+use lib.ListN.{length, take, drop, getD, set, length-map, length-append, length-drop, length-take, drop-of-length-le}
+use lib.Seq.{take-suc, drop-cons, set-at, append-snoc, length-take-le, take-all}
 use Rattle.word.specs.Laid.{laid}
 
 module _ {A B : Type 0} (f : A → B) where
   pub map-append : (l m : List A) → map f (l ++ m) ≡ map f l ++ map f m
   map-append [] m = refl
   map-append (x ∷ l) m = ap (λ r. f x ∷ r) (map-append l m)
-
-  pub map-take : (n : ℕ) (l : List A) → map f (take n l) ≡ take n (map f l)
-  map-take zero l = refl
-  map-take (suc n) [] = refl
-  map-take (suc n) (x ∷ l) = ap (λ r. f x ∷ r) (map-take n l)
-
-  pub map-drop : (n : ℕ) (l : List A) → map f (drop n l) ≡ drop n (map f l)
-  map-drop zero l = refl
-  map-drop (suc n) [] = refl
-  map-drop (suc n) (x ∷ l) = map-drop n l
-
-  pub map-set : (l : List A) (n : ℕ) (a : A) → map f (set l n a) ≡ set (map f l) n (f a)
-  map-set [] n a = refl
-  map-set (x ∷ l) zero a = refl
-  map-set (x ∷ l) (suc n) a = ap (λ r. f x ∷ r) (map-set l n a)
-
-  pub getD-map-in : (l : List A) (n : ℕ) (a : A) (b : B) → n < length l → getD (map f l) n b ≡ f (getD l n a)
-  getD-map-in [] n a b h = absurd (omega arith)
-  getD-map-in (x ∷ l) zero a b h = refl
-  getD-map-in (x ∷ l) (suc n) a b h = getD-map-in l n a b (le-of-suc-le-suc h)
 
   front-length : (from : List A) (i : ℕ) → i ≤ length from → length (map f (take i from)) ≡ i
   front-length from i h = length-map (take i from) f ∙ length-take-le i from h
@@ -78,23 +58,3 @@ module _ {A B : Type 0} (f : A → B) (from : List A) (to : List B) where
   laid-length =
       length-append (map f (take (length to) from)) (drop (length from) to)
       ∙ (λ j. length-map (take (length to) from) f j + length-drop (length from) to j) ∙ ap (λ n. n + (length to - length from)) (length-take (length to) from) ∙ omega arith
-
-  pub take-laid : length from ≤ length to → take (length from) (laid f from to) ≡ map f from
-  take-laid h = ap (take (length from)) (laid-front h) ∙ take-at (map f from) (drop (length from) to) (length from) (length-map from f)
-
-  pub drop-laid : length from ≤ length to → drop (length from) (laid f from to) ≡ drop (length from) to
-  drop-laid h = ap (drop (length from)) (laid-front h) ∙ drop-at (map f from) (drop (length from) to) (length from) (length-map from f)
-
-  -- element i, written or not; a and b are what lists of A and B read as past their end
-  pub laid-at : (i : ℕ) (a : A) (b : B) → i < length from → i < length to → getD (laid f from to) i b ≡ f (getD from i a)
-  unfolding laid
-  laid-at i a b h g =
-      let k : i < length (map f (take (length to) from)) = rw (length-map (take (length to) from) f, length-take (length to) from) (omega arith) in
-      List·getD-append (map f (take (length to) from)) (drop (length from) to) b i k
-      ∙ getD-map-in f (take (length to) from) i a b (rw (length-map (take (length to) from) f) at k) ∙ ap f (getD-take (length to) from i a g)
-
-  pub laid-past : (i : ℕ) (b : B) → length from ≤ i → i < length to → getD (laid f from to) i b ≡ getD to i b
-  laid-past i b h g =
-      let e : i ≡ length from + (i - length from) = omega arith in
-      ap (λ n. getD (laid f from to) n b) e ∙ sym (getD-drop (length from) (laid f from to) (i - length from) b)
-      ∙ ap (λ l. getD l (i - length from) b) (drop-laid (omega arith)) ∙ getD-drop (length from) to (i - length from) b ∙ ap (λ n. getD to n b) (sym e)

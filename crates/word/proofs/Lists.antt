@@ -13,7 +13,6 @@ use mir.Val.{toZ, ofZ}
 use Rattle.word.specs.Word.{words, IsWord, AllWords, AllBits}
 use Rattle.word.proofs.TwosComplement.{number-word, bits-number, bits-lt, number-bits}
 use Rattle.word.specs.Laid.{laid}
-use Rattle.word.proofs.Laid.{laid-full, laid-length, take-laid}
 
 -- a fresh array
 pub bits-replicate : (n k : ℕ) → k < words → AllBits (replicate n k)
@@ -72,13 +71,6 @@ pub numbers-bits : (l : List ℤ) → AllWords l → map (toZ w32) (map (ofZ w32
 numbers-bits [] h = refl
 numbers-bits (x ∷ l) h = λ j. number-bits x (h 0) j ∷ numbers-bits l (λ i. h (suc i)) j
 
--- so lists of words with the same bits are one, and lists of bits with the same numbers
-pub words-same : (l m : List ℤ) → AllWords l → AllWords m → map (ofZ w32) l ≡ map (ofZ w32) m → l ≡ m
-words-same l m h g e = sym (numbers-bits l h) ∙ ap (map (toZ w32)) e ∙ numbers-bits m g
-
-pub bits-same : (l m : List ℕ) → AllBits l → AllBits m → map (toZ w32) l ≡ map (toZ w32) m → l ≡ m
-bits-same l m h g e = sym (bits-numbers l h) ∙ ap (map (ofZ w32)) e ∙ bits-numbers m g
-
 -- words as far as they have been read
 pub words-take : (n : ℕ) (l : List ℤ) → ((i : ℕ) → i < n → IsWord (getD l i (pos 0))) → AllWords (take n l)
 words-take zero l h i = lit< tt
@@ -90,12 +82,6 @@ words-take (suc n) (x ∷ l) h (suc i) = words-take n l (λ k p. h (suc k) (suc-
 pub words-whole : (n : ℕ) (l : List ℤ) → length l ≤ n → AllWords (take n l) → AllWords l
 words-whole n l h w = subst AllWords (take-all n l h) w
 
--- words copied in over the front of bits, and those bits copied out over the words again: the words stay
-pub copied-back : (l : List ℤ) (own : List ℕ) → length l ≤ length own → AllWords l → laid (toZ w32) (laid (ofZ w32) l own) l ≡ l
-copied-back l own h w =
-    laid-full (toZ w32) (laid (ofZ w32) l own) l (rw (laid-length (ofZ w32) l own) h)
-    ∙ ap (map (toZ w32)) (take-laid (ofZ w32) l own h) ∙ numbers-bits l w
-
 -- bits over bits are bits
 pub laid-bits : (l : List ℤ) (own : List ℕ) → AllWords (take (length own) l) → AllBits own → AllBits (laid (ofZ w32) l own)
 unfolding laid
@@ -103,11 +89,3 @@ laid-bits l [] w b i = subst (λ r. getD r i 0 < words) (sym (drop-nil (length l
 laid-bits [] (y ∷ own) w b i = b i
 laid-bits (x ∷ l) (y ∷ own) w b zero = bits-lt x (w 0)
 laid-bits (x ∷ l) (y ∷ own) w b (suc i) = laid-bits l own (λ k. w (suc k)) (λ k. b (suc k)) i
-
--- and numbers over words are words
-pub laid-words : (own : List ℕ) (l : List ℤ) → AllBits own → AllWords l → AllWords (laid (toZ w32) own l)
-unfolding laid
-laid-words own [] b w i = subst (λ r. IsWord (getD r i (pos 0))) (sym (drop-nil (length own))) (lit< tt)
-laid-words [] (x ∷ l) b w i = w i
-laid-words (y ∷ own) (x ∷ l) b w zero = number-word y (b 0)
-laid-words (y ∷ own) (x ∷ l) b w (suc i) = laid-words own l (λ k. b (suc k)) (λ k. w (suc k)) i

@@ -41,9 +41,6 @@ module _ {A : Type 0} where
   abbrev pub FilledTo : (ℕ → A) → A → ℕ → List A → Type 0
   FilledTo f d k l = (i : ℕ) → i < k → getD l i d ≡ f i
 
-  pub filled-none : (f : ℕ → A) (d : A) (l : List A) → FilledTo f d 0 l
-  filled-none f d l i h = absurd (omega arith)
-
   pub filled-more : (f : ℕ → A) (d : A) (l : List A) (k : ℕ) (x : A) → k < length l → x ≡ f k → FilledTo f d k l → FilledTo f d (k + 1) (set l k x)
   filled-more f d l k x h e g i m = by (ℕ-discrete i k)
     where

@@ -23,12 +23,9 @@ bits-lt z h = fits-ofZ {w = w32} {z = z} (record { sfits = h }) .fits
 pub number-bits : (z : ℤ) → IsWord z → toZ w32 (ofZ w32 z) ≡ z
 number-bits z h = toZ-ofZ {w = w32} (record { sfits = h })
 
--- bits with one number are the same bits, and words with the same bits one word
+-- bits with one number are the same bits
 pub number-injective : (a b : ℕ) → a < words → b < words → toZ w32 a ≡ toZ w32 b → a ≡ b
 number-injective a b h g e = sym (bits-number a h) ∙ ap (ofZ w32) e ∙ bits-number b g
-
-pub bits-injective : (x y : ℤ) → IsWord x → IsWord y → ofZ w32 x ≡ ofZ w32 y → x ≡ y
-bits-injective x y h g e = sym (number-bits x h) ∙ ap (toZ w32) e ∙ number-bits y g
 
 -- which number: below half the bits themselves, from there on a negative one
 pub number-low : (n : ℕ) → n < half → toZ w32 n ≡ pos n
