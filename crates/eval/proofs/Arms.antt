@@ -91,7 +91,7 @@ small-parts g h l = subst (λ n. n ≤ maxLeaves) (sym (ap₂ (λ τ υ. leaves 
 
 module _ (rs : List ℕ) (i : ℕ) (env : List ℕ) (d : ℕ) where
   -- what holds of a row holds of it by any name
-  at-row : {ws ws₁ : List ℕ} {a b : ℕ} {x : Evaluation} → a ≡ b → EvalOk rs ws ws₁ a env d x → EvalOk rs ws ws₁ b env d x
+  pub at-row : {ws ws₁ : List ℕ} {a b : ℕ} {x : Evaluation} → a ≡ b → EvalOk rs ws ws₁ a env d x → EvalOk rs ws ws₁ b env d x
   at-row {ws} {ws₁} {x = x} q h = subst (λ k. EvalOk rs ws ws₁ k env d x) q h
 
   -- ---- constants and binders

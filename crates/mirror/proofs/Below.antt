@@ -24,13 +24,13 @@ module _ {rs rs₁ : List ℕ} {m : ℕ} (below : SameBelow rs rs₁ m) where
     kind : {w : ℕ} → word rs i 0 ≡ w → word rs₁ i 0 ≡ w
     kind h = below .same i 0 l (omega arith) ∙ h
 
-    isA : opA rs₁ i ≡ opA rs i
+    pub isA : opA rs₁ i ≡ opA rs i
     isA = below .same i 1 l (omega arith)
 
-    isB : opB rs₁ i ≡ opB rs i
+    pub isB : opB rs₁ i ≡ opB rs i
     isB = below .same i 2 l (omega arith)
 
-    isC : opC rs₁ i ≡ opC rs i
+    pub isC : opC rs₁ i ≡ opC rs i
     isC = below .same i 3 l (omega arith)
 
   at-type : {w w₁ : ℕ} {τ : Ty} → w₁ ≡ w → ReadsType rs₁ w τ → ReadsType rs₁ w₁ τ

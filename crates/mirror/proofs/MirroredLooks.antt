@@ -20,6 +20,7 @@ use Rattle.tophat.specs.Showing.{Entry, marked}
 use Rattle.tophat.specs.Redrawn.{exchanged}
 use Rattle.tophat.proofs.ComputeNormalising.{failing}
 use Rattle.tophat.proofs.ComputeEntries.{entries}
+use Rattle.tophat.proofs.EntriesBound.{length-marked}
 use Rattle.tophat.proofs.Leaves.{length-leaves}
 use Rattle.tophat.proofs.Preservation.{OptionType, o-none, o-some, value-type}
 use Rattle.tophat.proofs.TypeLeaves.{task-type-leaves}
@@ -86,15 +87,10 @@ value-flag (some v) (some u) = refl
 
 -- ---- the list's blocks
 
-marked-length : (m : Mark) (es : List Entry) → length (marked m es) ≡ length es
-unfolding marked
-marked-length m [] = refl
-marked-length m (e ∷ es) = let h = marked-length m es in omega (arith, h)
-
 blocks-length : (es gs : List Entry) → length (marked first gs ++ marked second es) ≡ length (marked first es ++ marked second gs)
 blocks-length es gs =
     let p = length-append (marked first gs) (marked second es) in let q = length-append (marked first es) (marked second gs) in
-    let a = marked-length first gs in let b = marked-length second es in let c = marked-length first es in let d = marked-length second gs in
+    let a = length-marked first gs in let b = length-marked second es in let c = length-marked first es in let d = length-marked second gs in
     omega (arith, p, q, a, b, c, d)
 
 -- ---- two looks

@@ -21,7 +21,7 @@ use Rattle.rows.specs.Enclosing.{marksBy, bindersBy, Under, here, inA, inB, inC
 use Rattle.rows.specs.Trees.{ReadsType, r-unit, r-truth, r-number, r-pair, ReadsCell, r-cell, ReadsCode, r-and, Cells, c-none, c-truth, c-number, c-other, Flow}
 use Rattle.rows.specs.Ground.{WellFormed, Small, passes3, passes4, passes5}
 use Rattle.rows.proofs.Basics.{both, every-at, every-of}
-use Rattle.mirror.proofs.Below.{SameBelow, type-below, cell-below, code-below}
+use Rattle.mirror.proofs.Below.{SameBelow, isA, isB, isC, type-below, cell-below, code-below}
 
 -- the last row of rs, row m, is of kind 46; rs₁ are the same rows, but for its A and B, which are exchanged
 pub record Exchanged (rs rs₁ : List ℕ) (m : ℕ) : Type 0 where
@@ -58,16 +58,6 @@ module _ {rs rs₁ : List ℕ} {m : ℕ} (x : Exchanged rs rs₁ m) where
       by (yes e) = rw e (x .lastKind)
       by (no o) = x .others i 0 o (omega arith)
 
-  module _ {i : ℕ} (l : i < m) where
-    isA : opA rs₁ i ≡ opA rs i
-    isA = x .others i 1 (λ e. omega (arith, e)) (omega arith)
-
-    isB : opB rs₁ i ≡ opB rs i
-    isB = x .others i 2 (λ e. omega (arith, e)) (omega arith)
-
-    isC : opC rs₁ i ≡ opC rs i
-    isC = x .others i 3 (λ e. omega (arith, e)) (omega arith)
-
   same-C : (i : ℕ) → opC rs₁ i ≡ opC rs i
   same-C i = by (ℕ-discrete i m)
     where
@@ -79,7 +69,7 @@ module _ {rs rs₁ : List ℕ} {m : ℕ} (x : Exchanged rs rs₁ m) where
 
   truth-same : (i : ℕ) → i < m → truthCell rs₁ i ≡ truthCell rs i
   unfolding truthCell
-  truth-same i l = rw (kinds i, isA l, isB l, kinds (opA rs i)) refl
+  truth-same i l = rw (kinds i, isA exchanged-below l, isB exchanged-below l, kinds (opA rs i)) refl
 
   -- 46 lists two tasks, and asks nothing of them here
   last-truth : truthCell rs₁ m ≡ truthCell rs m
@@ -95,14 +85,14 @@ module _ {rs rs₁ : List ℕ} {m : ℕ} (x : Exchanged rs rs₁ m) where
 
   listed-same : (i : ℕ) → i < suc m → rowListed rs₁ i ≡ rowListed rs i
   unfolding rowListed
-  listed-same = at-rows (rowListed rs₁) (rowListed rs) last-listed (λ i l. rw (kinds i, isA l, isB l, isC l, truth-same i l) refl)
+  listed-same = at-rows (rowListed rs₁) (rowListed rs) last-listed (λ i l. rw (kinds i, isA exchanged-below l, isB exchanged-below l, isC exchanged-below l, truth-same i l) refl)
 
   -- ---- ground 4
 
   sorts-same : (i : ℕ) → i ≤ m → sorts rs₁ i ≡ sorts rs i
   unfolding sorts
   sorts-same zero l = refl
-  sorts-same (suc i) l = rw (sorts-same i (omega arith), kinds i, isB {i = i} (omega arith)) refl
+  sorts-same (suc i) l = rw (sorts-same i (omega arith), kinds i, isB exchanged-below {i = i} (omega arith)) refl
 
   -- 46 asks for two tasks
   last-sorted : rowSorted rs m ≡ true → rowSorted rs₁ m ≡ true
@@ -115,13 +105,13 @@ module _ {rs rs₁ : List ℕ} {m : ℕ} (x : Exchanged rs rs₁ m) where
 
   sorted-same : (i : ℕ) → i < m → rowSorted rs₁ i ≡ rowSorted rs i
   unfolding rowSorted
-  sorted-same i l = rw (kinds i, isA l, isB l, isC l, sorts-same i (omega arith)) refl
+  sorted-same i l = rw (kinds i, isA exchanged-below l, isB exchanged-below l, isC exchanged-below l, sorts-same i (omega arith)) refl
 
   -- ---- ground 5
 
   names-same : (i j : ℕ) → j < m → namesIn rs₁ i j ≡ namesIn rs i j
   unfolding namesIn
-  names-same i j l = rw (kinds j, isA l, isB l, isC l) refl
+  names-same i j l = rw (kinds j, isA exchanged-below l, isB exchanged-below l, isC exchanged-below l) refl
 
   last-names : (i : ℕ) → namesIn rs₁ i m ≡ namesIn rs i m
   unfolding namesIn namesBy names asksOf

@@ -35,7 +35,7 @@ more-small : {τs : List Ty} (τ : Ty) → leaves τ ≤ maxLeaves → AllSmall 
 more-small τ l small-nil = small-cons l small-nil
 more-small τ l (small-cons h hs) = small-cons h (more-small τ l hs)
 
-more-values : {vs : List Val} {τs : List Ty} {v : Val} {τ : Ty} → ValueTypes vs τs → ValueType v τ → ValueTypes (vs ++ v ∷ []) (τs ++ τ ∷ [])
+pub more-values : {vs : List Val} {τs : List Ty} {v : Val} {τ : Ty} → ValueTypes vs τs → ValueType v τ → ValueTypes (vs ++ v ∷ []) (τs ++ τ ∷ [])
 more-values v-nil k = v-cons k v-nil
 more-values (v-cons h hs) k = v-cons h (more-values hs k)
 

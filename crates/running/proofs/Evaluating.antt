@@ -26,7 +26,7 @@ use Rattle.state.specs.Contracts.{EvalOk, EvaluateAt, EvaluateOk}
 use Rattle.state.proofs.Words.{value-at, laid-as}
 use Rattle.state.proofs.Frames.{same-trans, same-weak, same-row, laid-same, foot-self, keeps, keeps-laid, clear-kept, holds-kept, stores-laid, Reach, Kids, kids-then, kids-next, kids-and, kids-or, kids-xor, kids-if, kid-let, world-after, world-push, kid-gate}
 use Rattle.state.proofs.Sites.{on-code}
-use Rattle.eval.proofs.Arms.{after, branch-both}
+use Rattle.eval.proofs.Arms.{after, branch-both, at-row}
 use Rattle.running.specs.Hands.{Bound}
 use Rattle.running.proofs.Forms.{OfContent}
 
@@ -95,9 +95,6 @@ task-after {s = s} {ρ = ρ} c y w r = world-after w (r .stores) (evaluate-good 
 -- ---- the arms
 
 module _ (rs : List ℕ) (i : ℕ) (env : List ℕ) (d : ℕ) where
-  eval-at : {ws ws₁ : List ℕ} {a b : ℕ} {x : Evaluation} → a ≡ b → EvalOk rs ws ws₁ a env d x → EvalOk rs ws ws₁ b env d x
-  eval-at {ws} {ws₁} {x = x} q h = subst (λ k. EvalOk rs ws ws₁ k env d x) q h
-
   run-at : {ws ws₁ : List ℕ} {a b : ℕ} {x : Bool} → a ≡ b → EvaluateOk rs ws ws₁ a env d x → EvaluateOk rs ws ws₁ b env d x
   run-at {ws} {ws₁} {x = x} q h = subst (λ k. EvaluateOk rs ws ws₁ k env d x) q h
 
@@ -107,7 +104,7 @@ module _ (rs : List ℕ) (i : ℕ) (env : List ℕ) (d : ℕ) where
     content : {Σ Γ : List Ty} {τ : Ty} {s : Store} {ρ : Env} (e : Exp) → SitsExp rs d (opA rs i) e → (Cell rs i → ⊥) → HasType Σ Γ e τ → World rs ws env d Σ Γ s ρ
         → Row ws₂ i (own ∷ valueWords (eval e ρ s .0)) × Stores rs ws₂ (eval e ρ s .1) × Same (λ j. (j ≡ i) ⊎ Cell rs j) ws ws₂ × (x .over ≡ overflows e ρ s)
     content {Σ} {Γ} {τ} {s} {ρ} e z n y w =
-        let p = eval-at ea ha e z Σ Γ τ s ρ y w in
+        let p = at-row rs i env d ea ha e z Σ Γ τ s ρ y w in
         (laid-as (eval e ρ s .0) l (p .answer) .row, stores-laid (p .stores) n l, same-trans (same-weak (λ j c. inr c) (p .same)) (laid-same l (inl refl)), p .over)
 
     pub evaluate-content : OfContent rs i → EvaluateOk rs ws ws₂ i env d (x .over)
@@ -183,7 +180,7 @@ module _ (rs : List ℕ) (i : ℕ) (env : List ℕ) (d : ℕ) where
     unfolding evaluate overflowsTask
     if-at c m n z ht hf Σ Γ τ s ρ (t-if-task y u v) w cl =
         let o = kids-if rs d i c m n z in
-        let p = eval-at ea ha c (z .1) Σ Γ _ s ρ y w in
+        let p = at-row rs i env d ea ha c (z .1) Σ Γ _ s ρ y w in
         let g = after c y w p in
         let dead = clear-cells m n o cl (p .same) in
         let early = same-weak (o .upC) (p .same) in
@@ -213,7 +210,7 @@ module _ (rs : List ℕ) (i : ℕ) (env : List ℕ) (d : ℕ) where
         by : (e : Exp) (b : Code) → Sits rs d i (let' e b) → EvaluateAt rs ws ws₃ i env d (x .over || x₁) (let' e b)
         by e c z Σ Γ τ s ρ (t-let-task y k) w cl =
             let o = kid-let rs d i e c z in
-            let p = eval-at ea ha e (z .1) Σ Γ _ s ρ y w in
+            let p = at-row rs i env d ea ha e (z .1) Σ Γ _ s ρ y w in
             let g = after e y w p in
             let m = laid-as (eval e ρ s .0) l (p .answer) in
             let f = n .pushed (z .4) in

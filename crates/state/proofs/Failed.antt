@@ -34,24 +34,6 @@ failed-alike {rs} {x} {y} {i} v w j = by (ℕ-discrete j i) (ℕ-discrete (word 
     by (no o) (yes k) = alike (v .stores .cells j k) (w .stores .cells j k)
     by (no o) (no k) = alike (v .rest j o k) (w .rest j o k)
 
-module _ (rs : List ℕ) (n : ℕ) (some : 1 ≤ n) (last : Cell rs (n - 1) → ⊥) (s : Store) (inside : Within rs n) (short : (k : ℕ) → Short (getD s k vunit)) where
-  pub failed-writing : WritingFailed rs (n - 1) s (encodeFailed rs n s) × (length (encodeFailed rs n s) ≡ n * stateWords)
-  unfolding encodeFailed
-  failed-writing =
-      let z = length-replicate {A = ℕ} (n * stateWords) 0 in
-      let w = write-cells rs n s short n (omega arith) in
-      let ws = writeCells rs n s (zeroWords (n * stateWords)) in
-      let dead = same-row (w .same) (λ k. last (k .0)) (zero-row (n * stateWords) (n - 1)) in
-      let p = put-laid (whole ∷ []) n (omega arith) (w .long ∙ z) (omega (arith, some)) dead in
-      let cells : Stores rs ws s = record { cells = λ j k. w .holds j (inside j (omega (arith, k))) k } in (
-        record { row = p .row; stores = stores-laid cells last p; rest = λ j o k. same-row (p .same) o (same-row (w .same) (λ c. k (c .0)) (zero-row (n * stateWords) j)) },
-        put-long (whole ∷ []) ws (n - 1) 0 ∙ w .long ∙ z,
-      )
-
-  -- what holds them is that list
-  pub failed-is : {ws : List ℕ} → length ws ≡ n * stateWords → WritingFailed rs (n - 1) s ws → ws ≡ encodeFailed rs n s
-  failed-is {ws} l w = let (v, m) = failed-writing in words-one ws (encodeFailed rs n s) (l ∙ sym m) (failed-alike w v)
-
 -- a list of the same words is one too
 pub failed-same : {rs x y : List ℕ} {i : ℕ} {s : Store} → Same (λ j. ⊥) x y → WritingFailed rs i s x → WritingFailed rs i s y
 failed-same q w = record { row = same-row q (λ z. z) (w .row); stores = stores-kept (w .stores) (λ j k z. z) q; rest = λ j o k. same-row q (λ z. z) (w .rest j o k) }
@@ -101,7 +83,19 @@ module _ (rs : List ℕ) (n : ℕ) (a : AcceptedRows rs n) where
 
     module _ {s : Store} (h : ValueTypes s (a .cells)) where
       pub flow-failed : WritingFailed rs (n - 1) s (encodeFailed rs n s) × (length (encodeFailed rs n s) ≡ n * stateWords)
-      flow-failed = failed-writing rs n (a .some) last-no-cell s (within rs n a rest) (store-short h (cells-small (a .flow .cells)))
+      unfolding encodeFailed
+      flow-failed =
+          let o = a .some in
+          let z = length-replicate {A = ℕ} (n * stateWords) 0 in
+          let w = write-cells rs n s (store-short h (cells-small (a .flow .cells))) n (omega arith) in
+          let ws = writeCells rs n s (zeroWords (n * stateWords)) in
+          let dead = same-row (w .same) (λ k. last-no-cell (k .0)) (zero-row (n * stateWords) (n - 1)) in
+          let p = put-laid (whole ∷ []) n (omega arith) (w .long ∙ z) (omega (arith, o)) dead in
+          let cells : Stores rs ws s = record { cells = λ j k. w .holds j (within rs n a rest j (omega (arith, k))) k } in (
+            record { row = p .row; stores = stores-laid cells last-no-cell p; rest = λ j o k. same-row (p .same) o (same-row (w .same) (λ c. k (c .0)) (zero-row (n * stateWords) j)) },
+            put-long (whole ∷ []) ws (n - 1) 0 ∙ w .long ∙ z,
+          )
 
+      -- what holds them is that list
       pub flow-failed-is : {ws : List ℕ} → length ws ≡ n * stateWords → WritingFailed rs (n - 1) s ws → ws ≡ encodeFailed rs n s
-      flow-failed-is l w = failed-is rs n (a .some) last-no-cell s (within rs n a rest) (store-short h (cells-small (a .flow .cells))) l w
+      flow-failed-is {ws} l w = let (v, m) = flow-failed in words-one ws (encodeFailed rs n s) (l ∙ sym m) (failed-alike w v)

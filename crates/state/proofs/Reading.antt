@@ -27,7 +27,7 @@ use Rattle.value.proofs.Fitting.{value-in}
 use Rattle.rows.specs.Kinds.{typeK, truthK, cellK}
 use Rattle.rows.specs.Rows.{word, opA, opB, opC, isKind}
 use Rattle.rows.specs.ComputeTrees.{cellType, cellTypes}
-use Rattle.rows.proofs.CellsAt.{cells-small}
+use Rattle.rows.proofs.CellsAt.{more-values, cells-small}
 use Rattle.rows.proofs.TreesAgree.{cells-are}
 use Rattle.rows.specs.Accepted.{AcceptedRows}
 use Rattle.state.specs.Layout.{at, own, one, other, valueWords, touchWords, encode}
@@ -169,10 +169,6 @@ module _ (rs ws : List ℕ) {Σ : List Ty} where
 
 -- ---- a store
 
-more-values : {s : Store} {Σ : List Ty} {v : Val} {τ : Ty} → ValueTypes s Σ → ValueType v τ → ValueTypes (s ++ v ∷ []) (Σ ++ τ ∷ [])
-more-values v-nil k = v-cons k v-nil
-more-values (v-cons h hs) k = v-cons h (more-values hs k)
-
 module _ (rs ws : List ℕ) where
   no-cell : (i : ℕ) → isKind rs i cellK ≡ false → cellType rs i ≡ unit
   unfolding cellType
@@ -251,6 +247,10 @@ same-self (x ∷ xs) = let e = same-self xs in let f = eq-eqb x x refl in rw (f,
 
 -- ---- states
 
+-- the cells' types of accepted rows, computed
+pub cells-types : {rs : List ℕ} {n : ℕ} (a : AcceptedRows rs n) → a .cells ≡ cellTypes rs n
+cells-types a = cells-are (a .flow .cells) .0
+
 module _ (rs : List ℕ) (n : ℕ) (a : AcceptedRows rs n) (ws : List ℕ) where
   -- the words are the writing of a well-typed task and store
   pub record Written (t : TaskOf (a .code)) (s : Store) : Type 0 where
@@ -258,13 +258,10 @@ module _ (rs : List ℕ) (n : ℕ) (a : AcceptedRows rs n) (ws : List ℕ) where
     pub stored : ValueTypes s (a .cells)
     pub writing : ws ≡ encode rs n (a .code) t s
 
-  cells-types : a .cells ≡ cellTypes rs n
-  cells-types = cells-are (a .flow .cells) .0
-
   decode-all : All (λ q. Written (q .0) (q .1)) (decode rs n (a .code) (a .cells) ws)
   unfolding decode
   decode-all = bind-all (store-all rs ws n) λ s p. bind-all (read-all rs ws (n - 1) (a .flow .typed)) λ t k. cond-all (same (encode rs n (a .code) t s) ws)
-      (λ e. all-some (record { typed = k; stored = subst (ValueTypes s) (sym cells-types) p; writing = sym (same-true _ _ e) })) (λ e. all-none)
+      (λ e. all-some (record { typed = k; stored = subst (ValueTypes s) (sym (cells-types a)) p; writing = sym (same-true _ _ e) })) (λ e. all-none)
 
   -- what is decoded is well typed, and these are its words
   pub decode-sound : {t : TaskOf (a .code)} {s : Store} → decode rs n (a .code) (a .cells) ws ≡ some (t, s) → Written t s
@@ -277,7 +274,7 @@ module _ (rs : List ℕ) (n : ℕ) (a : AcceptedRows rs n) (ws : List ℕ) where
     decode-is {t} {s} w =
         let v : Writing rs (n - 1) (a .code) t s ws = subst (Writing rs (n - 1) (a .code) t s) (sym (w .writing)) (state-writing rs n a rest (w .typed) (w .stored) .0) in
         let g = cells-small (a .flow .cells) in
-        let p = stores-read rs ws n (subst (ValueTypes s) cells-types (w .stored)) (v .stores) in
+        let p = stores-read rs ws n (subst (ValueTypes s) (cells-types a) (w .stored)) (v .stores) in
         let q = holds-read rs ws g (n - 1) (a .code) (w .typed) small-nil (v .holds) in
         let e : same (encode rs n (a .code) t s) ws ≡ true = ap (same (encode rs n (a .code) t s)) (w .writing) ∙ same-self (encode rs n (a .code) t s) in
         rw (p, q, e)

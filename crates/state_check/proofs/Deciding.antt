@@ -33,7 +33,7 @@ use Rattle.state.proofs.Frames.{same-row, foot-cell}
 use Rattle.state.proofs.Encode.{zero-row, writing-one, taken-same}
 use Rattle.state.specs.Writing.{Writing}
 use Rattle.state.proofs.SitsOf.{last-sits, within}
-use Rattle.state.proofs.Reading.{read-typed, holds-read, store-typed, stores-read}
+use Rattle.state.proofs.Reading.{read-typed, holds-read, store-typed, stores-read, cells-types}
 use Rattle.state_check.specs.Copies.{Sheet, Site, Copy, CopyOk, CopyCells, CellsOk}
 use Rattle.state_check.specs.States.{State, Alike, ZerosAfter, HeldOk}
 
@@ -83,18 +83,15 @@ nothing-there e (got-none z) h = no-some h
 nothing-there e (got-some z g) h = false≢true (sym e ∙ z)
 
 module _ (rs : List ℕ) (n : ℕ) (ws : List ℕ) (l : 1 ≤ n) (a : AcceptedRows rs n) (rest : (j : ℕ) → n ≤ j → word rs j 0 ≡ 0) where
-  types : a .cells ≡ cellTypes rs n
-  types = cells-are (a .flow .cells) .0
-
   -- a state is read
   store-there : (st : State rs n a ws) → readStore rs ws n ≡ some (st .store)
-  store-there st = stores-read rs ws n (subst (ValueTypes (st .store)) types (st .stored)) (st .writing .stores)
+  store-there st = stores-read rs ws n (subst (ValueTypes (st .store)) (cells-types a) (st .stored)) (st .writing .stores)
 
   task-there : (st : State rs n a ws) → readTask rs ws (a .cells) [] (n - 1) (a .code) ≡ some (st .task)
   task-there st = holds-read rs ws (cells-small (a .flow .cells)) (n - 1) (a .code) (st .typed) small-nil (st .writing .holds)
 
   sheet : Sheet rs n (a .cells)
-  sheet = record { known = λ i τ h r. ap (λ Σ. nth Σ i) types ∙ cell-known rs n (facts a .sorted) i τ h r; small = λ i τ h r. facts a .small .types h r }
+  sheet = record { known = λ i τ h r. ap (λ Σ. nth Σ i) (cells-types a) ∙ cell-known rs n (facts a .sorted) i τ h r; small = λ i τ h r. facts a .small .types h r }
 
   last : Site rs n [] (replicate maxBinders 0) 0 (n - 1) (a .code)
   last = record {
@@ -158,7 +155,7 @@ module _ {rs ws zs y : List ℕ} {n : ℕ} {q : Bool} (l : 1 ≤ n) (zero : (j :
               task = t .val;
               store = k .val;
               typed = read-typed rs ws (n - 1) (a .flow .typed) (t .is);
-              stored = subst (ValueTypes (k .val)) (sym (types rs n ws l a rest)) (store-typed rs ws n (k .is));
+              stored = subst (ValueTypes (k .val)) (sym (cells-types a)) (store-typed rs ws n (k .is));
               writing = subst (Writing rs (n - 1) (a .code) (t .val) (k .val)) (sym (whole z)) w;
             };
             no = λ z st.

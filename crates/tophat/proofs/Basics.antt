@@ -1,16 +1,13 @@
--- Truths and optional answers: what every file of proofs uses of them. Rests on nothing.
+-- Truths and optional answers: what every file of proofs uses of them. Rests on crate word's `by-truth`.
 use mathlib.Core.Path.{_≡_, refl, sym, _∙_}
 use mathlib.Core.Bool.{Bool, true, false, _&&_, _||_}
 use mathlib.Core.Option.{Option, none, some}
 use Prim.Native.Nat.{ℕ}
 use native.Mathlib.Omega.{arith}
+pub use Rattle.word.proofs.Order.{by-truth}
 
 pub apart : {P : Type 0} {x : Bool} → x ≡ true → x ≡ false → P
 apart e k = let z : true ≡ false = sym e ∙ k in let z : _≡_ {A = ℕ} 0 1 = cc in absurd (omega arith)
-
-pub by-truth : {P : Type 0} (x : Bool) → (x ≡ true → P) → (x ≡ false → P) → P
-by-truth true f g = f refl
-by-truth false f g = g refl
 
 pub and-left : (x y : Bool) → x && y ≡ true → x ≡ true
 and-left true y e = refl

@@ -32,7 +32,7 @@ some-row (gate r n b) = omega arith
 some-row (if e a b) = omega arith
 some-row (let' e b) = omega arith
 
-length-marked : (m : Mark) (es : List Entry) → length (marked m es) ≡ length es
+pub length-marked : (m : Mark) (es : List Entry) → length (marked m es) ≡ length es
 unfolding marked
 length-marked m [] = refl
 length-marked m (e ∷ es) = ap suc (length-marked m es)

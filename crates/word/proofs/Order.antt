@@ -17,13 +17,14 @@ use Rattle.word.proofs.TwosComplement.{number-low, number-high, halves,
 abbrev pub flip : ℕ → ℕ
 flip a = (a + half) % words
 
-by-test : {P : Type 0} (b : Bool) → (b ≡ true → P) → (b ≡ false → P) → P
-by-test true f g = f refl
-by-test false f g = g refl
+-- by the two answers of a test
+pub by-truth : {P : Type 0} (b : Bool) → (b ≡ true → P) → (b ≡ false → P) → P
+by-truth true f g = f refl
+by-truth false f g = g refl
 
 -- two tests of order are one where each follows from the other
 lt-same : (a b c d : ℕ) → (a < b → c < d) → (b ≤ a → d ≤ c) → ltb a b ≡ ltb c d
-lt-same a b c d f g = by-test (ltb a b)
+lt-same a b c d f g = by-truth (ltb a b)
     (λ e. e ∙ sym (lt-ltb c d (f (ltb-true a b e))))
     (λ e. e ∙ sym (le-ltb c d (g (ltb-false a b e))))
 
@@ -38,7 +39,7 @@ less-number a b ha hb = halves a
 
 -- at most is not less the other way round, on numbers and on integers
 le-not-lt : (a b : ℕ) → leb a b ≡ not (ltb b a)
-le-not-lt a b = by-test (ltb b a)
+le-not-lt a b = by-truth (ltb b a)
     (λ e. lt-leb a b (ltb-true b a e) ∙ ap not (sym e))
     (λ e. le-leb a b (ltb-false b a e) ∙ ap not (sym e))
 
@@ -66,6 +67,6 @@ pub eqZ-false : (x y : ℤ) → eqZ x y ≡ false → x ≡ y → ⊥
 eqZ-false x y e q = let z : true ≡ false = sym (eqZ-refl x) ∙ ap (eqZ x) q ∙ e in let n : _≡_ {A = ℕ} 0 1 = cc in omega arith
 
 pub equal-number : (a b : ℕ) → a < words → b < words → eqb a b ≡ eqZ (toZ w32 a) (toZ w32 b)
-equal-number a b ha hb = by-test (eqZ (toZ w32 a) (toZ w32 b))
+equal-number a b ha hb = by-truth (eqZ (toZ w32 a) (toZ w32 b))
     (λ e. eq-eqb a b (number-injective a b ha hb (eqZ-true (toZ w32 a) (toZ w32 b) e)) ∙ sym e)
     (λ e. ne-eqb a b (λ q. eqZ-false (toZ w32 a) (toZ w32 b) e (ap (toZ w32) q)) ∙ sym e)
