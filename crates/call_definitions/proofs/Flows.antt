@@ -3,7 +3,6 @@
 use mathlib.Core.Path.{_≡_, subst}
 use mathlib.Core.Bool.{true, false}
 use mathlib.Core.List.{List}
-use Prim.Native.Nat.{_-_}
 use borrow.Table.Steps.{cases}
 use lib.IntN.{ℤ}
 use Rattle.word.specs.Word.{AllWords}

@@ -1,6 +1,4 @@
 // The cells' first contents, written into words of zeros (01, "The sheet").
-use rows::MAX_ROWS;
-use rows::ROW_WORDS;
 use rows::ROWS_WORDS;
 use rows::get;
 use rows::kinds::CELL;

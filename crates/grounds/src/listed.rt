@@ -9,8 +9,6 @@ ghost use Rattle.grounds.specs.Table.{askBy, asksBy};
 use crate::table::Ask;
 use crate::table::Asks;
 use crate::table::asks_at;
-use rows::MAX_ROWS;
-use rows::ROW_WORDS;
 use rows::ROWS_WORDS;
 use rows::get;
 use rows::is_role;

@@ -13,7 +13,6 @@ use crate::table::Asks;
 use crate::table::asks_at;
 use crate::table::names_row;
 use rows::MAX_ROWS;
-use rows::ROW_WORDS;
 use rows::ROWS_WORDS;
 use rows::get;
 use rows::kinds::FIRST_EXPRESSION;

@@ -14,7 +14,6 @@ use crate::table::Own;
 use crate::table::asks_at;
 use crate::table::below;
 use rows::MAX_ROWS;
-use rows::ROW_WORDS;
 use rows::ROWS_WORDS;
 use rows::get;
 

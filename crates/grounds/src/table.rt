@@ -11,7 +11,6 @@ use crate::table::Ask::*;
 use crate::table::Asks::*;
 use crate::table::Own::*;
 use rows::MAX_ROWS;
-use rows::ROW_WORDS;
 use rows::ROWS_WORDS;
 use rows::get;
 

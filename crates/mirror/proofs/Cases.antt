@@ -13,7 +13,7 @@ use lib.IntN.{ℤ, pos}
 use lib.ListN.{length, replicate, set}
 use Rattle.word.specs.Word.{IsWord, AllWords}
 use Rattle.word.proofs.Lists.{words-cons}
-use Rattle.tophat.specs.Syntax.{Ty, number, ebinder, Code, edit, enter, update, next, or, vunit, vnumber, Store}
+use Rattle.tophat.specs.Syntax.{number, ebinder, Code, edit, enter, update, next, or, vunit, vnumber, Store}
 use Rattle.tophat.specs.Syntax as syntax
 use Rattle.tophat.specs.Typing.{CodeType}
 use Rattle.tophat.specs.Renamed.{Apart, Agrees}

@@ -3,7 +3,7 @@
 use mathlib.Core.Path.{_≡_, refl, sym, ap, _∙_}
 use mathlib.Core.Bool.{true, cond}
 use mathlib.Core.Option.{Option, none, some}
-use mathlib.Core.List.{List, [], _∷_, _++_, append-assoc}
+use mathlib.Core.List.{List, [], _++_, append-assoc}
 use Prim.Native.Nat.{ℕ, _+_, _*_, _-_, _≤_}
 use native.Mathlib.Omega.{arith}
 use borrow.Author.Tests.{le-leb}
@@ -11,7 +11,7 @@ use borrow.Table.Steps.{cases}
 use lib.Dec.{leb, eqb}
 use lib.IntN.{ℤ, pos}
 use lib.ListN.{length, replicate, length-append, length-replicate, replicate-append-replicate}
-use Rattle.decimal.specs.Path.{Mark, first, second}
+use Rattle.decimal.specs.Path.{first, second}
 use Rattle.tophat.specs.Syntax.{maxLeaves, Ty, pair, leaves, Code, and, TaskOf, both, Val, Store}
 use Rattle.tophat.specs.Typing.{k-both, ValueType, small-nil}
 use Rattle.tophat.specs.Leaves.{leavesOf, padded}

@@ -5,8 +5,8 @@ use mathlib.Core.List.{List, [], _∷_}
 use Prim.Native.Nat.{ℕ, _*_, _-_, _≤_}
 use native.Mathlib.Decide.{ℕ-discrete}
 use native.Mathlib.Omega.{arith}
-use lib.ListN.{length, getD, take, length-replicate}
-use Rattle.tophat.specs.Syntax.{Code, edit, enter, update, then, next, fail, and, or, xor, view, gate, if, let', vunit, Store}
+use lib.ListN.{length, take, length-replicate}
+use Rattle.tophat.specs.Syntax.{Code, edit, enter, update, then, next, fail, and, or, xor, view, gate, if, let', Store}
 use Rattle.tophat.specs.Syntax.{TaskOf, filled, blank, entered, shared, before, after, failed, both, either, orLeft, orRight, unpicked, pickedLeft, pickedRight, gated, ifTrue, ifFalse, bound}
 use Rattle.tophat.specs.Typing.{ValueTypes}
 use Rattle.rows.specs.Kinds.{cellK, numberOf}
@@ -18,7 +18,7 @@ use Rattle.state.specs.Holds.{treeOf, Cell, Holds, Stores, Same}
 use Rattle.state.specs.Writing.{Writing, WritingFailed}
 use Rattle.state.proofs.Words.{zeroWords}
 use Rattle.state.proofs.Frames.{same-row, stores-kept, stores-laid, foot-self, foot-cell}
-use Rattle.state.proofs.Writes.{put-long, put-laid, Short, Within}
+use Rattle.state.proofs.Writes.{put-long, put-laid}
 use Rattle.state.proofs.Encode.{zero-row, write-cells, front-same, Alike, alike, words-one}
 use Rattle.state.proofs.Typed.{store-short}
 use Rattle.state.proofs.SitsOf.{last-sits, within}

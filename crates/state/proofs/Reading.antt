@@ -14,7 +14,7 @@ use lib.Seq.{take-all, take-suc, getD-append-seam}
 use borrow.Author.Tests.{eqb-true, eq-eqb, leb-true, le-leb}
 use Rattle.match_laws.proofs.Ranges.{and-left, and-right}
 use Rattle.tophat.specs.Syntax.{maxLeaves, Ty, unit, truth, number, leaves, Code, edit, enter, update, then, next, fail, and, or, xor, view, gate, if, let', Val, vunit, Store, TaskOf}
-use Rattle.tophat.specs.Typing.{CodeType, t-edit, t-enter, t-update, t-then, t-next, t-fail, t-and, t-or, t-xor, t-view, t-gate, t-if-task, t-let-task, ValueType, v-unit, ValueTypes, v-nil, v-cons, AllSmall, small-nil, small-cons}
+use Rattle.tophat.specs.Typing.{CodeType, t-edit, t-enter, t-update, t-then, t-next, t-fail, t-and, t-or, t-xor, t-view, t-gate, t-if-task, t-let-task, ValueType, v-unit, ValueTypes, v-nil, AllSmall, small-nil, small-cons}
 use Rattle.tophat.specs.Typing.{TaskType, k-filled, k-blank, k-entered, k-shared, k-then-before, k-then-after, k-next-before, k-next-after, k-failed, k-both, k-either, k-or-left, k-or-right}
 use Rattle.tophat.specs.Typing.{k-unpicked, k-picked-left, k-picked-right, k-viewed, k-gated, k-if-true, k-if-false, k-bound}
 use Rattle.tophat.proofs.Basics.{All, all-none, all-some, all-is}

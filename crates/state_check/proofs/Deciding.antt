@@ -18,9 +18,7 @@ use Rattle.tophat.proofs.Basics.{no-some, some-is}
 use Rattle.tophat.proofs.ComputeTyping.{nth}
 use Rattle.rows.specs.Rows.{word}
 use Rattle.rows.specs.Enclosing.{maxBinders}
-use Rattle.rows.specs.ComputeTrees.{cellTypes}
 use Rattle.rows.proofs.CellsAt.{cells-small}
-use Rattle.rows.proofs.TreesAgree.{cells-are}
 use Rattle.rows.specs.Accepted.{AcceptedRows}
 use Rattle.rows.proofs.Accepted.{facts}
 use Rattle.typing.proofs.Cells.{cell-known}

@@ -1,7 +1,7 @@
 -- A task shows anyone nothing exactly when it is quiet, and a task that is quiet or fails shows no role anything. Where A is quiet, a 44 is quiet exactly when no
 -- handling rule derives a step for Continue. Rests on EntriesAgree, HandlingComplete and FailingKept.
 use mathlib.Core.Path.{_≡_, refl, sym, ap₂, subst, _∙_}
-use mathlib.Core.Bool.{Bool, true, false, not, _&&_}
+use mathlib.Core.Bool.{Bool, true, false, not}
 use mathlib.Core.Logic.{_↔_}
 use mathlib.Core.Option.{Option, none, some}
 use mathlib.Core.List.{List, [], _∷_, _++_, cons≢nil}
@@ -17,7 +17,6 @@ use Rattle.tophat.specs.Handling.{Button, continue, left, right, press, 
 use Rattle.tophat.specs.Showing.{Entry, marked, offers, buttonIf, entriesIf}
 use Rattle.tophat.proofs.Basics.{apart, and-left, and-right, no-some}
 use Rattle.tophat.proofs.ComputeNormalising.{failing, normalise, settle, rightFails, branchFails}
-use Rattle.tophat.proofs.ComputeHandling.{handle}
 use Rattle.tophat.proofs.ComputeEntries.{continueIf, entries}
 use Rattle.tophat.proofs.Became.{alike, touched-alike, Formed, of-wraps, of-edit, of-enter, of-update, of-then, of-next, of-fail, of-and, of-or, of-xor, of-view, formed, inner}
 use Rattle.tophat.proofs.FailingKept.{value-lives}

@@ -2,7 +2,6 @@
 
 use match_laws;
 use rows::MAX_BINDERS;
-use rows::ROW_WORDS;
 use rows::ROWS_WORDS;
 use rows::get;
 use rows::kind;

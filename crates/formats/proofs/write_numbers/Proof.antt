@@ -10,9 +10,6 @@ use Rattle.formats.specs.Records.{putItems, itemsOf}
 use Rattle.formats.proofs.Loops.{write-more, write-all}
 use Rattle.formats.proofs.write_numbers.Statement.{statement}
 use Rattle.formats.proofs.write_numbers.Tie as tie
-use Rattle.formats.proofs.write_numbers.Reads as reads
-use Rattle.formats.proofs.write_numbers.Lts as lts
-use Rattle.decimal.proofs.field.write.Reads as write-reads
 
 abbrev Inv-loop : tie.InvT-loop
 Inv-loop s₀ at width numbers i₀ s i = (i ≤ maxLeaves) × (length s ≡ length s₀) × (s ≡ putItems s₀ at (itemsOf width (take i numbers)))

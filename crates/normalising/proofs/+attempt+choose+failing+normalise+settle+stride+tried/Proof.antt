@@ -6,7 +6,6 @@ mod ChooseAnswers
 mod FailingAnswers
 mod StrideAnswers
 mod NormaliseAnswers
-use Prim.Native.Nat.{_+_, _-_}
 use Rattle.normalising.proofs.attempt.Reads as attempt
 use Rattle.normalising.proofs.+attempt+choose+failing+normalise+settle+stride+tried.Lts-attempt as attempt-lts
 use Rattle.normalising.proofs.choose.Reads as choose

@@ -8,8 +8,6 @@ use Rattle.tophat.specs.Syntax.{maxLeaves}
 use Rattle.flow.proofs.EventLaws.{some-leaf, no-leaf, one-more}
 use Rattle.flow.proofs.event.all_zero.Statement.{statement}
 use Rattle.flow.proofs.event.all_zero.Tie as tie
-use Rattle.flow.proofs.event.all_zero.Reads as reads
-use Rattle.flow.proofs.event.all_zero.Lts as lts
 
 abbrev Inv-loop : tie.InvT-loop
 Inv-loop leaves k₀ k = (k ≤ maxLeaves) × ((i : ℕ) → i < k → getD leaves i 0 ≡ 0)

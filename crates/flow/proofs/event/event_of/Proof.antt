@@ -3,10 +3,6 @@ use borrow.Author.Needs.{needs}
 use Rattle.flow.proofs.EventLaws.{leaves-unread, action-unknown, says-event}
 use Rattle.flow.proofs.event.event_of.Statement.{statement}
 use Rattle.flow.proofs.event.event_of.Tie as tie
-use Rattle.flow.proofs.event.event_of.Reads as reads
-use Rattle.flow.proofs.event.event_of.Lts as lts
-use Rattle.flow.proofs.event.known.Reads as known-reads
-use Rattle.flow.proofs.event.unread.Reads as unread-reads
 
 returns : tie.Need-returns
 returns c =

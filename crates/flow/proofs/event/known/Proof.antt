@@ -5,9 +5,6 @@ use Rattle.flow.proofs.EventLaws.{known-value, unknown, known-other}
 use borrow.Author.Needs.{needs}
 use Rattle.flow.proofs.event.known.Statement.{statement}
 use Rattle.flow.proofs.event.known.Tie as tie
-use Rattle.flow.proofs.event.known.Reads as reads
-use Rattle.flow.proofs.event.known.Lts as lts
-use Rattle.flow.proofs.event.all_zero.Reads as all-zero-reads
 
 returns : tie.Need-returns
 returns c = λ blank z. known-value (c .before .args .action) (leavesBy (c .before .args .leaves) blank) (c .before .fits .action .fits) (c .if1 .taken)

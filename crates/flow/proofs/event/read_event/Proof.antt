@@ -6,10 +6,6 @@ use Rattle.flow.specs.Reads.{Says}
 use Rattle.flow.proofs.EventLaws.{says-unread, not-long, not-ended, by-fields}
 use Rattle.flow.proofs.event.read_event.Statement.{statement}
 use Rattle.flow.proofs.event.read_event.Tie as tie
-use Rattle.flow.proofs.event.read_event.Reads as reads
-use Rattle.flow.proofs.event.read_event.Lts as lts
-use Rattle.flow.proofs.event.read_fields.Reads as read-fields-reads
-use Rattle.flow.proofs.event.unread.Reads as unread-reads
 
 returns : tie.Need-returns
 returns c =

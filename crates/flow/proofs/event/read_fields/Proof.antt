@@ -5,14 +5,6 @@ use Rattle.flow.specs.Reads.{Says, fieldsSay}
 use Rattle.flow.proofs.EventLaws.{zero-blanks, says-unread, no-role, no-path, blank-action, no-action, fields-are}
 use Rattle.flow.proofs.event.read_fields.Statement.{statement}
 use Rattle.flow.proofs.event.read_fields.Tie as tie
-use Rattle.flow.proofs.event.read_fields.Reads as reads
-use Rattle.flow.proofs.event.read_fields.Lts as lts
-use Rattle.decimal.proofs.field.read.Reads as field-read-reads
-use Rattle.decimal.proofs.path.read.Reads as path-read-reads
-use Rattle.formats.proofs.read_leaves.Reads as read-leaves-reads
-use Rattle.formats.proofs.read_role.Reads as read-role-reads
-use Rattle.flow.proofs.event.event_of.Reads as event-of-reads
-use Rattle.flow.proofs.event.unread.Reads as unread-reads
 
 returns : tie.Need-returns
 returns c =

@@ -7,12 +7,6 @@ use Rattle.flow.proofs.OpenLaws.{site-of}
 use Rattle.flow.proofs.StartLaws.{start-20, start-21, start-0}
 use Rattle.flow.proofs.start.start.Statement.{statement}
 use Rattle.flow.proofs.start.start.Tie as tie
-use Rattle.flow.proofs.start.start.Reads as reads
-use Rattle.flow.proofs.start.start.Lts as lts
-use Rattle.flow.proofs.answer.refused.Reads as refused-reads
-use Rattle.flow.proofs.start.begin.Reads as begin-reads
-use Rattle.sheet.proofs.accepted_rows.Reads as accepted-rows-reads
-use Rattle.state.proofs.lent.state_out.Reads as state-out-reads
 
 returns : tie.Need-returns
 returns c =

@@ -7,14 +7,6 @@ use Rattle.flow.proofs.OpenLaws.{opened-fine}
 use Rattle.flow.proofs.TakeLaws.{take-refused, take-8, take-failed, take-no, take-0, opened-room}
 use Rattle.flow.proofs.take.take.Statement.{statement}
 use Rattle.flow.proofs.take.take.Tie as tie
-use Rattle.flow.proofs.take.take.Reads as reads
-use Rattle.flow.proofs.take.take.Lts as lts
-use Rattle.flow.proofs.answer.refused.Reads as refused-reads
-use Rattle.flow.proofs.take.take_failed.Reads as take-failed-reads
-use Rattle.flow.proofs.open.open.Reads as open-reads
-use Rattle.handle.proofs.handle.Reads as handle-reads
-use Rattle.normalising.proofs.normalise.Reads as normalise-reads
-use Rattle.state.proofs.lent.state_out.Reads as state-out-reads
 
 returns : tie.Need-returns
 returns c =

@@ -4,10 +4,6 @@ use Rattle.formats.specs.Touches.{eventOf}
 use Rattle.flow.proofs.TakeLaws.{take-handles, says-known}
 use Rattle.flow.proofs.touch.handle.Statement.{statement}
 use Rattle.flow.proofs.touch.handle.Tie as tie
-use Rattle.flow.proofs.touch.handle.Reads as reads
-use Rattle.flow.proofs.touch.handle.Lts as lts
-use Rattle.flow.proofs.event.read_event.Reads as read-event-reads
-use Rattle.flow.proofs.take.take.Reads as take-reads
 
 take-requires : tie.Need-take-requires
 take-requires c κs =

@@ -5,7 +5,7 @@ use native.Mathlib.Omega.{arith}
 use borrow.Author.Needs.{needs}
 use Rattle.normalising.proofs.Calling.{call-b, fine-a, fine-b}
 use Rattle.normalising.proofs.Trying.{attempt-deep, attempt-over, attempt-fails, attempt-goes}
-use Prim.Native.Nat.{ℕ, _+_, _-_}
+use Prim.Native.Nat.{ℕ, _+_}
 use Rattle.normalising.proofs.attempt.Reads as attempt
 use Rattle.normalising.proofs.+attempt+choose+failing+normalise+settle+stride+tried.Lts-attempt as attempt-lts
 use Rattle.normalising.proofs.+attempt+choose+failing+normalise+settle+stride+tried.Proof.Cycle.{attempt-at, attempt-calls}

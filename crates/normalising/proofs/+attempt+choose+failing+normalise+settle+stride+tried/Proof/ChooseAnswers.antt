@@ -3,7 +3,7 @@ use mathlib.Core.Path.{sym}
 use native.Mathlib.Omega.{arith}
 use Rattle.normalising.proofs.Calling.{call-a, call-b, fine-a, fine-b, or-left, or-right}
 use Rattle.normalising.proofs.Striding.{choose-left, choose-none, choose-right}
-use Prim.Native.Nat.{ℕ, _-_}
+use Prim.Native.Nat.{ℕ}
 use Rattle.normalising.proofs.choose.Reads as choose
 use Rattle.normalising.proofs.+attempt+choose+failing+normalise+settle+stride+tried.Lts-choose as choose-lts
 use Rattle.normalising.proofs.+attempt+choose+failing+normalise+settle+stride+tried.Proof.Cycle.{choose-at, choose-calls}

@@ -1,6 +1,6 @@
 -- The cycle of failing, tried, settle, normalise, stride, choose and attempt: its measure, six times the row, which falls, and a number for
 -- each function; and what each may call. Assumes nothing.
-use Prim.Native.Nat.{ℕ, _+_, _*_, _-_, _<_}
+use Prim.Native.Nat.{ℕ, _+_, _*_, _<_}
 use borrow.Fn.Kinds.{In}
 use borrow.Fn.PlainCycle.{Measures, is, falls, and}
 use Rattle.normalising.proofs.attempt.Reads as attempt

@@ -5,7 +5,7 @@ use native.Mathlib.Omega.{arith}
 use Rattle.running.proofs.Handing.{failing-hands}
 use Rattle.normalising.proofs.Calling.{call-a, call-b, call-part, past}
 use Rattle.normalising.proofs.Asking.{failing-fail, failing-step, failing-both, failing-branches, failing-editor}
-use Prim.Native.Nat.{ℕ, _-_}
+use Prim.Native.Nat.{ℕ}
 use Rattle.normalising.proofs.failing.Reads as failing
 use Rattle.normalising.proofs.+attempt+choose+failing+normalise+settle+stride+tried.Lts-failing as failing-lts
 use Rattle.normalising.proofs.+attempt+choose+failing+normalise+settle+stride+tried.Proof.Cycle.{failing-at, failing-calls}

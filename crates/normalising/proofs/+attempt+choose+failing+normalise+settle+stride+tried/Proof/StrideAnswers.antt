@@ -4,7 +4,7 @@ use native.Mathlib.Omega.{arith}
 use Rattle.running.proofs.Handing.{stride-hands}
 use Rattle.normalising.proofs.Calling.{call-same, call-a, call-b, call-part, fine-a, not-t, not-f, or-left, or-right}
 use Rattle.normalising.proofs.Striding.{stride-next, step-waits, step-tries, stride-both, stride-none}
-use Prim.Native.Nat.{ℕ, _-_}
+use Prim.Native.Nat.{ℕ}
 use Rattle.normalising.proofs.stride.Reads as stride
 use Rattle.normalising.proofs.+attempt+choose+failing+normalise+settle+stride+tried.Lts-stride as stride-lts
 use Rattle.normalising.proofs.+attempt+choose+failing+normalise+settle+stride+tried.Proof.Cycle.{stride-at, stride-calls}

@@ -3,11 +3,6 @@ use borrow.Author.Needs.{needs}
 use Rattle.screens.proofs.HeadLaws.{head-written}
 use Rattle.screens.proofs.head.write.Statement.{statement}
 use Rattle.screens.proofs.head.write.Tie as tie
-use Rattle.screens.proofs.head.write.Reads as reads
-use Rattle.screens.proofs.head.write.Lts as lts
-use Rattle.decimal.proofs.field.write.Reads as write-reads
-use Rattle.formats.proofs.write_numbers.Reads as write-numbers-reads
-use Rattle.screens.proofs.head.write_end.Reads as write-end-reads
 
 returns : tie.Need-returns
 returns c =
