@@ -17,7 +17,7 @@ use Rattle.tophat.specs.Showing.{Entry, marked, buttonIf, entriesIf}
 use Rattle.tophat.proofs.ComputeNormalising.{normalise, settle}
 use Rattle.tophat.proofs.ComputeEntries.{entries}
 use Rattle.tophat.proofs.Became.{touched-alike}
-use Rattle.rows.specs.Kinds.{taskK, editK, thenK, nextK, failK, andK, orK, xorK, numberOf, gateK}
+use Rattle.rows.specs.Kinds.{taskK, editK, thenK, nextK, andK, orK, xorK, numberOf, gateK}
 use Rattle.rows.specs.Rows.{word, opA, opB, OfKind, FromKind, UpToKind}
 use Rattle.shape.specs.Shape.{kindsOf}
 use Rattle.state.specs.Layout.{at}

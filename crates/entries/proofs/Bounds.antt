@@ -2,7 +2,7 @@
 -- on crate formats' EntriesFit.
 use mathlib.Core.Path.{refl, sym, subst}
 use mathlib.Core.List.{List, []}
-use Prim.Native.Nat.{ℕ, _*_, _≤_}
+use Prim.Native.Nat.{ℕ, _≤_}
 use native.Mathlib.Omega.{arith}
 use lib.ListN.{length}
 use Rattle.decimal.specs.Path.{marksFrom, pathOf}
@@ -13,7 +13,6 @@ use Rattle.tophat.specs.Showing.{MarksFit}
 use Rattle.tophat.proofs.ComputeEntries.{entries}
 use Rattle.rows.specs.Rows.{maxRows}
 use Rattle.state.specs.Holds.{Sits, Holds, World}
-use Rattle.formats.specs.Touches.{entryBytes}
 use Rattle.formats.specs.Lists.{listText}
 use Rattle.formats.proofs.EntriesFit.{entries-fit, bytes-most}
 use Rattle.entries.specs.Listing.{listBytes, Counted, AtPath, EntriesOk}

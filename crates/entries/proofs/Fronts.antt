@@ -23,9 +23,6 @@ tail-put a xs ys = rw (drop-of-length-le (drop a xs) {i = length xs - a} (omega 
 abbrev pub tailOf : ℕ → List ℕ → List ℕ
 tailOf a xs = take (length xs - a) (drop a xs)
 
-pub length-tail : (a : ℕ) (xs : List ℕ) → length (tailOf a xs) ≡ length xs - a
-length-tail a xs = ap length (tail-part a xs) ∙ length-drop a xs
-
 -- xs, and ys after them: lent the part after those already written, or one of no byte where there is no room
 pub counted-after : {list l₁ l₂ : List ℕ} {n m k : ℕ} {xs ys : List ℕ} → length l₁ ≡ length list → Least n (length l₁) k → Counted list l₁ n xs → Counted (tailOf k l₁) l₂ m ys
     → Counted list (putMid k (length l₁ - k) l₁ l₂) (n + m) (xs ++ ys)

@@ -2,17 +2,15 @@
 use mathlib.Core.Path.{_≡_, refl, sym, ap, ap₂, subst, _∙_}
 use mathlib.Core.Bool.{Bool, true, false}
 use mathlib.Core.Option.{Option, none, some}
-use mathlib.Core.List.{List, [], _∷_, _++_, map, append-nil}
-use Prim.Native.Nat.{ℕ, zero, suc, _+_, _*_, _-_, _≤_, _<_}
-use native.Mathlib.Numerals.{add-one}
-use native.Mathlib.Nat.{le-of-lt}
+use mathlib.Core.List.{List, [], _++_, map, append-nil}
+use Prim.Native.Nat.{ℕ, zero, suc, _+_, _*_, _-_, _≤_}
 use native.Mathlib.Omega.{arith}
 use borrow.Author.Tests.{le-leb, leb-true, eqb-true, eqb-false}
 use borrow.Table.Steps.{cases}
 use lib.Dec.{leb, eqb}
 use lib.IntN.{ℤ}
-use lib.ListN.{length, take, drop, getD, set, length-append, drop-of-length-le}
-use lib.Seq.{take-at, take-suc, drop-cons, set-at, append-snoc, length-take-le}
+use lib.ListN.{length, take, drop, length-append, drop-of-length-le}
+use lib.Seq.{take-at, length-take-le}
 use mir.Syntax.{w32}
 use mir.Val.{toZ}
 use Rattle.word.specs.Laid.{laid}
@@ -27,7 +25,6 @@ use Rattle.tophat.proofs.ComputeEntries.{entries}
 use Rattle.tophat.proofs.EntriesQuiet.{failing-empty}
 use Rattle.tophat.proofs.Preservation.{OptionType, o-some, value-type}
 use Rattle.rows.specs.GroundNumbers.{eventNotRead, listTooShort}
-use Rattle.rows.specs.Rows.{maxRows}
 use Rattle.value.specs.declared.Found.{Found}
 use Rattle.value.specs.Values.{asValue, noValue}
 use Rattle.value.specs.Found.{asFound}
@@ -42,9 +39,8 @@ use Rattle.entries.proofs.Bounds.{entries-counted}
 use Rattle.flow.specs.declared.look.Looked.{Looked}
 use Rattle.flow.specs.declared.open.Opening.{Opening}
 use Rattle.call_definitions.specs.Memory.{LookAnswer, lookRefusal, flag, valueMemory, hasOne}
-use Rattle.call_definitions.specs.States.{FlowState, taskState}
+use Rattle.call_definitions.specs.States.{FlowState}
 use Rattle.call_definitions.specs.Calls.{Opened, refusedBy, restOf, opened, lookRest, lookIn, lookCall}
-use Rattle.call_definitions.proofs.LookAnswered.{looking}
 use Rattle.flow.specs.Opens.{Ready, OpensTo, to-task, to-failed, Opens, OpenOk}
 use Rattle.flow.specs.Looks.{Filled, FailsOk, RoomOk, ShowOk, ShowFailedOk, LookOk}
 use Rattle.flow.proofs.SiteLaws.{sits, around, small, marks, tasks-rows, few-tasks, ready-writing}

@@ -1,9 +1,11 @@
--- CR 2's cases as one computed check from the sheet's text and the events' bytes to the bytes printed: fields left blank. Rests on Sessions.
+-- CR 2's cases as one computed check from the sheet's text and the events' bytes to the bytes printed: fields left blank. And row counts, which
+-- may not be. Rests on Sessions.
 use mathlib.Core.Path.{_≡_, refl}
 use mathlib.Core.Bool.{true}
-use mathlib.Core.List.{List, [], _∷_}
+use mathlib.Core.List.{List, [], _∷_, map}
 use Prim.Native.String.{String}
-use Rattle.screens.proofs.Sessions.{agree}
+use Rattle.screens.specs.Counts.{countIn, countSaid}
+use Rattle.screens.proofs.Sessions.{text, agree}
 
 -- P1 to P4 with every unused operand blank; first a blank leaf at the editor, refused, then 01's touches with a blank path and blank unused
 -- leaves: 01's screens
@@ -121,3 +123,8 @@ all-agree : agree (
     []) ≡ true
 unfolding agree
 all-agree = refl
+
+-- row counts: 1 and 256; 257, 0, below 0, blank, a leading zero, and one byte short are none (01, "A session in full")
+counts-said : map (λ s. countIn (text (s ∷ []))) ("   1" ∷ " 256" ∷ " 257" ∷ "   0" ∷ "  -1" ∷ "    " ∷ "  01" ∷ "  1" ∷ []) ≡ 1 ∷ 256 ∷ 0 ∷ 0 ∷ 0 ∷ 0 ∷ 0 ∷ 0 ∷ []
+unfolding countIn countSaid text agree
+counts-said = refl

@@ -1,6 +1,7 @@
 -- What an accepted event does to the touches left (CR 6: "An accepted event uses one touch of each kind 50 row from the last row, itself
 -- included, to the row that takes it; the touches left, 0 to C, are part of the state, C when the row is evaluated"): where rows stand in a task,
 -- which of them are live, which one takes an event, and what the event uses (`UsesTouches`; proofs/TouchesUsed is the theorem). Rests on Handling.
+-- Believed.
 use mathlib.Core.Path.{_≡_}
 use mathlib.Core.Bool.{Bool, true, false, _&&_}
 use mathlib.Core.Option.{some}

@@ -5,12 +5,6 @@ use borrow.Author.Tests.{not-true, not-false}
 use Rattle.flow.proofs.LookLaws.{fill-fine, fill-shut, fill-8, fill-failed, fill-ready}
 use Rattle.flow.proofs.look.fill.Statement.{statement}
 use Rattle.flow.proofs.look.fill.Tie as tie
-use Rattle.flow.proofs.look.fill.Reads as reads
-use Rattle.flow.proofs.look.fill.Lts as lts
-use Rattle.flow.proofs.look.show.Reads as show-reads
-use Rattle.flow.proofs.look.show_failed.Reads as show-failed-reads
-use Rattle.flow.proofs.open.open.Reads as open-reads
-use Rattle.rows.proofs.is_role.Reads as is-role-reads
 
 returns : tie.Need-returns
 returns c =

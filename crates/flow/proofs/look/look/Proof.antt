@@ -3,9 +3,6 @@ use borrow.Author.Needs.{needs}
 use Rattle.flow.proofs.LookLaws.{part-long, look-is}
 use Rattle.flow.proofs.look.look.Statement.{statement}
 use Rattle.flow.proofs.look.look.Tie as tie
-use Rattle.flow.proofs.look.look.Reads as reads
-use Rattle.flow.proofs.look.look.Lts as lts
-use Rattle.flow.proofs.look.fill.Reads as fill-reads
 
 slice-aggregate-result : tie.Need-slice-aggregate-result
 slice-aggregate-result c =
