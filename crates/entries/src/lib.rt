@@ -1,5 +1,6 @@
 // The entries that a task shows, written as bytes one after another into the list that is lent (01, "Touches and what is shown"); lent a
-// list of no bytes they are counted. Rests on crate decimal for fields, on crate normalising for what a button would do, and on crate running for rows that hand on.
+// list of no bytes they are counted. Rests on crate decimal for fields, on crate normalising for what a button would do, and on crate
+// running for rows that hand on.
 use decimal::field;
 use decimal::field::ACTION_COLUMNS;
 use decimal::field::NEWLINE;
