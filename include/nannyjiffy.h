@@ -100,8 +100,9 @@ uint32_t nannyjiffy_start(const int32_t *rows, size_t rows_words, int32_t *state
  *   role    who looks, 1 to 8, else 8; the list has just what this role may do now, all else is the same for every role
  *   value   accepted: all 8 words written, the value's leaves, unused ones 0, all 0 without a value; 8 words exactly, else 21
  *   list    accepted: the entries from its first byte on, 35 bytes each; the bytes after them keep their content.
- *           Too short for the entries: 24. NANNYJIFFY_LIST_BYTES(rows) always suffice; where there is no entry none is needed:
- *           for every role in a quiet flow, for one role while another can go on, and for all once touches are spent
+ *           Too short for the entries: 24. NANNYJIFFY_LIST_BYTES(rows) always suffice, and are written in one walk, where
+ *           a shorter list is counted first; where there is no entry none is needed: for every role in a quiet flow, for
+ *           one role while another can go on, and for all once touches are spent
  *   valued  1 with a value, else 0; refused: 0
  *   fails   1 where the flow fails, else 0; a flow that fails is quiet, a quiet one need not fail; it is 1 after a failed
  *           start; refused: 0
