@@ -74,8 +74,8 @@ fn lists_at_their_edges() {
         shown.into_iter().map(move |length| Lent { list: vec![7; length], ..lent.clone() })
     };
     let [.., look, _] = compare(lent::inputs(seed, count).flat_map(at_edges));
-    // One length of five is a byte too short; an entry a row less one byte is too, where each row shows one.
-    assert!(look.of(24) as u64 >= count / 5 && look.of(0) >= 3 * look.of(24), "{look}");
+    // One length of five is a byte too short: no flow shows an entry for each of its rows.
+    assert!(look.of(24) as u64 >= count / 5 && look.of(0) == 4 * look.of(24), "{look}");
 }
 
 /// Words and bytes of a memory at most: the fence has room for them.
