@@ -7,3 +7,4 @@ pub mod StartLaws
 pub mod EventLaws
 pub mod TakeLaws
 pub mod LookLaws
+pub mod ValuesShown

@@ -5,3 +5,4 @@ pub mod Failed
 pub mod Starts
 pub mod Takes
 pub mod Looks
+pub mod Values

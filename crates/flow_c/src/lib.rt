@@ -4,12 +4,14 @@
 use flow::look;
 use flow::start;
 use flow::touch;
+use receipt;
 use sheet;
 ghost use mathlib.Core.Path.{_≡_};
 ghost use lib.ListN.{length};
 ghost use Rattle.sheet.specs.Sheet.{loaded};
 ghost use Rattle.call_definitions.specs.Calls.{startCall, lookCall, handleCall};
 ghost use Rattle.call_definitions.specs.Touches.{Bounded};
+ghost use Rattle.receipt.specs.Receipts.{receiptOf};
 
 // Loads a sheet into lent rows: 0, or the first ground of 1, 21 and 2 to 7.
 #[no_mangle]
@@ -76,4 +78,15 @@ pub extern "C" fn nannyjiffy_handle(
     let handled = touch::handle(rows, state, event);
     *strides = handled.strides;
     handled.number
+}
+
+// What an order comes to by a price list (CR 7): 0, or the first of 32, 33 and 34. `cents` is the total, 0 where one holds.
+#[no_mangle]
+pub extern "C" fn nannyjiffy_receipt(prices: &[u8], order: &[i32], cents: &mut u64) -> u32
+    ensures { λ r. ⌜ r ≡ receiptOf (now (prices .entry)) (now (order .entry)) .number ⌝ }
+    ensures { λ _. ⌜ now (cents .exit) ≡ receiptOf (now (prices .entry)) (now (order .entry)) .total ⌝ }
+{
+    let priced = receipt::total(prices, order);
+    *cents = priced.total;
+    priced.number
 }
