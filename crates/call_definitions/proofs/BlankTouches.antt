@@ -31,9 +31,10 @@ use Rattle.formats.specs.Lists.{entryAt, CoversAt}
 use Rattle.formats.proofs.CoversRead.{event-of, says-of, readable, leaves-long}
 use Rattle.formats.proofs.BlankEvents.{leafBytes, BlankedEvent, BlankedTouch, both-unread, both-say, says-blanked, path-blank, leaf-spaces}
 use Rattle.call_definitions.specs.Memory.{CallAnswer}
-use Rattle.call_definitions.specs.Answers.{Shut, shut-20, shut-21, shut-22, shut-23, HandleAnswers, handle-shut, handle-8, handle-9, handle-30, handle-31, handle-0}
+use Rattle.call_definitions.specs.Answers.{HandleAnswers, handle-shut, handle-8, handle-9, handle-30, handle-31, handle-0}
 use Rattle.call_definitions.specs.Calls.{opened, handleIn, handleCall}
 use Rattle.call_definitions.specs.Touches.{Stands}
+use Rattle.call_definitions.proofs.Grounds.{shut-not-0}
 use Rattle.call_definitions.proofs.HandleAnswered.{handle-derived, handle-only}
 
 -- the answer goes by what an event's bytes say
@@ -95,18 +96,12 @@ module _ {e f : List ℕ} (b : BlankedEvent e f) where
       by (both-say d) g k = no-some (sym k)
 
   module _ (rows ws : List ℤ) (wr : AllWords rows) (ww : AllWords ws) where
-    shut-number : {F : Type 0} {g : ℕ} → Shut rows ws F g → g ≡ 0 → ⊥
-    shut-number (shut-20 h) e = omega (arith, e)
-    shut-number (shut-21 l h) e = omega (arith, e)
-    shut-number (shut-22 a r k h) e = omega (arith, e)
-    shut-number (shut-23 a k w h) e = omega (arith, e)
-
     -- what is accepted with blanks is accepted with the zeros, and comes to the same
     pub blank-handles : handleCall rows ws f .number ≡ 0 → handleCall rows ws f ≡ handleCall rows ws e
     blank-handles h = by (handle-derived rows ws f wr ww) h
       where
         by : {r : CallAnswer} → HandleAnswers rows ws f r → r .number ≡ 0 → r ≡ handleCall rows ws e
-        by (handle-shut d) n = absurd (shut-number d n)
+        by (handle-shut d) n = absurd (shut-not-0 d n)
         by (handle-8 a r k) n = absurd (omega (arith, n))
         by (handle-9 a r k m) n = absurd (omega (arith, n))
         by (handle-30 a r k t m) n = absurd (omega (arith, n))

@@ -32,6 +32,13 @@ use Rattle.call_definitions.proofs.Opening.{decodedFrom, opened-is, unm
 decided : {b : Bool} {P : Type 0} → Decides b P → P → b ≡ true
 decided {b} d p = cases b (λ t. t) (λ f. absurd (d .no f p))
 
+-- none of them is 0
+pub shut-not-0 : {rows ws : List ℤ} {Fits : Type 0} {g : ℕ} → Shut rows ws Fits g → g ≡ 0 → ⊥
+shut-not-0 (shut-20 n) e = omega (arith, e)
+shut-not-0 (shut-21 l n) e = omega (arith, e)
+shut-not-0 (shut-22 a l f n) e = omega (arith, e)
+shut-not-0 (shut-23 a f w n) e = omega (arith, e)
+
 module _ (rows ws : List ℤ) (Fits : Type 0) where
   -- what rows and words open to
   pub data Opens : Opened → Type 0 where

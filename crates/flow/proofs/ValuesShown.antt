@@ -12,9 +12,10 @@ use Rattle.tophat.specs.Normalising.{value}
 use Rattle.tophat.proofs.Preservation.{OptionType, o-none, o-some, value-type}
 use Rattle.call_definitions.specs.Memory.{LookAnswer, valueMemory, hasOne}
 use Rattle.call_definitions.specs.States.{FlowState, valueIn}
-use Rattle.call_definitions.specs.Answers.{AcceptedFlow, Writes, as-task, as-failed, IsRest, Shut, shut-20, shut-21, shut-22, shut-23, LookAnswers, look-shut, look-8, look-24, look-0}
+use Rattle.call_definitions.specs.Answers.{AcceptedFlow, Writes, as-task, as-failed, IsRest, LookAnswers, look-shut, look-8, look-24, look-0}
 use Rattle.call_definitions.specs.Calls.{lookCall}
 use Rattle.call_definitions.proofs.Flows.{flow-one}
+use Rattle.call_definitions.proofs.Grounds.{shut-not-0}
 use Rattle.call_definitions.proofs.Standing.{stands}
 use Rattle.flow.specs.Values.{HoldsValue}
 
@@ -28,13 +29,6 @@ held : {o : Option Val} {τ : Ty} → OptionType o τ → hasOne o ≡ 1 → Hol
 unfolding hasOne
 held o-none h = absurd (omega (arith, h))
 held (o-some {v = v} k) h = record { value = v; typed = k; words = refl }
-
--- no ground is 0
-shut-not-0 : {rows ws : List ℤ} {F : Type 0} {g : ℕ} → Shut rows ws F g → g ≡ 0 → ⊥
-shut-not-0 (shut-20 n) e = omega (arith, e)
-shut-not-0 (shut-21 l n) e = omega (arith, e)
-shut-not-0 (shut-22 a h f n) e = omega (arith, e)
-shut-not-0 (shut-23 a f w n) e = omega (arith, e)
 
 module _ {rows ws : List ℤ} {c : Code} {Σ : List Ty} {τ : Ty} (a : AcceptedFlow rows c Σ τ) where
   looked-holds : {role : ℕ} {values : List ℤ} {list : List ℕ} {r : LookAnswer} → LookAnswers rows ws role values list r → r .number ≡ 0 → r .hasValue ≡ 1 → HoldsValue τ (r .value)

@@ -1,4 +1,4 @@
--- The laws of `each`: one more, one that nothing is made of, and how many; and of the three functions that it is used with. Rests on the
+-- The laws of `each`: one more, one that nothing is made of, how many, and all; and of the three functions that it is used with. Rests on the
 -- definitions of Records and Touches alone.
 use mathlib.Core.Path.{_≡_, refl, sym, ap, _∙_}
 use mathlib.Core.Option.{Option, none, some, bind, bind-eq-some-iff}
@@ -66,6 +66,31 @@ module _ {X Y : Type 0} (f : X → Option Y) where
       by : (o : Option Y) → bind o (λ y. bind {A = List Y} {B = List Y} none λ ys. some (y ∷ ys)) ≡ none
       by none = refl
       by (some y) = refl
+
+  abbrev pub Missing : X → List X → Type 0
+  Missing d xs = (k : ℕ) × (k < length xs) × (f (getD xs k d) ≡ none)
+
+  -- and such a one, where nothing is made of all
+  pub each-not : (xs : List X) (d : X) → each f xs ≡ none → Missing d xs
+  unfolding each bind
+  each-not [] d h = no-some (sym h)
+  each-not (x ∷ xs) d h = by (f x) refl (each f xs) refl (each-not xs d)
+    where
+      by : (o : Option Y) → f x ≡ o → (p : Option (List Y)) → each f xs ≡ p → (each f xs ≡ none → Missing d xs) → Missing d (x ∷ xs)
+      by none e p g r = (0, omega arith, e)
+      by (some y) e none g r = let (k, l, q) = r g in (suc k, omega (arith, l), q)
+      by (some y) e (some ys) g r = let m : each f (x ∷ xs) ≡ some (y ∷ ys) = rw (e, g) in no-some (sym h ∙ m)
+
+  -- all, where each is made
+  pub each-all : (d : X) (b : Y) (xs : List X) (ys : List Y) → length xs ≡ length ys → ((k : ℕ) → k < length xs → f (getD xs k d) ≡ some (getD ys k b)) → each f xs ≡ some ys
+  unfolding each bind
+  each-all d b [] [] l h = refl
+  each-all d b [] (y ∷ ys) l h = absurd (omega (arith, l))
+  each-all d b (x ∷ xs) [] l h = absurd (omega (arith, l))
+  each-all d b (x ∷ xs) (y ∷ ys) l h =
+      let e = h 0 (omega arith) in
+      let g = each-all d b xs ys (omega (arith, l)) (λ k m. h (suc k) (omega (arith, m))) in
+      rw (e, g)
 
 -- ---- numbers and leaves
 
