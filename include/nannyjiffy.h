@@ -1,18 +1,20 @@
-/* Nannyjiffy's four calls for C: load a sheet, start its flow, look at a rest in a role, handle an event. They stand in
- * libflow_c.a (`rt staticlib flow_c`), whose contracts are in crates/flow_c/src/lib.rt; document 01 says what sheets, events and
- * list entries are, docs/STATE.md what a state's words are, and docs/NUMBERS.md what to do about each number.
+/* Nannyjiffy's five calls for C: load a sheet, start its flow, look at a rest in a role, handle an event, and price an order of
+ * finished values. They stand in libflow_c.a (`rt staticlib flow_c`), whose contracts are in crates/flow_c/src/lib.rt; document
+ * 01 says what sheets, events and list entries are, CR 7 what price lists and orders are, docs/STATE.md what a state's words
+ * are, and docs/NUMBERS.md what to do about each number.
  *
  * Memory. Every memory is the caller's: the library allocates nothing, keeps nothing between calls, has no globals, and so may
  * run on several threads at once. A memory is lent for one call, as a pointer and a count of its bytes or words. A call
  *   - reads and writes nothing outside what it is lent, and writes nothing that is lent as const;
  *   - takes every count and every content: what does not serve is refused by a number, never undefined;
  *   - changes no word and no byte of lent memory where it answers another number than 0;
- *   - writes its single answers (strides, valued, fails, bytes) at every call, refused ones too, there with 0.
+ *   - writes its single answers (strides, valued, fails, bytes, cents) at every call, refused ones too, there with 0.
  * The caller owes what a pointer in C owes: it is not NULL (also where its count is 0), is aligned for its type, has as many
  * words or bytes as the count says, and the memories that one call writes overlap with no other memory lent to that call.
  *
  * Stack. The deeper a sheet nests, the more a call takes: 48 KB and up, at most NANNYJIFFY_STACK_BYTES on every sheet that was
- * measured, the deepest of 256 rows among them (docs/PERFORMANCE.md). Too little ends the program, at the stack's guard page.
+ * measured, the deepest of 256 rows among them (docs/PERFORMANCE.md). A receipt takes under 3 KB. Too little ends the program, at
+ * the stack's guard page.
  */
 #ifndef NANNYJIFFY_H
 #define NANNYJIFFY_H
@@ -43,6 +45,14 @@ extern "C" {
  * state. */
 #define NANNYJIFFY_MAX_ROLE 8
 #define NANNYJIFFY_MAX_TOUCHES 99
+
+/* A price line is 25 bytes: code and hundredths of a cent per copy, 12 columns each, byte 10. A price list is 0 to 256 lines,
+ * prices 0 to 9999999; an order is 0 to 64 values, copies 0 to 9999. */
+#define NANNYJIFFY_PRICE_LINE_BYTES (12 + 12 + 1)
+#define NANNYJIFFY_MAX_PRICE_LINES 256
+#define NANNYJIFFY_MAX_PRICE 9999999
+#define NANNYJIFFY_MAX_VALUES 64
+#define NANNYJIFFY_MAX_COPIES 9999
 
 /* Stack that suffices for each call, 2.5 MiB. */
 #define NANNYJIFFY_STACK_BYTES 2621440
@@ -77,7 +87,12 @@ enum nannyjiffy_number {
     NANNYJIFFY_LIST = 24,      /* list memory under 35 bytes an entry */
     NANNYJIFFY_ROLE = 30,      /* a rule derives a step, but a row of kind 50 that the event passes, from the last row to the row
                                 * that takes it, is another role's */
-    NANNYJIFFY_TOUCHES = 31    /* the same, and all of these rows are the event's role's, but one has no touch left */
+    NANNYJIFFY_TOUCHES = 31,   /* the same, and all of these rows are the event's role's, but one has no touch left */
+    NANNYJIFFY_PRICES = 32,    /* a price line unreadable, out of range, of a repeated code, or too many; a blank is unreadable,
+                                * and so is a part of a line; a code is any number */
+    NANNYJIFFY_ORDER = 33,     /* over 64 values, or one that is not a code, copies 0 to 9999 and six words 0; a part of a value
+                                * is none */
+    NANNYJIFFY_NO_PRICE = 34   /* a value whose code no price line has, also where its copies are 0 */
 };
 
 /* Loads a sheet. Asks 1, 21, 2, 3, 4, 5, 6, 7.
@@ -119,6 +134,15 @@ uint32_t nannyjiffy_look(const int32_t *rows, size_t rows_words, const int32_t *
  *   strides  how many strides normalising took, as by start; refused: 0 */
 uint32_t nannyjiffy_handle(const int32_t *rows, size_t rows_words, int32_t *state, size_t state_words,
                            const uint8_t *event, size_t event_bytes, uint32_t *strides);
+
+/* Prices an order. Asks 32 of the whole price list, then 33 of the whole order, then 34.
+ *   prices  read: the lines, 25 bytes each; no bytes are a list without a price
+ *   order   read: the values that look wrote for finished flows of two numbers, code and copies, 8 words each, one after another;
+ *           several may have one code; no words are an order, which comes to 0
+ *   cents   the sum of copies times price, taken exactly and rounded half up to a cent once, at the end; it may pass 32 bits, and
+ *           is at most 63993593601; refused: 0 */
+uint32_t nannyjiffy_receipt(const uint8_t *prices, size_t prices_bytes, const int32_t *order, size_t order_words,
+                            uint64_t *cents);
 
 #ifdef __cplusplus
 }

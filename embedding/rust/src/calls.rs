@@ -1,4 +1,4 @@
-//! The four calls on memory that the caller lends, of any length and content. A refused call changes none of it.
+//! The five calls on memory that the caller lends, of any length and content. A refused call changes none of it.
 //!
 //! Each is safe for every input: the exports ask nothing beyond what Rust's references hold (not null, aligned, as long
 //! as they say, those that are written not shared), and keep nothing after they return.
@@ -79,4 +79,13 @@ pub fn handle(rows: &[i32], state: &mut [i32], event: &[u8]) -> Result<u32, Grou
         )
     };
     answer(number).map(|()| strides)
+}
+
+/// Prices an order of 8 words a value by a price list of 25 bytes a line, and gives its total in cents. Grounds 32, 33, 34.
+pub fn receipt(prices: &[u8], order: &[i32]) -> Result<u64, Ground> {
+    let mut cents = 0;
+    // SAFETY: both slices live through the call; `cents` is a local.
+    let number =
+        unsafe { exports::nannyjiffy_receipt(prices.as_ptr(), prices.len(), order.as_ptr(), order.len(), &mut cents) };
+    answer(number).map(|()| cents)
 }

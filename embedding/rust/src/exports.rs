@@ -41,4 +41,12 @@ extern "C" {
         event_bytes: usize,
         strides: *mut u32,
     ) -> u32;
+
+    pub fn nannyjiffy_receipt(
+        prices: *const u8,
+        prices_bytes: usize,
+        order: *const i32,
+        order_words: usize,
+        cents: *mut u64,
+    ) -> u32;
 }

@@ -1,9 +1,9 @@
-//! The grounds on which a call is refused (01, "Grounds in the input" and "Grounds in the state").
+//! The grounds on which a call is refused (01, "Grounds in the input" and "Grounds in the state"; CR 6; CR 7).
 
 use core::error::Error;
 use core::fmt::{Display, Formatter, Result as Written};
 
-/// A ground, with its number in 01 and CR 6. `docs/NUMBERS.md` says what to do about each.
+/// A ground, with its number in 01, CR 6 and CR 7. `docs/NUMBERS.md` says what to do about each.
 #[derive(Clone, Copy, Debug, PartialEq, Eq, PartialOrd, Ord, Hash)]
 pub enum Ground {
     Length = 1,
@@ -29,10 +29,16 @@ pub enum Ground {
     /// The rows passed are those from the last row, itself included, to the row that takes the event.
     Role = 30,
     Touches = 31,
+    /// No field of a price line may be blank. Asked of the whole price list, before the order.
+    Prices = 32,
+    /// A value of an order is a code, copies from 0 to 9999, and six words 0.
+    Order = 33,
+    /// Also a value of 0 copies has a code with a price.
+    NoPrice = 34,
 }
 
-/// All of them, with the words of 01 and of CR 6.
-const GROUNDS: [(Ground, &str); 16] = [
+/// All of them, with the words of 01, of CR 6 and of CR 7.
+const GROUNDS: [(Ground, &str); 19] = [
     (Ground::Length, "sheet length not 45 times 1 to 256"),
     (Ground::Unreadable, "a field or byte 10 unreadable, or a wrong row number"),
     (Ground::NotListed, "a kind, operator, truth, role, number of touches or unused operand not as listed"),
@@ -49,6 +55,9 @@ const GROUNDS: [(Ground, &str); 16] = [
     (Ground::List, "list memory under 35 bytes an entry"),
     (Ground::Role, "a rule derives a step, but a row passed has another role"),
     (Ground::Touches, "a rule derives a step, but a row passed has no touch left"),
+    (Ground::Prices, "a price line unreadable, out of range, of a repeated code, or too many"),
+    (Ground::Order, "an order too long, or a value not of two numbers, code and copies"),
+    (Ground::NoPrice, "a code without a price"),
 ];
 
 impl Ground {
@@ -66,7 +75,7 @@ impl Ground {
 pub(crate) fn answer(number: u32) -> Result<(), Ground> {
     match number {
         0 => Ok(()),
-        _ => Err(Ground::of(number).expect("a call answers 0 or a ground of 01")),
+        _ => Err(Ground::of(number).expect("a call answers 0 or a ground")),
     }
 }
 

@@ -1,8 +1,8 @@
 //! Kiosk order flows (document 01) by the proved engine, which is linked as a static archive.
 //!
-//! [`Flow`] and [`Rest`] own fixed memory and refuse only what a sheet or an event can break. [`calls`] has the four
-//! calls as they are, on memory that the caller lends. Nothing allocates. What the exports promise is proved
-//! (`crates/flow_c`); that the declarations here fit them is tested (`tests/`).
+//! [`Flow`] and [`Rest`] own fixed memory and refuse only what a sheet or an event can break; [`receipt`] prices the values
+//! that they show. [`calls`] has the five calls as they are, on memory that the caller lends. Nothing allocates. What the
+//! exports promise is proved (`crates/flow_c`); that the declarations here fit them is tested (`tests/`).
 //!
 //! ```
 //! use nannyjiffy::{Flow, Ground, Rest, Role, MAX_LEAVES};
@@ -62,6 +62,17 @@ pub const MAX_ROLE: u32 = 8;
 /// Touches of a row of kind 50, at most.
 pub const MAX_TOUCHES: i32 = 99;
 
+/// Bytes of a price line, 25: code and hundredths of a cent per copy, of 12 columns each, byte 10.
+pub const PRICE_LINE_BYTES: usize = 12 + 12 + 1;
+/// Lines of a price list, at most.
+pub const MAX_PRICE_LINES: usize = 256;
+/// Hundredths of a cent per copy, at most.
+pub const MAX_PRICE: i32 = 9_999_999;
+/// Values of an order, at most.
+pub const MAX_VALUES: usize = 64;
+/// Copies of a value of an order, at most.
+pub const MAX_COPIES: i32 = 9999;
+
 /// Stack that suffices for each call on every sheet that was measured, the deepest of 256 rows among them. A thread that Rust
 /// starts has less, unless it is told otherwise; too little ends the program, at the stack's guard page.
 pub const STACK_BYTES: usize = 5 << 19;
@@ -69,4 +80,22 @@ pub const STACK_BYTES: usize = 5 << 19;
 /// List memory that suffices at every rest of a flow of so many rows: it never shows more entries than it has rows.
 pub const fn list_bytes(rows: usize) -> usize {
     ENTRY_BYTES * rows
+}
+
+/// What an order comes to by a price list, in cents, rounded half up once. Its values are those that finished flows of two
+/// numbers show, code and copies. Grounds 32, 33, 34.
+///
+/// ```
+/// use nannyjiffy::{receipt, Ground};
+///
+/// // Code, hundredths of a cent per copy.
+/// let prices = b"        1015        2949\n        1318        7901\n";
+/// let print = |code, copies| [code, copies, 0, 0, 0, 0, 0, 0];
+/// // 2949 and 7901 hundredths are 108 cents and a half.
+/// assert_eq!(receipt(prices, &[print(1015, 1), print(1318, 1)]), Ok(109));
+/// assert_eq!(receipt(prices, &[print(1015, 10_000)]), Err(Ground::Order));
+/// assert_eq!(receipt(prices, &[print(2030, 0)]), Err(Ground::NoPrice));
+/// ```
+pub fn receipt(prices: &[u8], order: &[[i32; VALUE_WORDS]]) -> Result<u64, Ground> {
+    calls::receipt(prices, order.as_flattened())
 }

@@ -46,6 +46,11 @@ fn sizes_are_the_same() {
         ("VALUE_WORDS", VALUE_WORDS),
         ("MAX_ROLE", MAX_ROLE as usize),
         ("MAX_TOUCHES", MAX_TOUCHES as usize),
+        ("PRICE_LINE_BYTES", PRICE_LINE_BYTES),
+        ("MAX_PRICE_LINES", MAX_PRICE_LINES),
+        ("MAX_PRICE", MAX_PRICE as usize),
+        ("MAX_VALUES", MAX_VALUES),
+        ("MAX_COPIES", MAX_COPIES as usize),
         ("STACK_BYTES", STACK_BYTES),
     ];
     for (name, size) in sizes {
@@ -54,6 +59,7 @@ fn sizes_are_the_same() {
     // The figures that the formulas come to.
     assert_eq!((MAX_LEAVES, EVENT_BYTES, ENTRY_BYTES, VALUE_WORDS, STATE_WORDS), (8, 117, 35, 8, 16));
     assert_eq!((MAX_ROLE, MAX_TOUCHES), (8, 99));
+    assert_eq!((PRICE_LINE_BYTES, MAX_PRICE_LINES, MAX_PRICE, MAX_VALUES, MAX_COPIES), (25, 256, 9_999_999, 64, 9999));
     assert_eq!(list_bytes(MAX_ROWS), 8960);
 }
 

@@ -165,6 +165,6 @@ fn roles_and_touches() {
 #[test]
 fn grounds_have_their_numbers() {
     let numbers: Vec<u32> = (0..100).filter_map(Ground::of).map(Ground::number).collect();
-    assert_eq!(numbers, [1, 2, 3, 4, 5, 6, 7, 8, 9, 20, 21, 22, 23, 24, 30, 31]);
+    assert_eq!(numbers, [1, 2, 3, 4, 5, 6, 7, 8, 9, 20, 21, 22, 23, 24, 30, 31, 32, 33, 34]);
     assert_eq!(Ground::Handling.to_string(), "9: no handling rule derives a step");
 }
