@@ -1,6 +1,6 @@
 //! The grounds on which a call is refused (01, "Grounds in the input" and "Grounds in the state").
 
-/// A ground, with its number in 01 and CR 6. Grounds 20 to 24 speak of lent memory ([`crate::calls`]).
+/// A ground, with its number in 01, CR 6 and CR 7. Grounds 20 to 24 speak of lent memory ([`crate::calls`]).
 #[derive(Clone, Copy, Debug, PartialEq, Eq, PartialOrd, Ord)]
 pub enum Ground {
     /// 1: sheet length not 45 times 1 to 256, or a row count unreadable or not met.
@@ -35,6 +35,12 @@ pub enum Ground {
     Role = 30,
     /// 31: the same, and all of them are this role's, but one has no touch left.
     Touches = 31,
+    /// 32: a price line unreadable, out of range or of a repeated code, or too many of them.
+    Prices = 32,
+    /// 33: an order of too many values, or a value that is not a code and copies.
+    Order = 33,
+    /// 34: a code without a price.
+    NoPrice = 34,
 }
 
 impl Ground {
