@@ -1,8 +1,8 @@
 /* Each export from C with memory that is wrong in one way: the number that it answers, its single answers, and that lent memory, and
  * what stands beside it, keeps its content; lengths as they were with four leaves and without a role; a value of eight leaves;
  * blanks, where they are read as 0 and where not; a look at a quiet flow, which needs no list memory; roles, touches that are
- * spent, and looks in each role; and a start that leaves the range, which is accepted and fails as a whole. Prints nothing where
- * all is as nannyjiffy.h says. */
+ * spent, and looks in each role; a start that leaves the range, which is accepted and fails as a whole; and receipts. Prints
+ * nothing where all is as nannyjiffy.h says. */
 #include "nannyjiffy.h"
 
 #include <stdio.h>
@@ -231,12 +231,56 @@ static void check_roles(void)
     CHECK(touch(rows, state, '2') == NANNYJIFFY_ROWS);
 }
 
+/* Two prices; a value of each, and one of a code without a price; lines and values that are none. None of it may be written. */
+static const char prices[] = "        1015        2949\n"
+                             "          -7           1\n";
+static const int32_t order[][NANNYJIFFY_VALUE_WORDS] = {{1015, 1}, {-7, 1}, {2030, 0}};
+static const char *const no_line[6] = {"           7            \n", "                       1\n", "           7          01\n",
+                                       "           7          -1\n", "           7    10000000\n", "           7           1 "};
+static const int32_t no_value[4][NANNYJIFFY_VALUE_WORDS] = {{-7, 10000}, {-7, -1}, {-7, 1, 1}, {-7, 1, 0, 0, 0, 0, 0, -1}};
+static uint64_t cents[3]; /* the total is in the middle */
+
+static uint32_t receipt(const char *text, size_t bytes, const int32_t *words, size_t count)
+{
+    cents[0] = cents[1] = cents[2] = 99;
+    const uint32_t number = nannyjiffy_receipt((const uint8_t *)text, bytes, words, count, &cents[1]);
+    CHECK(cents[0] == 99 && cents[2] == 99 && (number == NANNYJIFFY_ACCEPTED || cents[1] == 0));
+    return number;
+}
+
+/* Receipts: of nothing, rounded once, of the most, and each ground, in the order in which they are asked. */
+static void check_receipts(void)
+{
+    enum { LINE = NANNYJIFFY_PRICE_LINE_BYTES, VALUE = NANNYJIFFY_VALUE_WORDS };
+    enum { LINES = NANNYJIFFY_MAX_PRICE_LINES + 1, VALUES = NANNYJIFFY_MAX_VALUES + 1 };
+    static char lines[LINES * LINE + 1];
+    static int32_t values[VALUES * VALUE];
+
+    CHECK(receipt(prices, 0, *order, 0) == NANNYJIFFY_ACCEPTED && cents[1] == 0);
+    CHECK(receipt(prices, 2 * LINE, *order, 2 * VALUE) == NANNYJIFFY_ACCEPTED && cents[1] == 30);
+    CHECK(receipt(prices, 2 * LINE, *order, 3 * VALUE) == NANNYJIFFY_NO_PRICE);
+    CHECK(receipt(prices, 0, order[2], VALUE) == NANNYJIFFY_NO_PRICE);
+    CHECK(receipt(prices, 0, *order, VALUE - 1) == NANNYJIFFY_ORDER && receipt(prices, 0, *order, VALUE + 1) == NANNYJIFFY_ORDER);
+    for (int at = 0; at < 4; at++) CHECK(receipt(prices, LINE, no_value[at], VALUE) == NANNYJIFFY_ORDER);
+    for (int at = 0; at < 6; at++) CHECK(receipt(no_line[at], LINE, no_value[0], VALUE) == NANNYJIFFY_PRICES);
+    CHECK(receipt(prices, LINE - 1, *order, 0) == NANNYJIFFY_PRICES && receipt(prices, LINE + 1, *order, 0) == NANNYJIFFY_PRICES);
+    for (int at = 0; at < LINES; at++) snprintf(lines + at * LINE, LINE + 1, "%12d%12d\n", at, NANNYJIFFY_MAX_PRICE);
+    for (int at = 0; at < VALUES; at++) values[at * VALUE] = at, values[at * VALUE + 1] = NANNYJIFFY_MAX_COPIES;
+    CHECK(receipt(lines, (LINES - 1) * LINE, values, (VALUES - 1) * VALUE) == NANNYJIFFY_ACCEPTED);
+    CHECK(cents[1] == UINT64_C(63993593601));
+    CHECK(receipt(lines, (LINES - 1) * LINE, values, VALUES * VALUE) == NANNYJIFFY_ORDER);
+    CHECK(receipt(lines, LINES * LINE, values, 0) == NANNYJIFFY_PRICES);
+    memcpy(lines + LINE, lines, LINE);
+    CHECK(receipt(lines, 2 * LINE, values, 0) == NANNYJIFFY_PRICES);
+}
+
 int main(void)
 {
     uint32_t strides;
     check_failed_start();
     check_eight_leaves();
     check_roles();
+    check_receipts();
     memset(&lent, 0x77, sizeof lent);
     kept = lent;
 
