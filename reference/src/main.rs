@@ -8,6 +8,8 @@ use reference::generate;
 use reference::model::Model;
 use reference::pair_report;
 use reference::program::Report;
+use reference::receipt;
+use reference::receipt_report;
 use reference::rules::Rules;
 use reference::session;
 use reference::slips::Slip;
@@ -28,6 +30,8 @@ const USAGE: &str = "usage:
                                  of each control, and compares its screens with these, and those of a pair with each other
   reference model SEED EVENTS    asks, in each role, EVENTS events at the rests of the cases' sessions, and compares answers,
                                  touches left and lists with what CR 1 to CR 6 say
+  reference receipt SEED COUNT   prices the edges of CR 7 and COUNT generated orders, and each accepted order with one copy
+                                 more of each value, and compares the totals with its bound
   reference coverage SEED COUNT  what the cases cover
   reference slips SEED COUNT     how many cases catch each slip, and the first that does";
 
@@ -55,6 +59,7 @@ fn run(words: &[&str]) -> io::Result<()> {
         ["compare", program, seed, count] => compare_program(Path::new(program), number(seed)?, number(count)?),
         ["mirror", program, seed, count] => compare_pairs(Path::new(program), number(seed)?, number(count)?),
         ["model", seed, events] => ask_model(number(seed)?, number(events)?),
+        ["receipt", seed, count] => price_orders(number(seed)?, number(count)?),
         ["replay"] => replay(&mut io::stdin().lock(), &mut output),
         ["coverage", seed, count] => {
             write!(output, "{}", Coverage::of(generate::cases(number(seed)?, number(count)?)))?;
@@ -121,6 +126,17 @@ fn ask_model(seed: u64, events: u64) -> io::Result<()> {
         Ok(())
     } else {
         Err(io::Error::other("a rest is not as expected"))
+    }
+}
+
+/// Prices orders, and those with one copy more.
+fn price_orders(seed: u64, count: u64) -> io::Result<()> {
+    let report = receipt_report::Report::of(receipt::receipt, seed, count);
+    print!("{report}");
+    if report.is_right() {
+        Ok(())
+    } else {
+        Err(io::Error::other("an order is not priced as expected"))
     }
 }
 
