@@ -5,13 +5,12 @@
 
 mod common;
 
-use common::{Archive, Calls};
+use common::{set, Archive, Calls};
 use nannyjiffy::{ENTRY_BYTES, EVENT_BYTES, LINE_BYTES, ROW_WORDS, STATE_WORDS, VALUE_WORDS};
 use reference::coverage::Tally;
 use reference::engine::{Answers, Reference};
 use reference::lent::{self, Lent};
 use reference::random::Random;
-use std::env;
 
 const SEED: u64 = 1;
 const COUNT: u64 = 10_000;
@@ -23,10 +22,6 @@ const NUMBERS: [(&str, &[usize]); 4] = [
     ("look", &[0, 8, 20, 21, 22, 23, 24]),
     ("handle", &[0, 8, 9, 20, 21, 22, 23, 30, 31]),
 ];
-
-fn set(name: &str, or: u64) -> u64 {
-    env::var(name).map_or(or, |text| text.parse().expect("a number"))
-}
 
 /// Compares the answers to each input, and tallies the numbers of each call.
 fn compare(inputs: impl Iterator<Item = Lent>) -> [Tally; 4] {

@@ -1,5 +1,6 @@
 //! The archive as an engine: by its exports, on fenced memories, so that what it does beside its answers shows; and by the
 //! safe calls.
+#![allow(dead_code)] // Each user takes some of it.
 
 pub mod fence;
 
@@ -7,11 +8,20 @@ use fence::{Fence, Lent, Place};
 use nannyjiffy::{calls, exports, Ground};
 use reference::calls::Looked;
 use reference::engine::Engine;
+use reference::receipt::Receipt;
 use reference::roles::Role;
 use std::cell::Cell;
+use std::env;
 
 /// What the single answers hold before a call: no answer is this, so it shows where one is not written.
 const UNWRITTEN: usize = 0x5aa5_5aa5;
+/// And the total of a receipt: no order comes to this.
+const NO_TOTAL: u64 = 0x5aa5_5aa5_5aa5_5aa5;
+
+/// What the environment sets a number to.
+pub fn set(name: &str, or: u64) -> u64 {
+    env::var(name).map_or(or, |text| text.parse().expect("a number"))
+}
 
 /// The exports, called on copies of what is lent. Each call asserts that the memory around each copy, and each copy that
 /// the call only reads, is as it was, and that every single answer is written.
@@ -33,6 +43,21 @@ impl Archive {
 
     fn count_call(&self) {
         self.calls.set(self.calls.get() + 1);
+    }
+
+    /// Prices an order. The total is lent in a fence, too.
+    pub fn receipt(&self, prices: &[u8], order: &[i32]) -> Receipt {
+        self.count_call();
+        let (lines, values, total) = (self.lend(0, prices), self.lend(1, order), self.lend(2, &[NO_TOTAL]));
+        // SAFETY: as in `load`.
+        let number = unsafe {
+            exports::nannyjiffy_receipt(lines.start(), lines.len(), values.start(), values.len(), total.start())
+        };
+        lines.assert_same();
+        values.assert_same();
+        let total = total.content()[0];
+        assert_ne!(total, NO_TOTAL, "an answer is not written");
+        Receipt { number, total }
     }
 }
 
@@ -125,6 +150,17 @@ impl Engine for Archive {
 
 /// The safe calls.
 pub struct Calls;
+
+impl Calls {
+    pub fn receipt(&self, prices: &[u8], order: &[i32]) -> Receipt {
+        let total = calls::receipt(prices, order);
+        // Whole values go by the call on values, too.
+        if let (values, []) = order.as_chunks() {
+            assert_eq!(nannyjiffy::receipt(prices, values), total);
+        }
+        total.map_or_else(|ground| Receipt { number: ground.number(), total: 0 }, |total| Receipt { number: 0, total })
+    }
+}
 
 fn numbered(strides: Result<u32, Ground>) -> (u32, u32) {
     strides.map_or_else(|ground| (ground.number(), 0), |strides| (0, strides))
