@@ -1,6 +1,6 @@
-//! The export that prices orders (CR 7), on lent memory of every kind, right and wrong in length and content, against the second
-//! implementation: the number and the total, which is written at every call, and nothing else that is written; the safe calls; and
-//! values as look shows them.
+//! The export that prices orders (CR 7), on lent memory of every kind, right and wrong in length and content, against the
+//! second implementation: the number, the total, written at every call, and that nothing else is written; the safe calls;
+//! and values as look shows them.
 //!
 //! NANNYJIFFY_SEED and NANNYJIFFY_COUNT set another seed and another number of inputs.
 
@@ -44,7 +44,8 @@ impl Compared {
     }
 }
 
-/// The edges, whose answers are written out, generated lists and orders, and each that is priced with one copy more of each value.
+/// The edges, whose answers are written out, generated lists and orders, and those that are priced with one copy more of
+/// each value.
 #[test]
 fn the_export_answers_as_the_reference() {
     let (seed, count) = (set("NANNYJIFFY_SEED", SEED), set("NANNYJIFFY_COUNT", COUNT));
@@ -116,7 +117,8 @@ fn constants_are_the_edges() {
     assert_eq!(Ground::NoPrice.to_string(), "34: a code without a price");
 }
 
-/// What look shows of two editors side by side, any code and any copies, goes into an order as it is: 33 is the copies' range.
+/// What look shows of two editors side by side, any code and any copies, goes into an order as it is: it is 33 by the range
+/// of its copies alone.
 #[test]
 fn values_that_look_shows() {
     let rows = [Row::new(3, 0, 0, 0), Row::new(41, 0, 0, 0), Row::new(41, 0, 0, 0), Row::new(46, 1, 2, 0)];
