@@ -1,47 +1,16 @@
-/* The exports under libFuzzer. An input is a session (row count, sheet, events), as the files of corpus/ are; an event whose
- * first byte is 128 or more changes lent memory instead: a word of it, its length, or the role that is looked in. An input without
- * a readable row count is cut into memories as it is. Every lent memory ends at a page that may not be touched, with guard bytes
- * before it.
+/* The exports under libFuzzer, on memory as lent.h lends it. An input is a session (row count, sheet, events), as those of corpus/
+ * are; an event whose first byte is 128 or more changes lent memory instead: a word of it, its length, or the role that is looked
+ * in. Or it is a price list and an order (receipts.c, which also prices the values that a session shows). An input that is neither
+ * is cut into memories as it is.
  *
  * Each call is asked: does it answer a number of its list; does a refusal change nothing and answer 0 beside its number; is what
  * start and handle leave a rest; are entries whole, and none where the flow fails; does a last row that failed as a whole show a
  * flow that fails, without a value; are strides within their bound; does a row of kind 50 begin with all its touches, and lose one
- * at most by an event.
- *
- * The archive tells libFuzzer nothing of its branches, so the answers do: libFuzzer keeps an input that sets a new counter. */
-#define _DEFAULT_SOURCE /* MAP_ANONYMOUS */
-#include "nannyjiffy.h"
+ * at most by an event. */
+#include "lent.h"
 
-#include <stdio.h>
-#include <stdlib.h>
-#include <string.h>
-#include <sys/mman.h>
-
-enum { PAGE = 4096, ROOM = 32 * PAGE, GUARD = 64, COUNTERS = 1 << 14 };
-enum { PATTERN = 0xc3, MOST_WORDS = 6000, MOST_BYTES = 20000 };
-/* Bytes of a word, of a row and of a row of a state, and of a row count with its byte 10. */
-enum { WORD = sizeof(int32_t), ROW = WORD * NANNYJIFFY_ROW_WORDS, STATE_ROW = WORD * NANNYJIFFY_STATE_WORDS, COUNT = 5 };
-
-__attribute__((section("__libfuzzer_extra_counters"))) static uint8_t counters[COUNTERS];
-
-static void shown(uint32_t what, uint32_t a, uint32_t b) {
-    uint32_t hash = (what * 0x9e3779b1u ^ a) * 0x85ebca6bu ^ b * 0xc2b2ae35u;
-    counters[(hash ^ hash >> 15) % COUNTERS] = 1;
-}
-
-static void ask(int holds, const char *what) {
-    if (!holds) {
-        fprintf(stderr, "exports: %s\n", what);
-        abort();
-    }
-}
-
-/* A memory: `room` is the fence, `own` what a call is to be lent. Words or bytes, by `unit`. */
-struct memory {
-    uint8_t *room;
-    uint8_t own[MOST_WORDS * WORD];
-    size_t count, unit;
-};
+/* Bytes of a row and of a row of a state, and of a row count with its byte 10. */
+enum { ROW = WORD * NANNYJIFFY_ROW_WORDS, STATE_ROW = WORD * NANNYJIFFY_STATE_WORDS, COUNT = 5 };
 
 static struct memory sheet = {.unit = 1}, rows = {.unit = WORD}, state = {.unit = WORD}, value = {.unit = WORD},
                      list = {.unit = 1}, event = {.unit = 1};
@@ -49,57 +18,9 @@ static struct memory sheet = {.unit = 1}, rows = {.unit = WORD}, state = {.unit 
 /* The role that is looked in: the last event's, as the session program has it, or what a change says. */
 static uint32_t role = 1;
 
-static size_t bytes(const struct memory *m) { return m->count * m->unit; }
-
-/* Lends a copy, at the end of the room. */
-static void *lend(struct memory *m) {
-    if (!m->room) {
-        m->room = mmap(NULL, ROOM + PAGE, PROT_READ | PROT_WRITE, MAP_PRIVATE | MAP_ANONYMOUS, -1, 0);
-        ask(m->room != MAP_FAILED && mprotect(m->room + ROOM, PAGE, PROT_NONE) == 0, "no memory");
-    }
-    uint8_t *lent = m->room + ROOM - bytes(m);
-    memset(lent - GUARD, PATTERN, GUARD);
-    memcpy(lent, m->own, bytes(m));
-    return lent;
-}
-
-/* Whether what was lent is as it was, from `after` on. Asks the guard bytes too. */
-static int kept(const struct memory *m, size_t after) {
-    const uint8_t *lent = m->room + ROOM - bytes(m);
-    for (int at = 1; at <= GUARD; at++) ask(lent[-at] == PATTERN, "written before what is lent");
-    return memcmp(lent + after, m->own + after, bytes(m) - after) == 0;
-}
-
-/* Takes over what a call left. */
-static void take(struct memory *m) { memcpy(m->own, m->room + ROOM - bytes(m), bytes(m)); }
-
-static void resize(struct memory *m, size_t count) {
-    size_t most = m->unit == WORD ? MOST_WORDS : MOST_BYTES, before = bytes(m);
-    m->count = count < most ? count : most;
-    if (bytes(m) > before) memset(m->own + before, 0, bytes(m) - before);
-}
-
-static void fill(struct memory *m, const uint8_t *from, size_t size) {
-    resize(m, size / m->unit);
-    memcpy(m->own, from, bytes(m));
-}
-
 /* The numbers of each call. */
-enum { END = 99 };
 static const uint32_t of_load[] = {0, 1, 2, 3, 4, 5, 6, 7, 21, END}, of_start[] = {0, 20, 21, END},
                       of_look[] = {0, 8, 20, 21, 22, 23, 24, END}, of_handle[] = {0, 8, 9, 20, 21, 22, 23, 30, 31, END};
-
-static int listed(uint32_t number, const uint32_t *numbers) {
-    for (; *numbers != END; numbers++)
-        if (*numbers == number) return 1;
-    return 0;
-}
-
-static int32_t word(const uint8_t *words, size_t at) {
-    int32_t word;
-    memcpy(&word, words + WORD * at, WORD);
-    return word;
-}
 
 /* Rows of kind 43 and 47, and 1. */
 static uint32_t most_strides(void) {
@@ -159,6 +80,7 @@ static uint32_t look(void) {
     for (int leaf = 0; number == 0 && !valued && leaf < NANNYJIFFY_VALUE_WORDS; leaf++)
         ask(lent_value[leaf] == 0, "leaves without a value");
     kept(&value, 0); /* for its guard bytes */
+    if (number == 0 && valued) order_value(lent_value);
     shown(2, number, (uint32_t)written * 4 + valued * 2 + fails);
     shown(7, number, written ? role % 16 : 16);
     return number;
@@ -237,12 +159,15 @@ static void raw(const uint8_t *data, size_t size) {
     start();
     look();
     handle();
+    price_bytes(data, size, part);
 }
 
 int LLVMFuzzerTestOneInput(const uint8_t *data, size_t size) {
     struct memory *memories[] = {&sheet, &rows, &state, &value, &list, &event};
     for (int at = 0; at < 6; at++) resize(memories[at], 0);
     role = 1;
+    begin_order();
+    if (price_framed(data, size)) return 0;
     char field[COUNT + 1] = {0};
     memcpy(field, data, size < COUNT ? size : COUNT);
     size_t count = (size_t)strtoul(field, NULL, 10), sheet_end = COUNT + NANNYJIFFY_LINE_BYTES * count;
@@ -267,5 +192,6 @@ int LLVMFuzzerTestOneInput(const uint8_t *data, size_t size) {
             look();
         }
     }
+    price_shown();
     return 0;
 }

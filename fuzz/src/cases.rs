@@ -1,6 +1,7 @@
-//! The files: sessions as the session program reads them, and lent memory as eight frames.
+//! The files: sessions as the session program reads them, lent memory as eight frames, and price lists with orders.
 
 use reference::lent::Lent;
+use reference::receipt_inputs::Input;
 use std::fs;
 use std::hash::{DefaultHasher, Hash, Hasher};
 use std::io;
@@ -8,6 +9,7 @@ use std::path::{Path, PathBuf};
 
 pub const SESSION: &str = "session";
 pub const LENT: &str = "lent";
+pub const RECEIPT: &str = "receipt";
 
 pub struct Case<T> {
     pub name: String,
@@ -45,12 +47,21 @@ pub fn sessions() -> io::Result<Vec<Case<Vec<u8>>>> {
 
 /// The lent memories of what was found.
 pub fn lents() -> io::Result<Vec<Case<Lent>>> {
-    let lent = |file: &PathBuf| {
+    framed(LENT, lent_of)
+}
+
+/// The price lists and orders of the corpus and of what was found.
+pub fn receipts() -> io::Result<Vec<Case<Input>>> {
+    framed(RECEIPT, receipt_of)
+}
+
+fn framed<T>(extension: &str, of: impl Fn(&[u8]) -> Option<T>) -> io::Result<Vec<Case<T>>> {
+    let case = |file: &PathBuf| {
         let Case { name, content } = read(file)?;
-        let content = lent_of(&content).ok_or_else(|| io::Error::other(format!("{name} is no eight frames")))?;
+        let content = of(&content).ok_or_else(|| io::Error::other(format!("{name} lacks a frame")))?;
         Ok(Case { name, content })
     };
-    files(LENT)?.iter().map(lent).collect()
+    files(extension)?.iter().map(case).collect()
 }
 
 /// Writes an input into found/, under a name that follows from it.
@@ -62,24 +73,41 @@ pub fn keep(extension: &str, bytes: &[u8]) -> io::Result<PathBuf> {
     Ok(file)
 }
 
-/// Frames: a length in 8 columns, byte 10, and that many bytes; words are 4 bytes, the least first, and so is the role.
+/// A frame: a length in 8 columns, byte 10, and that many bytes.
+fn frame(bytes: &[u8]) -> Vec<u8> {
+    [format!("{:8}\n", bytes.len()).as_bytes(), bytes].concat()
+}
+
+/// The content of the first frame, which is taken off.
+fn unframe(bytes: &mut &[u8]) -> Option<Vec<u8>> {
+    let (head, rest) = bytes.split_at_checked(9)?;
+    let (content, rest) = rest.split_at_checked(std::str::from_utf8(head).ok()?.trim().parse().ok()?)?;
+    *bytes = rest;
+    Some(content.to_vec())
+}
+
+/// A word is 4 bytes, the least first.
+fn bytes_of_words(words: &[i32]) -> Vec<u8> {
+    words.iter().flat_map(|word| word.to_le_bytes()).collect()
+}
+
+fn words_of_bytes(bytes: &[u8]) -> Vec<i32> {
+    bytes.as_chunks().0.iter().map(|&word| i32::from_le_bytes(word)).collect()
+}
+
+/// Eight frames; the role is a word, too.
 pub fn bytes_of(lent: &Lent) -> Vec<u8> {
-    let words = |words: &[i32]| words.iter().flat_map(|word| word.to_le_bytes()).collect::<Vec<u8>>();
+    let words = bytes_of_words;
     let Lent { text, room, rows, state, role, value, list, event } = lent;
     let role = role.to_le_bytes().to_vec();
     let memories =
         [text.clone(), words(room), words(rows), words(state), role, words(value), list.clone(), event.clone()];
-    memories.iter().flat_map(|bytes| [format!("{:8}\n", bytes.len()).into_bytes(), bytes.clone()].concat()).collect()
+    memories.iter().flat_map(|bytes| frame(bytes)).collect()
 }
 
 fn lent_of(mut bytes: &[u8]) -> Option<Lent> {
-    let mut frame = || {
-        let (head, rest) = bytes.split_at_checked(9)?;
-        let (frame, rest) = rest.split_at_checked(std::str::from_utf8(head).ok()?.trim().parse().ok()?)?;
-        bytes = rest;
-        Some(frame.to_vec())
-    };
-    let words = |bytes: Vec<u8>| bytes.as_chunks().0.iter().map(|&word| i32::from_le_bytes(word)).collect();
+    let mut frame = || unframe(&mut bytes);
+    let words = |bytes: Vec<u8>| words_of_bytes(&bytes);
     Some(Lent {
         text: frame()?,
         room: words(frame()?),
@@ -92,14 +120,26 @@ fn lent_of(mut bytes: &[u8]) -> Option<Lent> {
     })
 }
 
+/// The price list in a frame, and the words of the order.
+pub fn bytes_of_receipt(input: &Input) -> Vec<u8> {
+    [frame(&input.prices), bytes_of_words(&input.order)].concat()
+}
+
+fn receipt_of(mut bytes: &[u8]) -> Option<Input> {
+    Some(Input { prices: unframe(&mut bytes)?, order: words_of_bytes(bytes) })
+}
+
 #[cfg(test)]
 mod tests {
-    use super::{bytes_of, lent_of};
+    use super::{bytes_of, bytes_of_receipt, lent_of, receipt_of};
 
     #[test]
     fn frames_read_as_what_was_written() {
         for lent in reference::lent::inputs(1, 200) {
             assert!(lent_of(&bytes_of(&lent)) == Some(lent));
+        }
+        for input in reference::receipt_inputs::inputs(1, 200) {
+            assert!(receipt_of(&bytes_of_receipt(&input)) == Some(input));
         }
     }
 }

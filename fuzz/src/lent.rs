@@ -19,8 +19,8 @@ use reference::state::{LastRow, State};
 use reference::words::{self, STATE_ROW};
 
 /// Words and bytes of a memory at most: a fence has room for them.
-const MOST_WORDS: usize = 50_000;
-const MOST_BYTES: usize = 200_000;
+pub const MOST_WORDS: usize = 50_000;
+pub const MOST_BYTES: usize = 200_000;
 
 /// What a session lends at each of its events; nothing where its sheet is refused.
 pub fn of_session(input: &[u8]) -> Vec<Lent> {
@@ -93,7 +93,7 @@ fn change(random: &mut Random, lent: &mut Lent, other: &Lent) {
 }
 
 /// A word or a row changed, moved or taken from elsewhere, or the length.
-fn change_words(random: &mut Random, words: &mut Vec<i32>, other: &[i32], row: usize) {
+pub fn change_words(random: &mut Random, words: &mut Vec<i32>, other: &[i32], row: usize) {
     let length = match random.below(12) {
         0 => 0,
         1 => random.below(2 * words.len() + 2),

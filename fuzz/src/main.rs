@@ -5,6 +5,7 @@ mod bout;
 mod cases;
 mod lent;
 mod lines;
+mod receipts;
 mod sessions;
 mod targets;
 
@@ -18,11 +19,12 @@ use std::io;
 use std::path::{Path, PathBuf};
 use std::process::ExitCode;
 use std::time::Duration;
-use targets::{Exports, Program, Slips, Wrapper};
+use targets::{Exports, Program, Receipts, Slips, Wrapper};
 
 const USAGE: &str = "usage:
   fuzz kept PROGRAM             every case of corpus/ and found/ through the exports, the crate and PROGRAM, the session program
   fuzz exports SECONDS SEED     lent memory to the exports and the safe calls
+  fuzz receipts SECONDS SEED    price lists and orders to the export and the safe calls
   fuzz wrapper SECONDS SEED     sessions by Flow and Rest
   fuzz program PROGRAM SECONDS SEED
                                 sessions by PROGRAM
@@ -48,6 +50,10 @@ fn run(words: &[&str]) -> io::Result<bool> {
         ["exports", seconds, seed] => {
             let seeds = cases::sessions()?.iter().flat_map(|case| lent::of_session(&case.content)).collect();
             fuzz(&Exports::new(), seeds, limit(seconds)?, number(seed)?)
+        }
+        ["receipts", seconds, seed] => {
+            let seeds = cases::receipts()?.into_iter().map(|case| case.content).collect();
+            fuzz(&Receipts::new(), seeds, limit(seconds)?, number(seed)?)
         }
         ["wrapper", seconds, seed] => fuzz(&Wrapper, contents()?, limit(seconds)?, number(seed)?),
         ["program", program, seconds, seed] => {
@@ -93,8 +99,8 @@ fn fuzz<T: Target>(target: &T, seeds: Vec<T::Input>, limit: Limit, seed: u64) ->
 
 /// Every case, once.
 fn kept(program: &Path) -> io::Result<bool> {
-    let (exports, program) = (Exports::new(), Program(program.to_path_buf()));
-    let (sessions, lents) = (cases::sessions()?, cases::lents()?);
+    let (exports, priced, program) = (Exports::new(), Receipts::new(), Program(program.to_path_buf()));
+    let (sessions, lents, receipts) = (cases::sessions()?, cases::lents()?, cases::receipts()?);
     let mut differing = Vec::new();
     let mut add = |name: &str, answer: Result<Vec<u64>, String>| {
         differing.extend(answer.err().map(|why| format!("{name}: {why}")));
@@ -109,7 +115,11 @@ fn kept(program: &Path) -> io::Result<bool> {
     for case in &lents {
         add(&case.name, exports.run(&case.content));
     }
-    println!("kept: {} sessions, {} of lent memory, {} differing", sessions.len(), lents.len(), differing.len());
+    for case in &receipts {
+        add(&case.name, priced.run(&case.content));
+    }
+    print!("kept: {} sessions, {} of lent memory, {} receipts, ", sessions.len(), lents.len(), receipts.len());
+    println!("{} differing", differing.len());
     differing.iter().for_each(|told| println!("  {told}"));
     Ok(differing.is_empty())
 }

@@ -1,15 +1,18 @@
-//! What is fuzzed: the exports on fenced memory with the safe calls, [`Flow`](nannyjiffy::Flow) and
-//! [`Rest`](nannyjiffy::Rest) in sessions, the session program, and, to try the mutator, wrong variants.
+//! What is fuzzed: the exports of 01's calls and that of CR 7, on fenced memory, with the safe calls,
+//! [`Flow`](nannyjiffy::Flow) and [`Rest`](nannyjiffy::Rest) in sessions, the session program, and, to try the mutator,
+//! wrong variants.
 
 use crate::bout::Target;
-use crate::cases::{self, LENT, SESSION};
+use crate::cases::{self, LENT, RECEIPT, SESSION};
 use crate::common::{Archive, Calls};
 use crate::screens::screens;
-use crate::{lent, sessions};
+use crate::{lent, receipts, sessions};
 use reference::engine::{Answers, Reference};
 use reference::lent::Lent;
 use reference::program;
 use reference::random::Random;
+use reference::receipt;
+use reference::receipt_inputs::Input;
 use reference::rules::Rules;
 use reference::session;
 use reference::slips::Slip;
@@ -60,6 +63,40 @@ impl Target for Exports {
 
     fn bytes(lent: &Lent) -> Vec<u8> {
         cases::bytes_of(lent)
+    }
+}
+
+pub struct Receipts(Archive);
+
+impl Receipts {
+    pub fn new() -> Self {
+        Receipts(Archive::new())
+    }
+}
+
+impl Target for Receipts {
+    type Input = Input;
+    const NAME: &'static str = "receipts";
+    const EXTENSION: &'static str = RECEIPT;
+
+    fn run(&self, input: &Input) -> Result<Vec<u64>, String> {
+        let Input { prices, order } = input;
+        let (answer, expected) = (self.0.receipt(prices, order), receipt::receipt(prices, order));
+        if answer != expected {
+            return Err(format!("{answer:?}, not {expected:?}"));
+        }
+        if Calls.receipt(prices, order) != expected {
+            return Err(format!("the safe calls differ: {expected:?}"));
+        }
+        Ok(receipts::shown(input, answer))
+    }
+
+    fn make(&self, random: &mut Random, pool: &[Input]) -> Input {
+        receipts::make(random, pool)
+    }
+
+    fn bytes(input: &Input) -> Vec<u8> {
+        cases::bytes_of_receipt(input)
     }
 }
 
