@@ -1,5 +1,5 @@
-//! The four exports on lent memory of every kind, right and wrong in length and content, against the second implementation:
-//! every number, every single answer and every word and byte at exit, and nothing outside what is lent.
+//! The exports of 01's four calls on lent memory of every kind, right and wrong in length and content, against the second
+//! implementation: every number, every single answer and every word and byte at exit, and nothing outside what is lent.
 //!
 //! NANNYJIFFY_SEED and NANNYJIFFY_COUNT set another seed and another number of inputs.
 
