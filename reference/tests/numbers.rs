@@ -4,6 +4,7 @@ mod common;
 
 use common::read_screens;
 use reference::calls::{self, ROW};
+use reference::receipt::{receipt, Receipt};
 use reference::roles::{Role, FIRST};
 use reference::rules::Rules;
 use reference::session;
@@ -43,6 +44,7 @@ fn each_example_gives_its_numbers() {
             "sheet" => vec![calls::load(body.as_bytes(), &mut vec![7; body.len() / LINE * ROW])],
             "session" => answers(&body),
             "call" => vec![Lent::read(&body).call()],
+            "receipt" => vec![priced(&body)],
             _ => panic!("no such example: {what}"),
         };
         assert_eq!(given, gives, "{section:?}:\n{body}");
@@ -56,7 +58,7 @@ fn each_number_has_examples() {
     let mut sections: Vec<u32> = examples.iter().filter_map(|example| example.section).collect();
     sections.sort_unstable();
     sections.dedup();
-    assert_eq!(sections, (1..=9).chain(20..=24).chain(30..=31).collect::<Vec<_>>());
+    assert_eq!(sections, (1..=9).chain(20..=24).chain(30..=34).collect::<Vec<_>>());
     for number in sections {
         let mut of_number = examples.iter().filter(|example| example.section == Some(number));
         assert!(of_number.clone().any(|example| example.gives.contains(&number)), "{number}");
@@ -72,6 +74,17 @@ fn each_number_has_examples() {
 fn answers(input: &str) -> Vec<u32> {
     let screens = session::screens(input.as_bytes(), Rules::default());
     read_screens(&screens).iter().map(|screen| screen.answer as u32).collect()
+}
+
+/// What a price list and an order answer; the total is the one that the block tells, or 0.
+fn priced(body: &str) -> u32 {
+    let (prices, rest) = body.split_at(body.find("order\n").expect("an order"));
+    let (values, total) = rest.split_once("total ").unwrap_or((rest, "0"));
+    let order: Vec<i32> = values.lines().skip(1).flat_map(words).collect();
+    let Receipt { number, total: cents } = receipt(prices.as_bytes(), &order);
+    assert_eq!(cents.to_string(), total.trim_end(), "{body}");
+    assert_eq!(number == 0, rest.contains("total"), "{body}");
+    number
 }
 
 /// What a `call` lends; a look is in role 1 where its block names none.
