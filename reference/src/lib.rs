@@ -11,7 +11,8 @@
 //! [`edges`], [`blank_edges`], [`overflow_edges`], [`leaf_edges`] and [`role_edges`]), tells what the cases cover
 //! ([`coverage`], [`role_coverage`]), says anew what holds at every rest ([`model`]) and names wrong variants ([`slips`]). CR 5
 //! changes no rule: [`counterparts`] is what it says of bytes, [`pairs`] are sessions that correspond by it, and
-//! [`pair_report`] runs a program on them. CR 7 stands beside all of it: [`receipt`] prices an order.
+//! [`pair_report`] runs a program on them. CR 7 stands beside all of it: [`receipt`] prices an order, on
+//! [`receipt_edges`] and [`receipt_inputs`], and [`receipt_report`] asks for its bound.
 #![forbid(unsafe_code)]
 
 pub mod binders;

@@ -4,8 +4,9 @@
 use crate::generate::touches::{put, NO_FIELDS};
 use crate::limits::LEAVES;
 use crate::random::Random;
-use crate::receipt::{price_line, price_list, value, CODE_COLUMNS, COPIES, PRICES, PRICE_COLUMNS, PRICE_LINE};
-use crate::receipt::{PRICE_LINES, VALUES};
+use crate::receipt::{
+    price_line, price_list, value, CODE_COLUMNS, COPIES, PRICES, PRICE_COLUMNS, PRICE_LINE, PRICE_LINES, VALUES,
+};
 use std::collections::BTreeSet;
 
 /// A price list and an order, as they are lent.
