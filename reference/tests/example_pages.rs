@@ -5,8 +5,9 @@ mod common;
 
 use common::tables::{code, numbers, table, tables, Table};
 use common::{read_screens, Screen};
-use reference::event::{EVENT, ROLE};
+use reference::event::{self, EVENT, ROLE};
 use reference::limits::LEAVES;
+use reference::receipt::{receipt, value, Receipt};
 use reference::rules::Rules;
 use reference::session::{self, COUNT};
 use reference::sheet::{self, Row, LINE};
@@ -14,12 +15,13 @@ use std::collections::BTreeSet;
 use std::fs;
 
 /// A page, a session that it tells, and the column that has the session's touches: their leaves, or the first of them.
-const TOLD: [(&str, &str, &str); 5] = [
+const TOLD: [(&str, &str, &str); 6] = [
     ("shop", "shop", "Role, path, action, leaves"),
     ("proof-order", "proof-order", "Role, path, action, leaves"),
     ("counter-and-customer", "counter-and-customer", "Role, path, action, leaf"),
     ("mirrored", "counter-right", "Right"),
     ("mirrored", "counter-left", "Left"),
+    ("receipt", "receipt", "Role, path, action, leaf"),
 ];
 
 fn read(name: &str) -> Vec<u8> {
@@ -134,4 +136,34 @@ fn values_are_told() {
         }
         assert_ne!(before, [0; LEAVES], "{session} has a value");
     }
+}
+
+/// The page on receipts (CR 7): its price list is the one that the examples of `embedding/` read, its runs come to the values that
+/// it tells, and its table is what they print, number and cents of the order up to each value.
+#[test]
+fn receipts_are_told() {
+    let text = String::from_utf8(read("receipt.md")).expect("text");
+    let prices = text.split("```\n").nth(1).expect("a block").as_bytes();
+    assert_eq!(prices, read("receipt.prices"));
+    let session = read("receipt.session");
+    let sheet = &session[..COUNT + rows(&page("receipt"), TOLD[5].2).len() * LINE];
+    let (mut order, mut printed) = (Vec::new(), String::new());
+    for line in &table(&page("receipt"), "Run").lines {
+        let &[code, copies, number, cents] = &numbers(&line[1..5].join(" "))[..] else { panic!("{line:?}") };
+        // Left and Right are actions 3 and 4; then the copies, and Continue.
+        let steps = line[0].split(", ").map(|step| match step {
+            "Left" => (3, 0),
+            "Right" => (4, 0),
+            copies => (1, numbers(copies.split(' ').next().expect("copies"))[0]),
+        });
+        let events = steps.chain([(2, 0)]).flat_map(|(action, leaf)| event::write("", action, value(leaf, 0)));
+        let screens = session::screens(&[sheet.to_vec(), events.collect()].concat(), Rules::default());
+        let shown = read_screens(&screens).pop().and_then(|screen| screen.value);
+        assert_eq!(shown, Some(value(code, copies)), "{line:?}");
+        order.extend(value(code, copies));
+        let told = Receipt { number: number as u32, total: cents as u64 };
+        assert_eq!(receipt(prices, &order), told, "{line:?}");
+        printed += &format!("{code:12}{copies:12}{number:4}{cents:12}\n");
+    }
+    assert_eq!(printed.as_bytes(), read("receipt.totals"));
 }

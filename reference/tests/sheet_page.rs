@@ -11,6 +11,7 @@ use reference::event::{
 use reference::kinds::{self, Operand, Sort};
 use reference::limits::{ENCLOSING, LEAVES};
 use reference::operators::Operator;
+use reference::receipt::{CODE_COLUMNS, COPIES, PRICES, PRICE_COLUMNS, PRICE_LINE, PRICE_LINES};
 use reference::roles::{ROLES, TOUCHES};
 use reference::rules::Rules;
 use reference::session::{self, COUNT, HEAD, HEAD_COUNT, HEAD_LEAVES};
@@ -60,6 +61,8 @@ fn formats_have_their_columns() {
     let leaf = |at| HEAD_LEAVES + 12 * at..HEAD_LEAVES + 12 * (at + 1);
     let count = [(HEAD_COUNT, "entries")];
     same("Head line", head.into_iter().chain(leaves(leaf, "leaf")).chain(count).chain(end(HEAD)).collect());
+    let price = [(CODE_COLUMNS, "code"), (PRICE_COLUMNS, "price of a copy, in hundredths of a cent")];
+    same("Price line", price.into_iter().chain(end(PRICE_LINE)).collect());
 }
 
 /// These words, each at the right end of its columns, and byte 10 in the last.
@@ -94,6 +97,9 @@ fn figures() {
         format!("At most {ENCLOSING} binders, and at most {ENCLOSING} rows of kind 46 or 47, enclose a row."),
         format!("The role, {} to {}, is", ROLES.start(), ROLES.end()),
         format!("a session is cut every {EVENT} bytes"),
+        format!("A price list is up to {PRICE_LINES} lines"),
+        format!("a price {} to {}", PRICES.start(), PRICES.end()),
+        format!("a code and copies from {} to {}", COPIES.start(), COPIES.end()),
     ] {
         assert!(text.contains(&figure), "{figure}");
     }
