@@ -1,4 +1,4 @@
-// The four calls of document 01 for C and Rust (`include/nannyjiffy.h`). Each export is the call that it names: numbers
+// The four calls of document 01 and that of CR 7 for C and Rust (`include/nannyjiffy.h`). Each export is the call that it names: numbers
 // pass as themselves, a slice as a pointer and a length. Single numbers that are lent hold answers and are written at every
 // call, whatever it answers.
 use flow::look;
