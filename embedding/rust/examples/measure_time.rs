@@ -1,13 +1,14 @@
 //! Time per start, look and handle: the archive and the second implementation, which do the same checks, on the same inputs
-//! in one run; and the growth over the levels of 48 (43 (42, INNER), 45). Prints tables in Markdown, for `tools/measure`.
+//! in one run; the growth over the levels of 48 (43 (42, INNER), 45); and time per receipt (CR 7). Prints tables in Markdown, for
+//! `tools/measure`.
 
 #[path = "../tests/common/deep.rs"]
 mod deep;
 #[path = "../tests/common/touched.rs"]
 mod touched;
 
-use nannyjiffy::{calls, list_bytes, MAX_ROWS, VALUE_WORDS};
-use reference::calls as second;
+use nannyjiffy::{calls, list_bytes, MAX_PRICE_LINES, MAX_ROWS, MAX_VALUES, VALUE_WORDS};
+use reference::{calls as second, receipt};
 use std::hint::black_box;
 use std::time::Instant;
 use touched::{Touch, LEVELS, SIZES};
@@ -17,12 +18,12 @@ const ROUNDS: usize = 60;
 /// Calls at each level in a round.
 const REPEATED: usize = 20;
 
-/// The least times of the rounds, in microseconds for each touch: of the one call and of the other, by turns.
-fn least(touches: &[Touch], mut one: impl FnMut(&Touch), mut other: impl FnMut(&Touch)) -> [f64; 2] {
-    let round = |call: &mut dyn FnMut(&Touch)| {
+/// The least times of the rounds, in microseconds for each input: of the one call and of the other, by turns.
+fn least<T>(inputs: &[T], mut one: impl FnMut(&T), mut other: impl FnMut(&T)) -> [f64; 2] {
+    let round = |call: &mut dyn FnMut(&T)| {
         let start = Instant::now();
-        touches.iter().for_each(call);
-        start.elapsed().as_nanos() as f64 / 1e3 / touches.len() as f64
+        inputs.iter().for_each(call);
+        start.elapsed().as_nanos() as f64 / 1e3 / inputs.len() as f64
     };
     let mut times = [f64::INFINITY; 2];
     for _ in 0..ROUNDS {
@@ -51,6 +52,20 @@ fn times(touches: &[Touch]) -> [[f64; 2]; 3] {
         |t| _ = black_box(second::handle(&t.rows, &mut t.state.clone(), &t.event)),
     );
     [start, look, handle]
+}
+
+/// An order of the most values by a price list of so many lines, each code in its turn, from the last on.
+fn priced(lines: usize) -> [f64; 2] {
+    let prices: Vec<u8> =
+        (1..=lines as i64).flat_map(|code| receipt::price_line(code * 1_000_003 % 65_537, code)).collect();
+    let code = |value: usize| ((lines - value % lines) as i64 * 1_000_003 % 65_537) as i32;
+    let order: Vec<i32> = (0..MAX_VALUES).flat_map(|value| receipt::value(code(value), 9)).collect();
+    assert_eq!(receipt::receipt(&prices, &order).number, 0, "{lines} lines");
+    least(
+        &[(&prices[..], &order[..]); REPEATED],
+        |(prices, order)| _ = black_box(calls::receipt(prices, order)),
+        |(prices, order)| _ = black_box(receipt::receipt(prices, order)),
+    )
 }
 
 fn print(name: &str, times: [[f64; 2]; 3]) {
@@ -96,5 +111,13 @@ fn main() {
             print!(" {:.3} |", fitted(&times, from));
         }
         println!();
+    }
+    println!(
+        "\n### Receipts\n\n| Price lines, {MAX_VALUES} values | receipt, µs | second, µs | ratio |\n|---|{}",
+        "---:|".repeat(3)
+    );
+    for lines in [4, 16, 64, MAX_PRICE_LINES] {
+        let [own, second] = priced(lines);
+        println!("| {lines} | {own:.1} | {second:.1} | {:.2} |", own / second);
     }
 }
