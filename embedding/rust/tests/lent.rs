@@ -5,6 +5,7 @@
 
 mod common;
 
+use common::any_memory::{bytes, words, MOST_BYTES, MOST_WORDS};
 use common::{set, Archive, Calls};
 use nannyjiffy::{ENTRY_BYTES, EVENT_BYTES, LINE_BYTES, ROW_WORDS, STATE_WORDS, VALUE_WORDS};
 use reference::coverage::Tally;
@@ -71,33 +72,6 @@ fn lists_at_their_edges() {
     let [.., look, _] = compare(lent::inputs(seed, count).flat_map(at_edges));
     // One length of five is a byte too short: no flow shows an entry for each of its rows.
     assert!(look.of(24) as u64 >= count / 5 && look.of(0) == 4 * look.of(24), "{look}");
-}
-
-/// Words and bytes of a memory at most: the fence has room for them.
-const MOST_WORDS: usize = 60_000;
-const MOST_BYTES: usize = 4 * MOST_WORDS;
-
-/// A length: 0, any, so many rows, lines, entries or events, or the most.
-fn length(random: &mut Random, unit: usize, most: usize) -> usize {
-    match random.below(100) {
-        0..=24 => 0,
-        25..=49 => random.below(3000),
-        50..=97 => random.below(300) * unit,
-        _ => most,
-    }
-}
-
-fn bytes(random: &mut Random, unit: usize) -> Vec<u8> {
-    let near = random.chance(50);
-    let byte =
-        |random: &mut Random| if near { *random.pick(b" 0123\n-\xff").expect("bytes") } else { random.draw() as u8 };
-    (0..length(random, unit, MOST_BYTES)).map(|_| byte(random)).collect()
-}
-
-fn words(random: &mut Random, unit: usize) -> Vec<i32> {
-    let near = random.chance(50);
-    let word = |random: &mut Random| if near { random.word() } else { random.draw() as i32 };
-    (0..length(random, unit, MOST_WORDS)).map(|_| word(random)).collect()
 }
 
 /// Memory of any length, 0 and very long ones too, and any content, in the place of some or of each that would serve.

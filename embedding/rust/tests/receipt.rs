@@ -6,6 +6,7 @@
 
 mod common;
 
+use common::any_memory::{bytes, words, MOST_BYTES, MOST_WORDS};
 use common::{set, Archive, Calls};
 use nannyjiffy::{calls, Flow, Ground, Rest, Role};
 use nannyjiffy::{MAX_COPIES, MAX_PRICE, MAX_PRICE_LINES, MAX_VALUES, PRICE_LINE_BYTES, VALUE_WORDS};
@@ -60,35 +61,17 @@ fn the_export_answers_as_the_reference() {
     }
 }
 
-/// Bytes of a text and words of an order, at most: the fence has room for them.
-const MOST_BYTES: usize = 240_000;
-const MOST_WORDS: usize = MOST_BYTES / 4;
-
-/// A length: 0, any, so many lines or values, or the most.
-fn length(random: &mut Random, unit: usize, most: usize) -> usize {
-    match random.below(20) {
-        0..=2 => 0,
-        3..=7 => random.below(3000),
-        8..=18 => random.below(300) * unit,
-        _ => most,
-    }
-}
-
 /// Memory of any length, 0 and very long ones too, and any content, in the place of the list, of the order, or of both.
 #[test]
 fn any_memory_is_answered() {
     let (compared, mut lengths) = (Compared::new(), [[0; 2]; 2]);
     for (at, mut input) in receipt_inputs::inputs(SEED + 1, COUNT).enumerate() {
         let random = &mut Random::of_case(SEED, at as u64);
-        let near = random.chance(50);
         if at % 3 != 0 {
-            input.prices = vec![0; length(random, PRICE_LINE_BYTES, MOST_BYTES)];
-            let byte = |random: &mut Random| *random.pick(b" 0123\n-\xff").expect("bytes");
-            input.prices.fill_with(|| if near { byte(random) } else { random.draw() as u8 });
+            input.prices = bytes(random, PRICE_LINE_BYTES);
         }
         if at % 3 != 1 {
-            input.order = vec![0; length(random, VALUE_WORDS, MOST_WORDS)];
-            input.order.fill_with(|| if near { random.word() } else { random.draw() as i32 });
+            input.order = words(random, VALUE_WORDS);
         }
         let seen = [(input.prices.len(), MOST_BYTES), (input.order.len(), MOST_WORDS)];
         for ((length, most), [none, all]) in seen.into_iter().zip(&mut lengths) {
@@ -97,7 +80,7 @@ fn any_memory_is_answered() {
         compared.receipt(&input.prices, &input.order);
     }
     println!("length 0, and the most: {lengths:?}; receipts:{}", compared.tally.borrow());
-    assert!(lengths.iter().flatten().all(|&count| count >= COUNT / 50), "{lengths:?}");
+    assert!(lengths.iter().flatten().all(|&count| count >= COUNT / 100), "{lengths:?}");
 }
 
 /// The crate's constants are where the archive begins to refuse.

@@ -2,6 +2,7 @@
 //! safe calls.
 #![allow(dead_code)] // Each user takes some of it.
 
+pub mod any_memory;
 pub mod fence;
 
 use fence::{Fence, Lent, Place};
