@@ -46,6 +46,9 @@ fn totals() -> Vec<Edge> {
         priced("50 copies at 1", &[(7, 1)], &[(7, 50)], 1),
         priced("99 copies at 1", &[(7, 1)], &[(7, 99)], 1),
         priced("3 copies at 250 and 2 at 1999", &[(-5, 1999), (7, 250)], &[(7, 3), (-5, 2)], 47),
+        priced("2 at 1999 and 3 copies at 250", &[(-5, 1999), (7, 250)], &[(-5, 2), (7, 3)], 47),
+        priced("147, 2 and 49", &[(7, 49), (8, 1)], &[(7, 3), (8, 2), (7, 1)], 2),
+        priced("49, 2 and 147", &[(7, 49), (8, 1)], &[(7, 1), (8, 2), (7, 3)], 2),
     ]
 }
 
@@ -109,9 +112,13 @@ fn unpriced() -> Vec<Edge> {
         edges.push(refused(format!("no price for {code}"), list.clone(), order(&[(code, 1)]), 34));
         edges.push(refused(format!("no price for {code}, then 7"), list.clone(), order(&[(code, 1), (7, 1)]), 34));
     }
-    let mut full = [(7, 1); 64];
-    full[63] = (9, 1);
-    edges.push(refused("no price for the last of 64", list, order(&full), 34));
+    for values in [3, 64] {
+        for place in [0, values / 2, values - 1] {
+            let mut full = vec![(7, 1); values];
+            full[place] = (9, 1);
+            edges.push(refused(format!("no price for value {place} of {values}"), list.clone(), order(&full), 34));
+        }
+    }
     edges
 }
 

@@ -30,6 +30,11 @@ pub fn one_copy_more(order: &[i32], k: usize) -> Option<Vec<i32>> {
     (COPIES.contains(&copies) && COPIES.contains(&more[at])).then_some(more)
 }
 
+/// The same values, the last one first. What is left over after whole values, if anything, comes before them.
+pub fn turned(order: &[i32]) -> Vec<i32> {
+    order.chunks(LEAVES).rev().flatten().copied().collect()
+}
+
 fn input(random: &mut Random) -> Input {
     let mut input = right(random);
     for _ in 0..random.weighed(&[(12, 0), (5, 1), (4, 2)]) {

@@ -1,11 +1,12 @@
-//! What pricing answers on the [edges](receipt_edges) and on [generated orders](receipt_inputs), and whether it keeps the
-//! bound of CR 7 there: "one copy more at price u raises it by no more than u / 100 cents rounded up, and never lowers it".
+//! What pricing answers on the [edges](receipt_edges) and on [generated orders](receipt_inputs), whether it keeps the
+//! bound of CR 7 there, "one copy more at price u raises it by no more than u / 100 cents rounded up, and never lowers it",
+//! and whether the order in which values are added shows (CR 8): it must not.
 
 use crate::coverage::Tally;
 use crate::limits::LEAVES;
 use crate::receipt::{self, Receipt, CENT};
 use crate::receipt_edges;
-use crate::receipt_inputs::{self, one_copy_more, Input};
+use crate::receipt_inputs::{self, one_copy_more, turned, Input};
 use std::fmt;
 
 /// What was seen.
@@ -23,10 +24,13 @@ pub struct Report {
     pub rounded_up: usize,
     /// Where the bound is not kept.
     pub beyond: Vec<String>,
+    /// Where an order with its last value first is answered otherwise.
+    pub turned: Vec<String>,
 }
 
 impl Report {
-    /// Prices the edges, `count` generated orders, and each order that is accepted with one copy more of each value.
+    /// Prices the edges, `count` generated orders, each with its last value first, and each order that is accepted with
+    /// one copy more of each value.
     pub fn of(price: impl Fn(&[u8], &[i32]) -> Receipt, seed: u64, count: u64) -> Self {
         let mut report = Report::default();
         for edge in receipt_edges::edges() {
@@ -38,9 +42,14 @@ impl Report {
         }
         for (at, input) in receipt_inputs::inputs(seed, count).enumerate() {
             let answer = price(&input.prices, &input.order);
+            let name = format!("order {at} of seed {seed}");
             report.answers.add(answer.number as usize);
+            let last_first = price(&input.prices, &turned(&input.order));
+            if last_first != answer {
+                report.turned.push(format!("{name}: {answer:?}, with its last value first {last_first:?}"));
+            }
             if answer.number == 0 {
-                report.raise(&price, &input, answer, &format!("order {at} of seed {seed}"));
+                report.raise(&price, &input, answer, &name);
             }
         }
         report
@@ -48,7 +57,7 @@ impl Report {
 
     /// Whether the report is as it must be.
     pub fn is_right(&self) -> bool {
-        self.wrong.is_empty() && self.beyond.is_empty()
+        self.wrong.is_empty() && self.beyond.is_empty() && self.turned.is_empty()
     }
 
     /// One copy more of each value that has under 9999.
@@ -73,6 +82,7 @@ impl fmt::Display for Report {
     fn fmt(&self, out: &mut fmt::Formatter<'_>) -> fmt::Result {
         writeln!(out, "edges {}, not as written {}", self.edges, self.wrong.len())?;
         writeln!(out, "orders {}, by answer:{}", self.answers.total(), self.answers)?;
+        writeln!(out, "last value first, answered otherwise {}", self.turned.len())?;
         writeln!(
             out,
             "one copy more {}, raised as far as the bound lets it {} ({} where it is rounded up), not within it {}",
@@ -81,6 +91,7 @@ impl fmt::Display for Report {
             self.rounded_up,
             self.beyond.len()
         )?;
-        self.wrong.iter().take(5).chain(self.beyond.iter().take(5)).try_for_each(|told| writeln!(out, "{told}"))
+        let mut told = [&self.wrong, &self.turned, &self.beyond].into_iter().flat_map(|told| told.iter().take(5));
+        told.try_for_each(|told| writeln!(out, "{told}"))
     }
 }

@@ -7,7 +7,7 @@ use common::tables::{code, numbers, table, tables, Table};
 use common::{read_screens, Screen};
 use reference::event::{self, EVENT, ROLE};
 use reference::limits::LEAVES;
-use reference::receipt::{receipt, value, Receipt};
+use reference::receipt::{downward, receipt, value, Receipt};
 use reference::rules::Rules;
 use reference::session::{self, COUNT};
 use reference::sheet::{self, Row, LINE};
@@ -166,4 +166,24 @@ fn receipts_are_told() {
         printed += &format!("{code:12}{copies:12}{number:4}{cents:12}\n");
     }
     assert_eq!(printed.as_bytes(), read("receipt.totals"));
+}
+
+/// The paper on that page (CR 8): the values that were priced, the last one at the top, each with its price, its cost and the sum
+/// down to it; the last sum, rounded, is the total.
+#[test]
+fn the_paper_is_told() {
+    let (tables, prices) = (page("receipt"), read("receipt.prices"));
+    let runs = table(&tables, "Run").lines.iter().map(|line| numbers(&line[1..5].join(" ")));
+    let priced: Vec<Vec<i32>> = runs.filter(|run| run[2] == 0).collect();
+    let order: Vec<i32> = priced.iter().flat_map(|run| value(run[0], run[1])).collect();
+    let sums = downward(&prices, &order).expect("priced");
+    let told: Vec<Vec<i32>> = table(&tables, "Line").lines.iter().map(|line| numbers(&line.join(" "))).collect();
+    assert_eq!((told.len(), sums.len()), (priced.len(), priced.len()));
+    for ((line, cells), (run, sum)) in (1..).zip(&told).zip(priced.iter().rev().zip(sums)) {
+        let &[number, code, copies, price, cost, below] = &cells[..] else { panic!("{cells:?}") };
+        assert_eq!((number, code, copies), (line, run[0], run[1]), "{cells:?}");
+        assert_eq!((cost, below as u64), (copies * price, sum), "{cells:?}");
+        assert_eq!(receipt(&prices, &value(code, copies)).total, (cost as u64 + 50) / 100, "{cells:?}");
+    }
+    assert_eq!(priced.last().map(|run| run[3]), told.last().map(|cells| (cells[5] + 50) / 100));
 }

@@ -1,11 +1,12 @@
-//! The tariff on the receipt (CR 7): the edges with their written answers, one copy more, and what is generated. Wrong
-//! models are in `receipt_models.rs`.
+//! The tariff on the receipt (CR 7, CR 8): the edges with their written answers, one copy more, the sums on the way, and
+//! what is generated. Wrong models are in `receipt_models.rs`.
 
 use reference::coverage::Tally;
+use reference::grounds::Ground;
 use reference::limits::LEAVES;
-use reference::receipt::{order, price_line, price_list, receipt, value, Receipt, PRICE_LINE};
+use reference::receipt::{downward, hundredths, order, price_line, price_list, receipt, value, Receipt, PRICE_LINE};
 use reference::receipt_edges::edges;
-use reference::receipt_inputs::{inputs, one_copy_more};
+use reference::receipt_inputs::{inputs, one_copy_more, turned};
 use reference::receipt_report::Report;
 use std::collections::BTreeSet;
 
@@ -46,6 +47,34 @@ fn one_copy_more_keeps_the_bound() {
     let words = order(&[(7, 1), (8, 0)]);
     assert_eq!(receipt(&list, &words), Receipt { number: 0, total: 0 });
     assert_eq!(receipt(&list, &one_copy_more(&words, 1).expect("under 9999")), Receipt { number: 0, total: 1 });
+}
+
+/// "List the latest print, an order's last value, at the top and add up downward" (CR 8): a sum a value, the last value's
+/// first; line by line what is left of the order without its last values is not in it.
+#[test]
+fn sums_go_downward() {
+    let list = price_list(&[(7, 10), (8, 7), (9, 30)]);
+    let sums = |values: &[(i32, i32)]| downward(&list, &order(values));
+    assert_eq!(sums(&[]), Ok(vec![]));
+    assert_eq!(sums(&[(8, 1)]), Ok(vec![7]));
+    assert_eq!(sums(&[(7, 2), (8, 1), (9, 1)]), Ok(vec![30, 37, 57]));
+    assert_eq!(sums(&[(7, 2), (8, 1), (6, 1)]), Err(Ground::NoPrice));
+    for input in inputs(SEED, COUNT) {
+        let Ok(sums) = downward(&input.prices, &input.order) else { continue };
+        let values = input.order.len() / LEAVES;
+        assert_eq!(sums.len(), values);
+        for (line, sum) in sums.iter().enumerate() {
+            assert_eq!(hundredths(&input.prices, &input.order[(values - 1 - line) * LEAVES..]), Ok(*sum));
+        }
+    }
+}
+
+#[test]
+fn the_last_value_first() {
+    let words = order(&[(7, 1), (8, 2), (9, 3)]);
+    assert_eq!(turned(&words), order(&[(9, 3), (8, 2), (7, 1)]));
+    assert_eq!(turned(&turned(&words)), words);
+    assert_eq!(turned(&words[..LEAVES + 1]), [&[8][..], &words[..LEAVES]].concat());
 }
 
 /// For every remainder of a cent and every price up to three cents.
