@@ -49,8 +49,8 @@ fn one_copy_more_keeps_the_bound() {
     assert_eq!(receipt(&list, &one_copy_more(&words, 1).expect("under 9999")), Receipt { number: 0, total: 1 });
 }
 
-/// "List the latest print, an order's last value, at the top and add up downward" (CR 8): a sum a value, the last value's
-/// first; line by line what is left of the order without its last values is not in it.
+/// "List the latest print, an order's last value, at the top and add up downward" (CR 8): a sum a value, each of what the
+/// last values come to by themselves.
 #[test]
 fn sums_go_downward() {
     let list = price_list(&[(7, 10), (8, 7), (9, 30)]);
