@@ -20,9 +20,9 @@
 --   event are one place, and each entry covers some event of the role: no entry is dead; each way to meet its leaf kinds, with blanks
 --   where they are 0, is said by some event's bytes;
 -- - the task is quiet (tophat's Quiet) exactly when every readable event gets 9, and then the lists of all roles are empty; the list of a
---   role is empty exactly when every readable event of that role is refused (`dark-takes-none`);
--- - where no row of the flow is of kind 50, the list of each role is empty exactly when the task is quiet (`empty-iff-quiet`), and handle
---   answers neither 30 nor 31 (`neither-30-nor-31`);
+--   role is empty exactly when every readable event of that role is refused (`dark_takes_none`);
+-- - where no row of the flow is of kind 50, the list of each role is empty exactly when the task is quiet (`empty_iff_quiet`), and handle
+--   answers neither 30 nor 31 (`neither_30_nor_31`);
 -- - the failing flag is 1 exactly when the rules say that the task fails, and 0 exactly when they say that it does not; a task that fails is
 --   quiet, and a quiet one need not fail.
 --
@@ -42,69 +42,69 @@ use lib.ListN.{length}
 use Rattle.decimal.specs.Path.{Path}
 use Rattle.tophat.specs.Syntax.{Ty, Code}
 use Rattle.tophat.specs.Handling.{Action}
-use Rattle.tophat.specs.Roles.{IsRole, otherRole, noTouch, ofRole, touchesLeft, is, admits}
+use Rattle.tophat.specs.Roles.{IsRole, other_role, no_touch, of_role, touches_left, is, admits}
 use Rattle.tophat.proofs.Basics.{apart}
-use Rattle.formats.specs.Touches.{entryBytes, actionOf, eventOf}
-use Rattle.formats.proofs.CoversRead.{event-of}
+use Rattle.formats.specs.Touches.{entry_bytes, action_of, event_of}
+use Rattle.formats.proofs.CoversRead.{event_of_lem}
 use Rattle.call_definitions.specs.Answers.{AcceptedFlow, IsRest}
-use Rattle.call_definitions.specs.Calls.{handleCall}
+use Rattle.call_definitions.specs.Calls.{handle_call}
 use Rattle.call_definitions.specs.States.{QuietIn}
 use Rattle.call_definitions.specs.Touches.{Call, run, Started, ungated, Stands}
-use Rattle.call_definitions.proofs.Standing.{role-quiet, stands, call-rest}
+use Rattle.call_definitions.proofs.Standing.{role_quiet, stands, call_rest}
 use Rattle.call_definitions.proofs.Ungated.{passes_none}
-use Rattle.call_definitions.proofs.StartAnswered.{started-is-rest}
+use Rattle.call_definitions.proofs.StartAnswered.{started_is_rest}
 
 module _ {rows : List ℤ} {c : Code} {Σ : List Ty} {τ : Ty} (a : AcceptedFlow rows c Σ τ) where
   -- a list of calls leaves a rest
-  pub run-rest : {ws : List ℤ} → IsRest rows ws c Σ τ → (ks : List Call) → IsRest rows (run rows ws ks) c Σ τ
+  pub run_rest : {ws : List ℤ} → IsRest rows ws c Σ τ → (ks : List Call) → IsRest rows (run rows ws ks) c Σ τ
   unfolding run
-  run-rest r [] = r
-  run-rest r (k ∷ ks) = run-rest (call-rest a r k) ks
+  run_rest r [] = r
+  run_rest r (k ∷ ks) = run_rest (call_rest a r k) ks
 
-  pub every-run : {ws : List ℤ} → Started rows ws ⊎ IsRest rows ws c Σ τ → (ks : List Call) → Stands rows (run rows ws ks) c Σ τ
-  every-run h ks = stands a (run-rest (⊎_elim (started-is-rest a) (λ r. r) h) ks)
+  pub every_run : {ws : List ℤ} → Started rows ws ⊎ IsRest rows ws c Σ τ → (ks : List Call) → Stands rows (run rows ws ks) c Σ τ
+  every_run h ks = stands a (run_rest (⊎_elim (started_is_rest a) (λ r. r) h) ks)
 
 -- so the list of a role is empty exactly when each event of that role that can be read is refused (CR 6): no touch of theirs changes anything
-pub dark-takes-none : {rows ws : List ℤ} {c : Code} {Σ : List Ty} {τ : Ty} (z : Stands rows ws c Σ τ) (role : ℕ) → IsRole role
-    → (z.shown role ≡ []) ↔ ((event : List ℕ) (p : Path) (x : Action) → eventOf event ≡ some (role, p, x) → (handleCall rows ws event).number ≡ 0 → ⊥)
-dark-takes-none {rows} {ws} z role r = (
+pub dark_takes_none : {rows ws : List ℤ} {c : Code} {Σ : List Ty} {τ : Ty} (z : Stands rows ws c Σ τ) (role : ℕ) → IsRole role
+    → (z.shown role ≡ []) ↔ ((event : List ℕ) (p : Path) (x : Action) → event_of event ≡ some (role, p, x) → (handle_call rows ws event).number ≡ 0 → ⊥)
+dark_takes_none {rows} {ws} z role r = (
   λ q event p x e h.
-      let (i, k) = (z.accepted-iff-covered event role p x e).0 h in
+      let (i, k) = (z.accepted_iff_covered event role p x e).0 h in
       let w = (z.entries role r).whole in
       let n = ap length q in
       omega (arith, k.0, w, n),
   λ f. none_in (z.shown role) (z.count role) (z.entries role r).whole (λ l.
-      let (event, k, e) = z.covers-some role r 0 l in
-      let x = actionOf k.1.act k.1.leaves in
-      let o : eventOf event ≡ some (role, k.1.path, x) = event-of event k.1.event-says ∙ ap (λ r. some (r, k.1.path, x)) e in
-      f event _ _ o ((z.accepted-iff-covered event role _ _ o).1 (0, k))),
+      let (event, k, e) = z.covers_some role r 0 l in
+      let x = action_of k.1.act k.1.leaves in
+      let o : event_of event ≡ some (role, k.1.path, x) = event_of_lem event k.1.says_event ∙ ap (λ r. some (r, k.1.path, x)) e in
+      f event _ _ o ((z.accepted_iff_covered event role _ _ o).1 (0, k))),
 )
   where
     -- bytes of k entries, of which there is no first
-    none_in : (shown : List ℕ) (k : ℕ) → length shown ≡ k * entryBytes → (0 < k → ⊥) → shown ≡ []
+    none_in : (shown : List ℕ) (k : ℕ) → length shown ≡ k * entry_bytes → (0 < k → ⊥) → shown ≡ []
     none_in [] k e f = refl
     none_in (x ∷ xs) k e f = absurd (f (omega (arith, e)))
 
 -- flows of which no row is of kind 50
 module _ {rows ws : List ℤ} {c : Code} {Σ : List Ty} {τ : Ty} (a : AcceptedFlow rows c Σ τ) (u : ungated rows ≡ true) (z : Stands rows ws c Σ τ) where
   -- handle answers neither 30 nor 31, whatever the event's bytes
-  pub neither-30-nor-31 : (event : List ℕ) → ((handleCall rows ws event).number ≡ otherRole → ⊥) × ((handleCall rows ws event).number ≡ noTouch → ⊥)
-  unfolding ofRole touchesLeft
-  neither-30-nor-31 event = by (eventOf event) refl
+  pub neither_30_nor_31 : (event : List ℕ) → ((handle_call rows ws event).number ≡ other_role → ⊥) × ((handle_call rows ws event).number ≡ no_touch → ⊥)
+  unfolding of_role touches_left
+  neither_30_nor_31 event = by (event_of event) refl
     where
-      by : (o : Option (ℕ × Path × Action)) → eventOf event ≡ o → ((handleCall rows ws event).number ≡ otherRole → ⊥) × ((handleCall rows ws event).number ≡ noTouch → ⊥)
+      by : (o : Option (ℕ × Path × Action)) → event_of event ≡ o → ((handle_call rows ws event).number ≡ other_role → ⊥) × ((handle_call rows ws event).number ≡ no_touch → ⊥)
       by none e = let q = ap (λ r. r.number) (z.unread event e) in ((λ h. omega (arith, q, h)), (λ h. omega (arith, q, h)))
       by (some (role, p, x)) e = (
-        λ h. let (gs, k, n) = (z.other event role p x e).0 h in apart (ap (ofRole role) (passes_none a u z.rest.writes k)) n,
-        λ h. let (gs, k, m, n) = (z.spent event role p x e).0 h in apart (ap touchesLeft (passes_none a u z.rest.writes k)) n,
+        λ h. let (gs, k, n) = (z.other event role p x e).0 h in apart (ap (of_role role) (passes_none a u z.rest.writes k)) n,
+        λ h. let (gs, k, m, n) = (z.spent event role p x e).0 h in apart (ap touches_left (passes_none a u z.rest.writes k)) n,
       )
 
   -- CR 1: "The list is empty exactly for quiet tasks", for each role
-  pub empty-iff-quiet : (role : ℕ) → IsRole role → (z.shown role ≡ []) ↔ QuietIn z.rest.state
+  pub empty_iff_quiet : (role : ℕ) → IsRole role → (z.shown role ≡ []) ↔ QuietIn z.rest.state
   unfolding admits
-  empty-iff-quiet role r = (
-    λ q. role-quiet a z.rest role r (λ event p x e t₁ s₁ gs h w.
-        (dark-takes-none z role r).0 q event p x e
+  empty_iff_quiet role r = (
+    λ q. role_quiet a z.rest role r (λ event p x e t₁ s₁ gs h w.
+        (dark_takes_none z role r).0 q event p x e
         ((z.taken event role p x e).1 (t₁, s₁, gs, h, ap (admits (is role)) (passes_none a u z.rest.writes (t₁, s₁, h))))),
-    λ q. z.quiet-dark q role,
+    λ q. z.quiet_dark q role,
   )

@@ -117,26 +117,26 @@ abbrev bytes : ℕ → List ℕ
 bytes n = replicate n 7
 
 -- the bytes of a line, byte 10 included
-unfoldable bytesFrom : ℕ → ℕ → String → List ℕ
-bytesFrom zero at s = 10 ∷ []
-bytesFrom (suc n) at s = code (char_at s at) ∷ bytesFrom n (suc at) s
+unfoldable bytes_from : ℕ → ℕ → String → List ℕ
+bytes_from zero at s = 10 ∷ []
+bytes_from (suc n) at s = code (char_at s at) ∷ bytes_from n (suc at) s
 
 abbrev line : String → List ℕ
-line s = bytesFrom (len s) 0 s
+line s = bytes_from (len s) 0 s
 
 -- the entry of an editor of a number at the empty path, 35 bytes
 abbrev entry : List ℕ
 entry = line "               0 1 3 0 0 0 0 0 0 0"
 
 -- events of 117 bytes: a value of 12 from role 1 and from role 2, and Continue from role 1
-abbrev value-1 : List ℕ
-value-1 = line " 1               0 1          12           0           0           0           0           0           0           0"
+abbrev value_1 : List ℕ
+value_1 = line " 1               0 1          12           0           0           0           0           0           0           0"
 
-abbrev value-2 : List ℕ
-value-2 = line " 2               0 1          12           0           0           0           0           0           0           0"
+abbrev value_2 : List ℕ
+value_2 = line " 2               0 1          12           0           0           0           0           0           0           0"
 
-abbrev continue-1 : List ℕ
-continue-1 = line " 1               0 2           0           0           0           0           0           0           0           0"
+abbrev continue_1 : List ℕ
+continue_1 = line " 1               0 2           0           0           0           0           0           0           0           0"
 
 -- ---- flows and their states
 
@@ -154,8 +154,8 @@ twelve = state_of ((0, 0, 0, 0) ∷ (2, 3, 12, 0) ∷ [])
 abbrev once : List ℤ
 once = rows_of ((3, 0, 0, 0) ∷ (41, 0, 0, 0) ∷ (50, 2, 1, 1) ∷ [])
 
-abbrev onceLeft : ℕ → List ℤ
-onceLeft k = state_of ((0, 0, 0, 0) ∷ (1, 0, 0, 0) ∷ (1, 3, k, 0) ∷ [])
+abbrev once_left : ℕ → List ℤ
+once_left k = state_of ((0, 0, 0, 0) ∷ (1, 0, 0, 0) ∷ (1, 3, k, 0) ∷ [])
 
 -- a 43 from an editor filled with 5 to an editor of what it holds: before the step, which goes on, and after it
 abbrev step : List ℤ
@@ -172,41 +172,41 @@ abbrev reckoned : ℕ → List ℤ
 reckoned o = rows_of ((3, 0, 0, 0) ∷ (10, 0, 7, 0) ∷ (22, 3, 0, 0) ∷ (30, 1, 2, 0) ∷ (22, 2147483647, 0, 0) ∷ (22, 1, 0, 0) ∷ (24, o, 4, 5) ∷ (40, 6, 0, 0) ∷ (31, 3, 7, 0) ∷ [])
 
 -- its last row failed as a whole, beside this content of the cell
-abbrev failedWhole : ℕ → List ℤ
-failedWhole c = state_of ((0, 0, 0, 0) ∷ (1, 3, c, 0) ∷ (0, 0, 0, 0) ∷ (0, 0, 0, 0) ∷ (0, 0, 0, 0) ∷ (0, 0, 0, 0) ∷ (0, 0, 0, 0) ∷ (0, 0, 0, 0) ∷ (4, 0, 0, 0) ∷ [])
+abbrev failed_whole : ℕ → List ℤ
+failed_whole c = state_of ((0, 0, 0, 0) ∷ (1, 3, c, 0) ∷ (0, 0, 0, 0) ∷ (0, 0, 0, 0) ∷ (0, 0, 0, 0) ∷ (0, 0, 0, 0) ∷ (0, 0, 0, 0) ∷ (0, 0, 0, 0) ∷ (4, 0, 0, 0) ∷ [])
 
 -- an editor of a pair of numbers that holds 12 and 5
 abbrev pairs : List ℤ
 pairs = rows_of ((3, 0, 0, 0) ∷ (4, 0, 0, 0) ∷ (41, 1, 0, 0) ∷ [])
 
-abbrev pair-12-5 : List ℤ
-pair-12-5 = state_of ((0, 0, 0, 0) ∷ (0, 0, 0, 0) ∷ (2, 60, 12, 5) ∷ [])
+abbrev pair_12_5 : List ℤ
+pair_12_5 = state_of ((0, 0, 0, 0) ∷ (0, 0, 0, 0) ∷ (2, 60, 12, 5) ∷ [])
 
 -- ---- 0: what an accepted call answers and leaves
 
 starts : (start editor (words 32) ≡ (0, 1, empty))
-    × (start once (words 48) ≡ (0, 1, onceLeft 1))  -- C touches when evaluated
+    × (start once (words 48) ≡ (0, 1, once_left 1))  -- C touches when evaluated
     × (start step (words 80) ≡ (0, 2, after))  -- the step is taken, then a stride that changes nothing
-    × (start (reckoned 1) (words 144) ≡ (0, 1, failedWhole 7))  -- CR 3: failed as a whole, with the cell's first content
+    × (start (reckoned 1) (words 144) ≡ (0, 1, failed_whole 7))  -- CR 3: failed as a whole, with the cell's first content
 unfolding start
 starts = (refl, refl, refl, refl)
 
 -- value memory: all 0 without a value, unused words 0. List memory: the part handed back, and the bytes after it as they were
 looks : (look editor empty 1 (words 8) (bytes 40) ≡ (0, 0, 0, value_of 0 0, entry, entry ++ bytes 5))
     × (look editor twelve 8 (words 8) (bytes 40) ≡ (0, 1, 0, value_of 12 0, entry, entry ++ bytes 5))  -- the last role
-    × (look pairs pair-12-5 1 (words 8) (bytes 40) ≡ (0, 1, 0, value_of 12 5, line "               0 1 3 3 0 0 0 0 0 0", line "               0 1 3 3 0 0 0 0 0 0" ++ bytes 5))
-    × (look once (onceLeft 1) 2 (words 8) (bytes 40) ≡ (0, 0, 0, value_of 0 0, entry, entry ++ bytes 5))
-    × (look once (onceLeft 1) 1 (words 8) (bytes 40) ≡ (0, 0, 0, value_of 0 0, [], bytes 40))  -- another role's
-    × (look once (onceLeft 0) 2 (words 8) (bytes 40) ≡ (0, 0, 0, value_of 0 0, [], bytes 40))  -- its touches spent
+    × (look pairs pair_12_5 1 (words 8) (bytes 40) ≡ (0, 1, 0, value_of 12 5, line "               0 1 3 3 0 0 0 0 0 0", line "               0 1 3 3 0 0 0 0 0 0" ++ bytes 5))
+    × (look once (once_left 1) 2 (words 8) (bytes 40) ≡ (0, 0, 0, value_of 0 0, entry, entry ++ bytes 5))
+    × (look once (once_left 1) 1 (words 8) (bytes 40) ≡ (0, 0, 0, value_of 0 0, [], bytes 40))  -- another role's
+    × (look once (once_left 0) 2 (words 8) (bytes 40) ≡ (0, 0, 0, value_of 0 0, [], bytes 40))  -- its touches spent
     × (look step after 1 (words 8) (bytes 40) ≡ (0, 1, 0, value_of 5 0, entry, entry ++ bytes 5))
-    × (look (reckoned 1) (failedWhole 7) 1 (words 8) (bytes 40) ≡ (0, 0, 1, value_of 0 0, [], bytes 40))  -- failed as a whole: fails
-unfolding look bytesFrom
+    × (look (reckoned 1) (failed_whole 7) 1 (words 8) (bytes 40) ≡ (0, 0, 1, value_of 0 0, [], bytes 40))  -- failed as a whole: fails
+unfolding look bytes_from
 looks = (refl, refl, refl, refl, refl, refl, refl, refl)
 
-handles : (handle editor empty value-1 ≡ (0, 1, twelve))
-    × (handle once (onceLeft 1) value-2 ≡ (0, 1, state_of ((0, 0, 0, 0) ∷ (2, 3, 12, 0) ∷ (1, 3, 0, 0) ∷ [])))  -- uses the touch
-    × (handle step after value-2 ≡ (0, 1, state_of ((0, 0, 0, 0) ∷ (0, 0, 0, 0) ∷ (0, 0, 0, 0) ∷ (1, 3, 12, 0) ∷ (2, 3, 5, 0) ∷ [])))
-unfolding handle bytesFrom
+handles : (handle editor empty value_1 ≡ (0, 1, twelve))
+    × (handle once (once_left 1) value_2 ≡ (0, 1, state_of ((0, 0, 0, 0) ∷ (2, 3, 12, 0) ∷ (1, 3, 0, 0) ∷ [])))  -- uses the touch
+    × (handle step after value_2 ≡ (0, 1, state_of ((0, 0, 0, 0) ∷ (0, 0, 0, 0) ∷ (0, 0, 0, 0) ∷ (1, 3, 12, 0) ∷ (2, 3, 5, 0) ∷ [])))
+unfolding handle bytes_from
 handles = (refl, refl, refl)
 
 -- ---- 20: rows that no accepted sheet loads to; before 21
@@ -221,19 +221,19 @@ nine = editor ++ pos 0 ∷ []
 abbrev unbound : List ℤ
 unbound = rows_of ((23, 0, 0, 0) ∷ (40, 0, 0, 0) ∷ [])
 
-starts-20 : (start three (words 16) ≡ (20, 0, words 16)) × (start nine (words 32) ≡ (20, 0, words 32)) × (start unbound (words 31) ≡ (20, 0, words 31))
+starts_20 : (start three (words 16) ≡ (20, 0, words 16)) × (start nine (words 32) ≡ (20, 0, words 32)) × (start unbound (words 31) ≡ (20, 0, words 31))
 unfolding start
-starts-20 = (refl, refl, refl)
+starts_20 = (refl, refl, refl)
 
-looks-20 : (look three (words 16) 1 (words 8) (bytes 40) ≡ (20, 0, 0, words 8, [], bytes 40))
+looks_20 : (look three (words 16) 1 (words 8) (bytes 40) ≡ (20, 0, 0, words 8, [], bytes 40))
     × (look nine empty 1 (words 8) (bytes 40) ≡ (20, 0, 0, words 8, [], bytes 40))
     × (look unbound empty 9 (words 7) (bytes 0) ≡ (20, 0, 0, words 7, [], []))
 unfolding look
-looks-20 = (refl, refl, refl)
+looks_20 = (refl, refl, refl)
 
-handles-20 : (handle three (words 16) value-1 ≡ (20, 0, words 16)) × (handle nine empty value-1 ≡ (20, 0, empty)) × (handle unbound (words 31) (bytes 117) ≡ (20, 0, words 31))
-unfolding handle bytesFrom
-handles-20 = (refl, refl, refl)
+handles_20 : (handle three (words 16) value_1 ≡ (20, 0, words 16)) × (handle nine empty value_1 ≡ (20, 0, empty)) × (handle unbound (words 31) (bytes 117) ≡ (20, 0, words 31))
+unfolding handle bytes_from
+handles_20 = (refl, refl, refl)
 
 -- ---- 21: state or value memory not of its exact length; before 22
 
@@ -244,21 +244,21 @@ short = state_of ((0, 0, 0, 0) ∷ []) ++ pos 1 ∷ replicate 14 (pos 0)
 abbrev long : List ℤ
 long = empty ++ pos 0 ∷ []
 
-starts-21 : (start editor (words 31) ≡ (21, 0, words 31)) × (start editor (words 33) ≡ (21, 0, words 33)) × (start editor [] ≡ (21, 0, []))
+starts_21 : (start editor (words 31) ≡ (21, 0, words 31)) × (start editor (words 33) ≡ (21, 0, words 33)) × (start editor [] ≡ (21, 0, []))
 unfolding start
-starts-21 = (refl, refl, refl)
+starts_21 = (refl, refl, refl)
 
-looks-21 : (look editor short 1 (words 8) (bytes 40) ≡ (21, 0, 0, words 8, [], bytes 40))
+looks_21 : (look editor short 1 (words 8) (bytes 40) ≡ (21, 0, 0, words 8, [], bytes 40))
     × (look editor long 1 (words 8) (bytes 40) ≡ (21, 0, 0, words 8, [], bytes 40))
     × (look editor empty 1 (words 7) (bytes 40) ≡ (21, 0, 0, words 7, [], bytes 40))
     × (look editor empty 1 (words 9) (bytes 40) ≡ (21, 0, 0, words 9, [], bytes 40))
     × (look editor (words 32) 9 (words 4) (bytes 34) ≡ (21, 0, 0, words 4, [], bytes 34))  -- no state, role 9 and list too short
 unfolding look
-looks-21 = (refl, refl, refl, refl, refl)
+looks_21 = (refl, refl, refl, refl, refl)
 
-handles-21 : (handle editor short value-1 ≡ (21, 0, short)) × (handle editor long value-1 ≡ (21, 0, long)) × (handle editor (words 31) (bytes 117) ≡ (21, 0, words 31))
-unfolding handle bytesFrom
-handles-21 = (refl, refl, refl)
+handles_21 : (handle editor short value_1 ≡ (21, 0, short)) × (handle editor long value_1 ≡ (21, 0, long)) × (handle editor (words 31) (bytes 117) ≡ (21, 0, words 31))
+unfolding handle bytes_from
+handles_21 = (refl, refl, refl)
 
 -- ---- 22: not the writing of a state; before 8
 
@@ -272,75 +272,75 @@ behind = state_of ((0, 0, 0, 0) ∷ []) ++ pos 1 ∷ (replicate 14 (pos 0) ++ po
 abbrev untyped : List ℤ
 untyped = state_of ((0, 0, 0, 0) ∷ (2, 2, 1, 0) ∷ [])
 
-looks-22 : (look editor (words 32) 1 (words 8) (bytes 40) ≡ (22, 0, 0, words 8, [], bytes 40))
+looks_22 : (look editor (words 32) 1 (words 8) (bytes 40) ≡ (22, 0, 0, words 8, [], bytes 40))
     × (look editor dead 1 (words 8) (bytes 40) ≡ (22, 0, 0, words 8, [], bytes 40))
     × (look editor behind 1 (words 8) (bytes 40) ≡ (22, 0, 0, words 8, [], bytes 40))
     × (look editor untyped 1 (words 8) (bytes 40) ≡ (22, 0, 0, words 8, [], bytes 40))
-    × (look once (onceLeft 2) 2 (words 8) (bytes 40) ≡ (22, 0, 0, words 8, [], bytes 40))  -- C + 1 touches
-    × (look (reckoned 1) (failedWhole 3) 1 (words 8) (bytes 40) ≡ (22, 0, 0, words 8, [], bytes 40))  -- failed as a whole, with another content of the cell
-    × (look (reckoned 2) (failedWhole 7) 1 (words 8) (bytes 40) ≡ (22, 0, 0, words 8, [], bytes 40))  -- in a flow that starts well
+    × (look once (once_left 2) 2 (words 8) (bytes 40) ≡ (22, 0, 0, words 8, [], bytes 40))  -- C + 1 touches
+    × (look (reckoned 1) (failed_whole 3) 1 (words 8) (bytes 40) ≡ (22, 0, 0, words 8, [], bytes 40))  -- failed as a whole, with another content of the cell
+    × (look (reckoned 2) (failed_whole 7) 1 (words 8) (bytes 40) ≡ (22, 0, 0, words 8, [], bytes 40))  -- in a flow that starts well
     × (look editor (words 32) 9 (words 8) (bytes 34) ≡ (22, 0, 0, words 8, [], bytes 34))  -- role 9 and list too short
 unfolding look
-looks-22 = (refl, refl, refl, refl, refl, refl, refl, refl)
+looks_22 = (refl, refl, refl, refl, refl, refl, refl, refl)
 
-handles-22 : (handle editor (words 32) value-1 ≡ (22, 0, words 32))
-    × (handle editor dead value-1 ≡ (22, 0, dead))
-    × (handle once (onceLeft 2) value-2 ≡ (22, 0, onceLeft 2))
-    × (handle (reckoned 1) (failedWhole 3) value-1 ≡ (22, 0, failedWhole 3))
-    × (handle (reckoned 2) (failedWhole 7) value-1 ≡ (22, 0, failedWhole 7))
+handles_22 : (handle editor (words 32) value_1 ≡ (22, 0, words 32))
+    × (handle editor dead value_1 ≡ (22, 0, dead))
+    × (handle once (once_left 2) value_2 ≡ (22, 0, once_left 2))
+    × (handle (reckoned 1) (failed_whole 3) value_1 ≡ (22, 0, failed_whole 3))
+    × (handle (reckoned 2) (failed_whole 7) value_1 ≡ (22, 0, failed_whole 7))
     × (handle editor (words 32) (bytes 117) ≡ (22, 0, words 32))  -- no event
-unfolding handle bytesFrom
-handles-22 = (refl, refl, refl, refl, refl, refl)
+unfolding handle bytes_from
+handles_22 = (refl, refl, refl, refl, refl, refl)
 
 -- ---- 23: normalising would change it; before 8
 
-looks-23 : (look step before 1 (words 8) (bytes 40) ≡ (23, 0, 0, words 8, [], bytes 40)) × (look step before 9 (words 8) (bytes 34) ≡ (23, 0, 0, words 8, [], bytes 34))
+looks_23 : (look step before 1 (words 8) (bytes 40) ≡ (23, 0, 0, words 8, [], bytes 40)) × (look step before 9 (words 8) (bytes 34) ≡ (23, 0, 0, words 8, [], bytes 34))
 unfolding look
-looks-23 = (refl, refl)
+looks_23 = (refl, refl)
 
-handles-23 : (handle step before value-1 ≡ (23, 0, before)) × (handle step before (bytes 117) ≡ (23, 0, before))
-unfolding handle bytesFrom
-handles-23 = (refl, refl)
+handles_23 : (handle step before value_1 ≡ (23, 0, before)) × (handle step before (bytes 117) ≡ (23, 0, before))
+unfolding handle bytes_from
+handles_23 = (refl, refl)
 
 -- ---- 8: look's role is not 1 to 8, before 24; the event cannot be read, before 9
 
-looks-8 : (look editor empty 0 (words 8) (bytes 40) ≡ (8, 0, 0, words 8, [], bytes 40))
+looks_8 : (look editor empty 0 (words 8) (bytes 40) ≡ (8, 0, 0, words 8, [], bytes 40))
     × (look editor empty 0 (words 8) (bytes 34) ≡ (8, 0, 0, words 8, [], bytes 34))
     × (look editor empty 9 (words 8) (bytes 34) ≡ (8, 0, 0, words 8, [], bytes 34))
 unfolding look
-looks-8 = (refl, refl, refl)
+looks_8 = (refl, refl, refl)
 
-handles-8 : (handle editor empty [] ≡ (8, 0, empty))
+handles_8 : (handle editor empty [] ≡ (8, 0, empty))
     × (handle editor empty (bytes 117) ≡ (8, 0, empty))  -- 7s
     × (handle editor empty (line "               0 1          12           0           0           0           0           0           0           0") ≡ (8, 0, empty))  -- 115 bytes, no role
-    × (handle editor empty (value-1 ++ 10 ∷ []) ≡ (8, 0, empty))  -- 118 bytes
+    × (handle editor empty (value_1 ++ 10 ∷ []) ≡ (8, 0, empty))  -- 118 bytes
     × (handle editor empty (line " 0               0 1          12           0           0           0           0           0           0           0") ≡ (8, 0, empty))  -- role 0
     × (handle editor empty (line " 9               0 1          12           0           0           0           0           0           0           0") ≡ (8, 0, empty))  -- role 9
     × (handle editor empty (line " 1               0 5          12           0           0           0           0           0           0           0") ≡ (8, 0, empty))  -- action 5
     × (handle editor empty (line " 1               3 1          12           0           0           0           0           0           0           0") ≡ (8, 0, empty))  -- mark 3
     × (handle editor empty (line " 1               0 2          12           0           0           0           0           0           0           0") ≡ (8, 0, empty))  -- a leaf at Continue
-unfolding handle bytesFrom
-handles-8 = (refl, refl, refl, refl, refl, refl, refl, refl, refl)
+unfolding handle bytes_from
+handles_8 = (refl, refl, refl, refl, refl, refl, refl, refl, refl)
 
 -- ---- 24: list memory under 35 bytes an entry
 
-looks-24 : (look editor twelve 1 (words 8) (bytes 34) ≡ (24, 0, 0, words 8, [], bytes 34))
+looks_24 : (look editor twelve 1 (words 8) (bytes 34) ≡ (24, 0, 0, words 8, [], bytes 34))
     × (look editor twelve 1 (words 8) [] ≡ (24, 0, 0, words 8, [], []))
     × (look editor twelve 1 (words 8) (bytes 35) ≡ (0, 1, 0, value_of 12 0, entry, entry))
-    × (look (reckoned 1) (failedWhole 7) 1 (words 8) [] ≡ (0, 0, 1, value_of 0 0, [], []))  -- no entry
-unfolding look bytesFrom
-looks-24 = (refl, refl, refl, refl)
+    × (look (reckoned 1) (failed_whole 7) 1 (words 8) [] ≡ (0, 0, 1, value_of 0 0, [], []))  -- no entry
+unfolding look bytes_from
+looks_24 = (refl, refl, refl, refl)
 
 -- ---- 9: no handling rule derives a step; then 30, a row passed has another role; then 31, only the touches are spent
 
-handles-9 : (handle editor empty continue-1 ≡ (9, 0, empty)) × (handle (reckoned 1) (failedWhole 7) value-1 ≡ (9, 0, failedWhole 7)) × (handle once (onceLeft 0) continue-1 ≡ (9, 0, onceLeft 0))
-unfolding handle bytesFrom
-handles-9 = (refl, refl, refl)
+handles_9 : (handle editor empty continue_1 ≡ (9, 0, empty)) × (handle (reckoned 1) (failed_whole 7) value_1 ≡ (9, 0, failed_whole 7)) × (handle once (once_left 0) continue_1 ≡ (9, 0, once_left 0))
+unfolding handle bytes_from
+handles_9 = (refl, refl, refl)
 
-handles-30 : (handle once (onceLeft 1) value-1 ≡ (30, 0, onceLeft 1)) × (handle once (onceLeft 0) value-1 ≡ (30, 0, onceLeft 0))
-unfolding handle bytesFrom
-handles-30 = (refl, refl)
+handles_30 : (handle once (once_left 1) value_1 ≡ (30, 0, once_left 1)) × (handle once (once_left 0) value_1 ≡ (30, 0, once_left 0))
+unfolding handle bytes_from
+handles_30 = (refl, refl)
 
-handles-31 : handle once (onceLeft 0) value-2 ≡ (31, 0, onceLeft 0)
-unfolding handle bytesFrom
-handles-31 = refl
+handles_31 : handle once (once_left 0) value_2 ≡ (31, 0, once_left 0)
+unfolding handle bytes_from
+handles_31 = refl

@@ -11,38 +11,38 @@ use lib.IntN.{ℤ}
 use lib.ListN.{length, drop}
 use Rattle.word.specs.Word.{AllWords}
 use Rattle.word.specs.Decides.{Decides}
-use Rattle.tophat.specs.Syntax.{maxLeaves, Ty, Code}
-use Rattle.tophat.specs.Typing.{v-nil}
+use Rattle.tophat.specs.Syntax.{max_leaves, Ty, Code}
+use Rattle.tophat.specs.Typing.{v_nil}
 use Rattle.tophat.specs.Showing.{Entry}
 use Rattle.tophat.proofs.ComputeNormalising.{failing}
 use Rattle.tophat.proofs.ComputeEntries.{entries}
-use Rattle.tophat.proofs.NormalisingSound.{fails-sound}
-use Rattle.tophat.proofs.NormalisingComplete.{fails-is}
-use Rattle.tophat.proofs.EntriesAgree.{shows-is, shows-sound}
+use Rattle.tophat.proofs.NormalisingSound.{fails_sound}
+use Rattle.tophat.proofs.NormalisingComplete.{fails_is}
+use Rattle.tophat.proofs.EntriesAgree.{shows_is, shows_sound}
 use Rattle.tophat.specs.Roles.{IsRole, is}
-use Rattle.formats.specs.Touches.{entryBytes}
-use Rattle.formats.specs.Lists.{listText}
-use Rattle.formats.proofs.Roles.{is-role, not-role, by-role}
-use Rattle.rows.specs.GroundNumbers.{eventNotRead, listTooShort}
-use Rattle.call_definitions.specs.Memory.{LookAnswer, lookRefusal, flag, valueMemory, hasOne}
-use Rattle.call_definitions.specs.States.{FlowState, valueIn, FailsIn, ShowsIn}
-use Rattle.call_definitions.specs.Answers.{AcceptedFlow, IsRest, LookAnswers, look-shut, look-8, look-24, look-0}
-use Rattle.call_definitions.specs.Calls.{Opened, refusedBy, rest_of, opened, lookRest, lookIn, lookCall}
-use Rattle.call_definitions.proofs.Opening.{opens, state-typed}
-use Rattle.call_definitions.proofs.Grounds.{Opens, open-shut, open-rest, opened-derived, shut-only}
+use Rattle.formats.specs.Touches.{entry_bytes}
+use Rattle.formats.specs.Lists.{list_text}
+use Rattle.formats.proofs.Roles.{is_role_lem, not_role, by_role}
+use Rattle.rows.specs.GroundNumbers.{event_not_read, list_too_short}
+use Rattle.call_definitions.specs.Memory.{LookAnswer, look_refusal, flag, value_memory, has_one}
+use Rattle.call_definitions.specs.States.{FlowState, value_in, FailsIn, ShowsIn}
+use Rattle.call_definitions.specs.Answers.{AcceptedFlow, IsRest, LookAnswers, look_shut, look_8, look_24, look_0}
+use Rattle.call_definitions.specs.Calls.{Opened, refused_by, rest_of, opened, look_rest, look_in, look_call}
+use Rattle.call_definitions.proofs.Opening.{opens, state_typed}
+use Rattle.call_definitions.proofs.Grounds.{Opens, open_shut, open_rest, opened_derived, shut_only}
 
 -- what a look with room answers
 abbrev pub looking : FlowState → List Entry → Bool → List ℕ → LookAnswer
 looking z es x list = record {
   number = 0;
-  has_value = hasOne (valueIn z);
+  has_value = has_one (value_in z);
   fails = flag x;
-  value = valueMemory (valueIn z);
-  part = listText es;
-  list = listText es ++ drop (length (listText es)) list;
+  value = value_memory (value_in z);
+  part = list_text es;
+  list = list_text es ++ drop (length (list_text es)) list;
 }
 
-module _ {rows ws : List ℤ} {c : Code} {Σ : List Ty} {τ : Ty} (a : AcceptedFlow rows c Σ τ) (r : IsRest rows ws c Σ τ) (role : ℕ) (values : List ℤ) (list : List ℕ) (l : length values ≡ maxLeaves) where
+module _ {rows ws : List ℤ} {c : Code} {Σ : List Ty} {τ : Ty} (a : AcceptedFlow rows c Σ τ) (r : IsRest rows ws c Σ τ) (role : ℕ) (values : List ℤ) (list : List ℕ) (l : length values ≡ max_leaves) where
   abbrev z : FlowState
   z = r.state
 
@@ -50,68 +50,68 @@ module _ {rows ws : List ℤ} {c : Code} {Σ : List Ty} {τ : Ty} (a : AcceptedF
   es = entries (is role) z.code [] z.store z.task
 
   shows : ShowsIn (is role) z es
-  shows = let (k, h) = state-typed a r.writes in shows-sound z.code [] z.store z.task k v-nil h
+  shows = let (k, h) = state_typed a r.writes in shows_sound z.code [] z.store z.task k v_nil h
 
   fails : FailsIn z (failing z.code [] z.store z.task)
-  fails = let (k, h) = state-typed a r.writes in fails-sound z.code [] z.store z.task k v-nil h
+  fails = let (k, h) = state_typed a r.writes in fails_sound z.code [] z.store z.task k v_nil h
 
   -- ---- at a rest, with value memory of its size
 
-  rest-look : lookCall rows ws role values list ≡ lookIn role values list (rest_of z)
-  unfolding lookCall
-  rest-look = ap (λ b. lookIn role values list (opened rows ws b)) (eq-eqb (length values) maxLeaves l) ∙ ap (lookIn role values list) (opens a r.writes r.still)
+  rest_look : look_call rows ws role values list ≡ look_in role values list (rest_of z)
+  unfolding look_call
+  rest_look = ap (λ b. look_in role values list (opened rows ws b)) (eq-eqb (length values) max_leaves l) ∙ ap (look_in role values list) (opens a r.writes r.still)
 
-  pub answer-8 : (IsRole role → ⊥) → lookCall rows ws role values list ≡ lookRefusal eventNotRead values list
-  unfolding lookIn
-  answer-8 n = let b = not-role role n in rest-look ∙ rw b refl
+  pub answer_8 : (IsRole role → ⊥) → look_call rows ws role values list ≡ look_refusal event_not_read values list
+  unfolding look_in
+  answer_8 n = let b = not_role role n in rest_look ∙ rw b refl
 
   module _ (i : IsRole role) {xs : List Entry} (d : ShowsIn (is role) z xs) where
-    role-look : lookCall rows ws role values list ≡ lookRest role values list z
-    unfolding lookIn
-    role-look = let b = is-role role i in rest-look ∙ rw b refl
+    role_look : look_call rows ws role values list ≡ look_rest role values list z
+    unfolding look_in
+    role_look = let b = is_role_lem role i in rest_look ∙ rw b refl
 
-    pub answer-24 : length list < length xs * entryBytes → lookCall rows ws role values list ≡ lookRefusal listTooShort values list
-    unfolding lookRest
-    answer-24 m =
-        let b : leb (length es * entryBytes) (length list) ≡ false = ap (λ es. leb (length es * entryBytes) (length list)) (shows-is d) ∙ lt-leb _ _ m in
-        role-look ∙ rw b refl
+    pub answer_24 : length list < length xs * entry_bytes → look_call rows ws role values list ≡ look_refusal list_too_short values list
+    unfolding look_rest
+    answer_24 m =
+        let b : leb (length es * entry_bytes) (length list) ≡ false = ap (λ es. leb (length es * entry_bytes) (length list)) (shows_is d) ∙ lt-leb _ _ m in
+        role_look ∙ rw b refl
 
-    pub answer-0 : {x : Bool} → length xs * entryBytes ≤ length list → FailsIn z x → lookCall rows ws role values list ≡ looking z xs x list
-    unfolding lookRest
-    answer-0 m f =
-        let b : leb (length es * entryBytes) (length list) ≡ true = ap (λ es. leb (length es * entryBytes) (length list)) (shows-is d) ∙ le-leb _ _ m in
-        role-look ∙ rw b (λ j. looking z (shows-is d j) (fails-is f j) list)
+    pub answer_0 : {x : Bool} → length xs * entry_bytes ≤ length list → FailsIn z x → look_call rows ws role values list ≡ looking z xs x list
+    unfolding look_rest
+    answer_0 m f =
+        let b : leb (length es * entry_bytes) (length list) ≡ true = ap (λ es. leb (length es * entry_bytes) (length list)) (shows_is d) ∙ le-leb _ _ m in
+        role_look ∙ rw b (λ j. looking z (shows_is d j) (fails_is f j) list)
 
-  pub rest-looked : LookAnswers rows ws role values list (lookCall rows ws role values list)
-  rest-looked = by-role role
-      (λ i. cases (leb (length es * entryBytes) (length list))
-      (λ y. let m = leb-true _ _ y in subst (LookAnswers rows ws role values list) (sym (answer-0 i shows m fails)) (look-0 a r l i shows m fails))
-      (λ n. let m = leb-false _ _ n in subst (LookAnswers rows ws role values list) (sym (answer-24 i shows m)) (look-24 a r l i shows m)))
-      (λ n. subst (LookAnswers rows ws role values list) (sym (answer-8 n)) (look-8 a r l n))
+  pub rest_looked : LookAnswers rows ws role values list (look_call rows ws role values list)
+  rest_looked = by_role role
+      (λ i. cases (leb (length es * entry_bytes) (length list))
+      (λ y. let m = leb-true _ _ y in subst (LookAnswers rows ws role values list) (sym (answer_0 i shows m fails)) (look_0 a r l i shows m fails))
+      (λ n. let m = leb-false _ _ n in subst (LookAnswers rows ws role values list) (sym (answer_24 i shows m)) (look_24 a r l i shows m)))
+      (λ n. subst (LookAnswers rows ws role values list) (sym (answer_8 n)) (look_8 a r l n))
 
 -- ---- every memory
 
-fitting : (values : List ℤ) → Decides (eqb (length values) maxLeaves) (length values ≡ maxLeaves)
-fitting values = record { yes = λ e. eqb-true (length values) maxLeaves e; no = λ e l. eqb-false (length values) maxLeaves e l }
+fitting : (values : List ℤ) → Decides (eqb (length values) max_leaves) (length values ≡ max_leaves)
+fitting values = record { yes = λ e. eqb-true (length values) max_leaves e; no = λ e l. eqb-false (length values) max_leaves e l }
 
 module _ (rows ws : List ℤ) (role : ℕ) (values : List ℤ) (list : List ℕ) (wr : AllWords rows) (ww : AllWords ws) where
   abbrev fits : Bool
-  fits = eqb (length values) maxLeaves
+  fits = eqb (length values) max_leaves
 
-  by-opened : (o : Opened) → opened rows ws fits ≡ o → Opens rows ws (length values ≡ maxLeaves) o → LookAnswers rows ws role values list (lookIn role values list o)
-  unfolding lookIn
-  by-opened (refusedBy g) e (open-shut d) = look-shut d
-  by-opened (rest_of z) e (open-rest a l r) = subst (LookAnswers rows ws role values list) (rest-look a r role values list l) (rest-looked a r role values list l)
+  by_opened : (o : Opened) → opened rows ws fits ≡ o → Opens rows ws (length values ≡ max_leaves) o → LookAnswers rows ws role values list (look_in role values list o)
+  unfolding look_in
+  by_opened (refused_by g) e (open_shut d) = look_shut d
+  by_opened (rest_of z) e (open_rest a l r) = subst (LookAnswers rows ws role values list) (rest_look a r role values list l) (rest_looked a r role values list l)
 
   -- what look answers is derived
-  pub look-derived : LookAnswers rows ws role values list (lookCall rows ws role values list)
-  unfolding lookCall
-  look-derived = by-opened (opened rows ws fits) refl (opened-derived rows ws (length values ≡ maxLeaves) wr ww fits (fitting values))
+  pub look_derived : LookAnswers rows ws role values list (look_call rows ws role values list)
+  unfolding look_call
+  look_derived = by_opened (opened rows ws fits) refl (opened_derived rows ws (length values ≡ max_leaves) wr ww fits (fitting values))
 
   -- and nothing else
-  pub look-only : {r : LookAnswer} → LookAnswers rows ws role values list r → lookCall rows ws role values list ≡ r
-  unfolding lookCall lookIn
-  look-only (look-shut d) = ap (lookIn role values list) (shut-only rows ws (length values ≡ maxLeaves) wr ww fits (fitting values) d)
-  look-only (look-8 a r l n) = answer-8 a r role values list l n
-  look-only (look-24 a r l i d m) = answer-24 a r role values list l i d m
-  look-only (look-0 a r l i d m f) = answer-0 a r role values list l i d m f
+  pub look_only : {r : LookAnswer} → LookAnswers rows ws role values list r → look_call rows ws role values list ≡ r
+  unfolding look_call look_in
+  look_only (look_shut d) = ap (look_in role values list) (shut_only rows ws (length values ≡ max_leaves) wr ww fits (fitting values) d)
+  look_only (look_8 a r l n) = answer_8 a r role values list l n
+  look_only (look_24 a r l i d m) = answer_24 a r role values list l i d m
+  look_only (look_0 a r l i d m f) = answer_0 a r role values list l i d m f

@@ -12,124 +12,124 @@ use lib.IntN.{ℤ, pos}
 use lib.ListN.{length, replicate, length-replicate}
 use Rattle.word.specs.Word.{AllWords}
 use Rattle.tophat.specs.Syntax.{Ty, Code, TaskOf, Store}
-use Rattle.tophat.specs.Typing.{v-nil}
-use Rattle.tophat.specs.Normalising.{s-fail, Normalises, n-done}
-use Rattle.tophat.proofs.ComputeEvaluation.{evaluate, overflowsTask}
+use Rattle.tophat.specs.Typing.{v_nil}
+use Rattle.tophat.specs.Normalising.{s_fail, Normalises, n_done}
+use Rattle.tophat.proofs.ComputeEvaluation.{evaluate, overflows_task}
 use Rattle.tophat.proofs.ComputeNormalising.{normalise, settle}
-use Rattle.tophat.proofs.TaskEvaluationAgrees.{GoodTask, evaluate-good, evaluate-is, overflows-task-is}
-use Rattle.tophat.proofs.NormalisingSound.{normalise-sound}
-use Rattle.tophat.proofs.NormalisingComplete.{normalises-is}
-use Rattle.tophat.proofs.Bound.{normalises-bound, normal-rest}
-use Rattle.rows.specs.GroundNumbers.{notAccepted, wrongMemory}
-use Rattle.rows.specs.Lent.{rowCount}
+use Rattle.tophat.proofs.TaskEvaluationAgrees.{GoodTask, evaluate_good, evaluate_is, overflows_task_is}
+use Rattle.tophat.proofs.NormalisingSound.{normalise_sound}
+use Rattle.tophat.proofs.NormalisingComplete.{normalises_is}
+use Rattle.tophat.proofs.Bound.{normalises_bound, normal_rest}
+use Rattle.rows.specs.GroundNumbers.{not_accepted, wrong_memory}
+use Rattle.rows.specs.Lent.{row_count}
 use Rattle.rows.proofs.Basics.{no}
 use Rattle.rows.proofs.TreesAgree.{cells_are}
-use Rattle.sheet.specs.Accepted.{acceptsRows}
-use Rattle.state.specs.Layout.{stateWords}
-use Rattle.call_definitions.specs.Memory.{state_of, failedOf, CallAnswer, refusal}
-use Rattle.call_definitions.specs.States.{failedState}
-use Rattle.call_definitions.specs.Answers.{AcceptedFlow, HasRoom, as-task, as-failed, IsRest, StartAnswers, start-20, start-21, start-0, start-failed}
-use Rattle.call_definitions.specs.Calls.{startWith, startCall}
+use Rattle.sheet.specs.Accepted.{accepts_rows}
+use Rattle.state.specs.Layout.{state_words}
+use Rattle.call_definitions.specs.Memory.{state_of, failed_of, CallAnswer, refusal}
+use Rattle.call_definitions.specs.States.{failed_state}
+use Rattle.call_definitions.specs.Answers.{AcceptedFlow, HasRoom, as_task, as_failed, IsRest, StartAnswers, start_20, start_21, start_0, start_failed}
+use Rattle.call_definitions.specs.Calls.{start_with, start_call}
 use Rattle.call_definitions.specs.Touches.{Started, Bounded}
-use Rattle.call_definitions.proofs.Flows.{loads-accepts, accepts-loads, accepts-not, flow-of}
-use Rattle.call_definitions.proofs.Opening.{accepts, moving, code-found, first-typed}
+use Rattle.call_definitions.proofs.Flows.{loads_accepts, accepts_loads, accepts_not, flow_of}
+use Rattle.call_definitions.proofs.Opening.{accepts, moving, code_found, first_typed}
 
-pub start-20-is : (rows memory : List ℤ) → acceptsRows rows ≡ false → startCall rows memory ≡ refusal notAccepted memory
-unfolding startCall
-start-20-is rows memory h = rw h
+pub start_20_is : (rows memory : List ℤ) → accepts_rows rows ≡ false → start_call rows memory ≡ refusal not_accepted memory
+unfolding start_call
+start_20_is rows memory h = rw h
 
-pub start-21-is : (rows memory : List ℤ) → acceptsRows rows ≡ true → (HasRoom rows memory → ⊥) → startCall rows memory ≡ refusal wrongMemory memory
-unfolding startCall
-start-21-is rows memory h n = rw (h, ne_eqb (length memory) (rowCount rows * stateWords) n)
+pub start_21_is : (rows memory : List ℤ) → accepts_rows rows ≡ true → (HasRoom rows memory → ⊥) → start_call rows memory ≡ refusal wrong_memory memory
+unfolding start_call
+start_21_is rows memory h n = rw (h, ne_eqb (length memory) (row_count rows * state_words) n)
 
 -- ---- an accepted flow
 
 module _ {rows : List ℤ} {c : Code} {Σ : List Ty} {τ : Ty} (a : AcceptedFlow rows c Σ τ) where
   -- what start answers, whatever the memory: the last row settled, or failed as a whole (CR 3)
-  abbrev answerFrom : Store → CallAnswer
-  answerFrom s₀ =
+  abbrev answer_from : Store → CallAnswer
+  answer_from s₀ =
       let (t, s, n) = settle c [] s₀ in
-      cond (overflowsTask c [] s₀) (record { number = 0; strides = 1; state = failedOf rows s₀ }) (record { number = 0; strides = n; state = state_of rows c t s })
+      cond (overflows_task c [] s₀) (record { number = 0; strides = 1; state = failed_of rows s₀ }) (record { number = 0; strides = n; state = state_of rows c t s })
 
   abbrev pub begun : CallAnswer
-  begun = answerFrom a.first
+  begun = answer_from a.first
 
-  pub start_is : (memory : List ℤ) → HasRoom rows memory → startCall rows memory ≡ begun
-  unfolding startCall startWith
+  pub start_is : (memory : List ℤ) → HasRoom rows memory → start_call rows memory ≡ begun
+  unfolding start_call start_with
   start_is memory l =
       let p = accepts a in
-      let q = eq-eqb (length memory) (rowCount rows * stateWords) l in
-      let r = code-found a in
+      let q = eq-eqb (length memory) (row_count rows * state_words) l in
+      let r = code_found a in
       let e = (cells_are a.flow.cells).1 in
-      rw (p, q, r) (ap answerFrom (sym e))
+      rw (p, q, r) (ap answer_from (sym e))
 
   abbrev evaluated : TaskOf c × Store
   evaluated = evaluate c [] a.first
 
-  evaluated-good : GoodTask Σ [] c [] a.first τ evaluated (overflowsTask c [] a.first)
-  evaluated-good = evaluate-good a.flow.typed [] a.first v-nil (first-typed a)
+  evaluated_good : GoodTask Σ [] c [] a.first τ evaluated (overflows_task c [] a.first)
+  evaluated_good = evaluate_good a.flow.typed [] a.first v_nil (first_typed a)
 
   normal : Normalises c [] evaluated.1 evaluated.0 (settle c [] a.first).0 (settle c [] a.first).1 (settle c [] a.first).2
   unfolding settle
-  normal = let g = evaluated-good in (normalise-sound c [] evaluated.1 evaluated.0 g.task v-nil g.store).derived
+  normal = let g = evaluated_good in (normalise_sound c [] evaluated.1 evaluated.0 g.task v_nil g.store).derived
 
   -- by whether the last row leaves the words
-  pub by-start : (P : CallAnswer → Type 0) → (overflowsTask c [] a.first ≡ true → P (record { number = 0; strides = 1; state = failedOf rows a.first }))
-      → (overflowsTask c [] a.first ≡ false → let (t, s, n) = settle c [] a.first in P (record { number = 0; strides = n; state = state_of rows c t s })) → P begun
-  by-start P f g = cases (overflowsTask c [] a.first) (λ o. rw o (f o)) (λ o. rw o (g o))
+  pub by_start : (P : CallAnswer → Type 0) → (overflows_task c [] a.first ≡ true → P (record { number = 0; strides = 1; state = failed_of rows a.first }))
+      → (overflows_task c [] a.first ≡ false → let (t, s, n) = settle c [] a.first in P (record { number = 0; strides = n; state = state_of rows c t s })) → P begun
+  by_start P f g = cases (overflows_task c [] a.first) (λ o. rw o (f o)) (λ o. rw o (g o))
 
-  begun-derived : (memory : List ℤ) → HasRoom rows memory → StartAnswers rows memory begun
-  begun-derived memory l = by-start (StartAnswers rows memory) (λ o. start-failed a l (evaluated-good.over o)) (λ o. start-0 a l (evaluated-good.derived o) normal)
+  begun_derived : (memory : List ℤ) → HasRoom rows memory → StartAnswers rows memory begun
+  begun_derived memory l = by_start (StartAnswers rows memory) (λ o. start_failed a l (evaluated_good.over o)) (λ o. start_0 a l (evaluated_good.derived o) normal)
 
-  begun-rest : IsRest rows begun.state c Σ τ
+  begun_rest : IsRest rows begun.state c Σ τ
   unfolding settle
-  begun-rest = by-start (λ r. IsRest rows r.state c Σ τ)
-      (λ o. record { state = failedState τ a.first; writes = as-failed a.flow (evaluated-good.over o) refl; still = n-done s-fail })
+  begun_rest = by_start (λ r. IsRest rows r.state c Σ τ)
+      (λ o. record { state = failed_state τ a.first; writes = as_failed a.flow (evaluated_good.over o) refl; still = n_done s_fail })
       (λ o.
-      let g = evaluated-good in
-      let k = normalise-sound c [] evaluated.1 evaluated.0 g.task v-nil g.store in
-      record { state = _; writes = as-task (record { typed = k.task; stored = k.store; written = refl }); still = normal-rest k.derived })
+      let g = evaluated_good in
+      let k = normalise_sound c [] evaluated.1 evaluated.0 g.task v_nil g.store in
+      record { state = _; writes = as_task (record { typed = k.task; stored = k.store; written = refl }); still = normal_rest k.derived })
 
   -- it counts at most 1 more than the rows of kind 43 and 47
-  pub start-bounded : (memory : List ℤ) → HasRoom rows memory → Bounded rows (startCall rows memory).strides
-  start-bounded memory l =
+  pub start_bounded : (memory : List ℤ) → HasRoom rows memory → Bounded rows (start_call rows memory).strides
+  start_bounded memory l =
       let m = moving a in
-      let b = normalises-bound normal in
-      subst (λ r. Bounded rows r.strides) (sym (start_is memory l)) (by-start (λ r. Bounded rows r.strides) (λ o. omega arith) (λ o. omega (arith, m, b)))
+      let b = normalises_bound normal in
+      subst (λ r. Bounded rows r.strides) (sym (start_is memory l)) (by_start (λ r. Bounded rows r.strides) (λ o. omega arith) (λ o. omega (arith, m, b)))
 
   -- it leaves the same words whatever the memory holds
-  pub start-state : (ws : List ℤ) × Started rows ws
-  start-state = (begun.state, (λ memory l. (ap (λ r. r.number) (start_is memory l) ∙ by-start (λ r. r.number ≡ 0) (λ o. refl) (λ o. refl), ap (λ r. r.state) (start_is memory l))))
+  pub start_state : (ws : List ℤ) × Started rows ws
+  start_state = (begun.state, (λ memory l. (ap (λ r. r.number) (start_is memory l) ∙ by_start (λ r. r.number ≡ 0) (λ o. refl) (λ o. refl), ap (λ r. r.state) (start_is memory l))))
 
   -- and they are a rest
-  pub started-is-rest : {ws : List ℤ} → Started rows ws → IsRest rows ws c Σ τ
-  started-is-rest h =
-      let memory = replicate (rowCount rows * stateWords) (pos 0) in
-      let l = length-replicate {A = ℤ} (rowCount rows * stateWords) (pos 0) in
-      subst (λ ws. IsRest rows ws c Σ τ) (sym (ap (λ r. r.state) (start_is memory l)) ∙ (h memory l).1) begun-rest
+  pub started_is_rest : {ws : List ℤ} → Started rows ws → IsRest rows ws c Σ τ
+  started_is_rest h =
+      let memory = replicate (row_count rows * state_words) (pos 0) in
+      let l = length-replicate {A = ℤ} (row_count rows * state_words) (pos 0) in
+      subst (λ ws. IsRest rows ws c Σ τ) (sym (ap (λ r. r.state) (start_is memory l)) ∙ (h memory l).1) begun_rest
 
 -- ---- every memory
 
 module _ (rows memory : List ℤ) (w : AllWords rows) where
   -- what start answers is derived
-  pub start-derived : StartAnswers rows memory (startCall rows memory)
-  start-derived = cases (acceptsRows rows)
+  pub start_derived : StartAnswers rows memory (start_call rows memory)
+  start_derived = cases (accepts_rows rows)
       (λ t.
-      let l = accepts-loads w t in
-      let (c, Σ, τ, a) = flow-of l in
-      cases (eqb (length memory) (rowCount rows * stateWords))
-      (λ y. let r = eqb-true (length memory) (rowCount rows * stateWords) y in subst (StartAnswers rows memory) (sym (start_is a memory r)) (begun-derived a memory r))
-      (λ n. let r = eqb-false (length memory) (rowCount rows * stateWords) n in subst (StartAnswers rows memory) (sym (start-21-is rows memory t r)) (start-21 l r)))
-      (λ f. subst (StartAnswers rows memory) (sym (start-20-is rows memory f)) (start-20 (λ l. no (sym f ∙ loads-accepts l))))
+      let l = accepts_loads w t in
+      let (c, Σ, τ, a) = flow_of l in
+      cases (eqb (length memory) (row_count rows * state_words))
+      (λ y. let r = eqb-true (length memory) (row_count rows * state_words) y in subst (StartAnswers rows memory) (sym (start_is a memory r)) (begun_derived a memory r))
+      (λ n. let r = eqb-false (length memory) (row_count rows * state_words) n in subst (StartAnswers rows memory) (sym (start_21_is rows memory t r)) (start_21 l r)))
+      (λ f. subst (StartAnswers rows memory) (sym (start_20_is rows memory f)) (start_20 (λ l. no (sym f ∙ loads_accepts l))))
 
   -- and nothing else
-  pub start-only : {r : CallAnswer} → StartAnswers rows memory r → startCall rows memory ≡ r
+  pub start_only : {r : CallAnswer} → StartAnswers rows memory r → start_call rows memory ≡ r
   unfolding settle
-  start-only (start-20 n) = start-20-is rows memory (accepts-not n w)
-  start-only (start-21 l n) = start-21-is rows memory (loads-accepts l) n
-  start-only (start-0 {c} a l e d) =
-      let o = (evaluate-is e).1 in
+  start_only (start_20 n) = start_20_is rows memory (accepts_not n w)
+  start_only (start_21 l n) = start_21_is rows memory (loads_accepts l) n
+  start_only (start_0 {c} a l e d) =
+      let o = (evaluate_is e).1 in
       start_is a memory l ∙ rw o refl
-      ∙ ap (λ (x : TaskOf c × Store). let (t, s, n) = normalise c [] x.1 x.0 in record { number = 0; strides = n; state = state_of rows c t s }) (evaluate-is e).0
-      ∙ ap (λ (x : TaskOf c × Store × ℕ). record { number = 0; strides = x.2; state = state_of rows c x.0 x.1 }) (normalises-is d)
-  start-only (start-failed a l d) = let o = overflows-task-is d in start_is a memory l ∙ rw o refl
+      ∙ ap (λ (x : TaskOf c × Store). let (t, s, n) = normalise c [] x.1 x.0 in record { number = 0; strides = n; state = state_of rows c t s }) (evaluate_is e).0
+      ∙ ap (λ (x : TaskOf c × Store × ℕ). record { number = 0; strides = x.2; state = state_of rows c x.0 x.1 }) (normalises_is d)
+  start_only (start_failed a l d) = let o = overflows_task_is d in start_is a memory l ∙ rw o refl

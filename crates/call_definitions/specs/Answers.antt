@@ -7,48 +7,48 @@
 use Rattle.std.specs.Prelude.{◌≡◌, Bool, true, false, List, [], ◌++◌, ℕ, suc, ◌*◌, ◌<◌, ◌≤◌, ℤ, length, drop}
 use Rattle.std.proofs.Math.Option.{none, some}
 use Rattle.decimal.specs.Path.{Path}
-use Rattle.tophat.specs.Syntax.{maxLeaves, Ty, Code, TaskOf, Store}
+use Rattle.tophat.specs.Syntax.{max_leaves, Ty, Code, TaskOf, Store}
 use Rattle.tophat.specs.Typing.{TaskType, ValueTypes}
 use Rattle.tophat.specs.Evaluation.{EvaluatesTask, OverflowsTask}
 use Rattle.tophat.specs.Normalising.{Normalises}
 use Rattle.tophat.specs.Handling.{Action, Handles}
 use Rattle.tophat.specs.Showing.{Entry}
-use Rattle.formats.specs.Lines.{lineBytes, linesSay}
-use Rattle.tophat.specs.Roles.{IsRole, Gate, otherRole, noTouch, ofRole, touchesLeft, is, admits}
-use Rattle.formats.specs.Touches.{entryBytes, eventOf}
-use Rattle.formats.specs.Lists.{listText}
-use Rattle.rows.specs.GroundNumbers.{notSized, notRead, eventNotRead, notHandled, notAccepted, wrongMemory, notState, notAtRest, listTooShort}
-use Rattle.rows.specs.Rows.{maxRows, rowWords}
-use Rattle.rows.specs.Lent.{ownRows, rowCount}
+use Rattle.formats.specs.Lines.{line_bytes, lines_say}
+use Rattle.tophat.specs.Roles.{IsRole, Gate, other_role, no_touch, of_role, touches_left, is, admits}
+use Rattle.formats.specs.Touches.{entry_bytes, event_of}
+use Rattle.formats.specs.Lists.{list_text}
+use Rattle.rows.specs.GroundNumbers.{not_sized, not_read, event_not_read, not_handled, not_accepted, wrong_memory, not_state, not_at_rest, list_too_short}
+use Rattle.rows.specs.Rows.{max_rows, row_words}
+use Rattle.rows.specs.Lent.{own_rows, row_count}
 use Rattle.rows.specs.Trees.{Flow}
 use Rattle.rows.specs.Ground.{WellFormed, Small, RowsGround}
-use Rattle.state.specs.Layout.{stateWords}
-use Rattle.call_definitions.specs.Memory.{state_of, failedOf, CallAnswer, refusal, LookAnswer, lookRefusal, flag, valueMemory, hasOne}
-use Rattle.call_definitions.specs.States.{FlowState, taskState, failedState, AtRest, valueIn, FailsIn, ShowsIn, RefusesIn, PassesIn}
+use Rattle.state.specs.Layout.{state_words}
+use Rattle.call_definitions.specs.Memory.{state_of, failed_of, CallAnswer, refusal, LookAnswer, look_refusal, flag, value_memory, has_one}
+use Rattle.call_definitions.specs.States.{FlowState, task_state, failed_state, AtRest, value_in, FailsIn, ShowsIn, RefusesIn, PassesIn}
 
 -- ---- load: 1, 21, 2 to 7
 
 -- 01: "1 to 256 lines of 45 bytes"
 pub record HasLines (text : List ℕ) (n : ℕ) : Type 0 where
-  pub some-lines : 1 ≤ n
-  pub few : n ≤ maxRows
-  pub whole : length text ≡ n * lineBytes
+  pub some_lines : 1 ≤ n
+  pub few : n ≤ max_rows
+  pub whole : length text ≡ n * line_bytes
 
 -- grounds 1, 21 and 2 do not hold: the text's n lines, for rows memory of n rows, say these words
 pub record Reads (text : List ℕ) (memory : List ℤ) (n : ℕ) (ws : List ℤ) : Type 0 where
   pub lines : HasLines text n
-  pub room : length memory ≡ n * rowWords
-  pub says : linesSay text n ≡ some ws
+  pub room : length memory ≡ n * row_words
+  pub says : lines_say text n ≡ some ws
 
 pub data LoadAnswers (text : List ℕ) (memory : List ℤ) : ℕ → List ℤ → Type 0 where
-  load-1 : ((n : ℕ) → HasLines text n → ⊥) → LoadAnswers text memory notSized memory
-  load-21 : {n : ℕ} → HasLines text n → (length memory ≡ n * rowWords → ⊥) → LoadAnswers text memory wrongMemory memory
-  load-2 : {n : ℕ} → HasLines text n → length memory ≡ n * rowWords → linesSay text n ≡ none → LoadAnswers text memory notRead memory
+  load_1 : ((n : ℕ) → HasLines text n → ⊥) → LoadAnswers text memory not_sized memory
+  load_21 : {n : ℕ} → HasLines text n → (length memory ≡ n * row_words → ⊥) → LoadAnswers text memory wrong_memory memory
+  load_2 : {n : ℕ} → HasLines text n → length memory ≡ n * row_words → lines_say text n ≡ none → LoadAnswers text memory not_read memory
   -- 3 to 7, by the rows that the lines say
-  load-rows : {n g : ℕ} {ws : List ℤ} → Reads text memory n ws → RowsGround (ownRows ws) n (suc g) → LoadAnswers text memory (suc g) memory
+  load_rows : {n g : ℕ} {ws : List ℤ} → Reads text memory n ws → RowsGround (own_rows ws) n (suc g) → LoadAnswers text memory (suc g) memory
   -- a sheet is accepted exactly when it can be read, keeps 01's form and limits, and the typing rules give its last row a type
-  load-0 : {n : ℕ} {ws : List ℤ} {c : Code} {Σ : List Ty} {s : Store} {τ : Ty}
-      → Reads text memory n ws → WellFormed (ownRows ws) n → Small (ownRows ws) n → Flow (ownRows ws) n c Σ s τ → LoadAnswers text memory 0 ws
+  load_0 : {n : ℕ} {ws : List ℤ} {c : Code} {Σ : List Ty} {s : Store} {τ : Ty}
+      → Reads text memory n ws → WellFormed (own_rows ws) n → Small (own_rows ws) n → Flow (own_rows ws) n c Σ s τ → LoadAnswers text memory 0 ws
 
 -- ---- flows and their states
 
@@ -63,11 +63,11 @@ pub record Loads (rows : List ℤ) : Type 0 where
 pub record AcceptedFlow (rows : List ℤ) (c : Code) (Σ : List Ty) (τ : Ty) : Type 0 where
   pub loads : Loads rows
   pub first : Store
-  pub flow : Flow (ownRows rows) (rowCount rows) c Σ first τ
+  pub flow : Flow (own_rows rows) (row_count rows) c Σ first τ
 
 -- 01: "A state is 16 words a row"
 abbrev pub HasRoom : List ℤ → List ℤ → Type 0
-HasRoom rows ws = length ws ≡ rowCount rows * stateWords
+HasRoom rows ws = length ws ≡ row_count rows * state_words
 
 -- the words are the writing of a task of the flow's type and of a store of the cells' types
 pub record WritesTask (rows ws : List ℤ) (c : Code) (Σ : List Ty) (τ : Ty) (t : TaskOf c) (s : Store) : Type 0 where
@@ -77,10 +77,10 @@ pub record WritesTask (rows ws : List ℤ) (c : Code) (Σ : List Ty) (τ : Ty) (
 
 -- the words are the writing of a state
 pub data Writes (rows ws : List ℤ) (c : Code) (Σ : List Ty) (τ : Ty) : FlowState → Type 0 where
-  as-task : {t : TaskOf c} {s : Store} → WritesTask rows ws c Σ τ t s → Writes rows ws c Σ τ (taskState c t s)
+  as_task : {t : TaskOf c} {s : Store} → WritesTask rows ws c Σ τ t s → Writes rows ws c Σ τ (task_state c t s)
   -- CR 3: "it is a state only where start fails so and the cells have their first contents"
-  as-failed : {s : Store} → Flow (ownRows rows) (rowCount rows) c Σ s τ → OverflowsTask c [] s → ws ≡ failedOf rows s
-      → Writes rows ws c Σ τ (failedState τ s)
+  as_failed : {s : Store} → Flow (own_rows rows) (row_count rows) c Σ s τ → OverflowsTask c [] s → ws ≡ failed_of rows s
+      → Writes rows ws c Σ τ (failed_state τ s)
 
 -- 01: "A rest is a state of it that normalising does not change"
 pub record IsRest (rows ws : List ℤ) (c : Code) (Σ : List Ty) (τ : Ty) : Type 0 where
@@ -91,67 +91,67 @@ pub record IsRest (rows ws : List ℤ) (c : Code) (Σ : List Ty) (τ : Ty) : Typ
 -- ---- start: 20, 21
 
 pub data StartAnswers (rows memory : List ℤ) : CallAnswer → Type 0 where
-  start-20 : (Loads rows → ⊥) → StartAnswers rows memory (refusal notAccepted memory)
-  start-21 : Loads rows → (HasRoom rows memory → ⊥) → StartAnswers rows memory (refusal wrongMemory memory)
+  start_20 : (Loads rows → ⊥) → StartAnswers rows memory (refusal not_accepted memory)
+  start_21 : Loads rows → (HasRoom rows memory → ⊥) → StartAnswers rows memory (refusal wrong_memory memory)
   -- 01: "Normalise: evaluate, then stride until a stride changes neither task nor store", from the cells' first contents
-  start-0 : {c : Code} {Σ : List Ty} {τ : Ty} {t₁ t₂ : TaskOf c} {s₁ s₂ : Store} {n : ℕ} (a : AcceptedFlow rows c Σ τ)
+  start_0 : {c : Code} {Σ : List Ty} {τ : Ty} {t₁ t₂ : TaskOf c} {s₁ s₂ : Store} {n : ℕ} (a : AcceptedFlow rows c Σ τ)
       → HasRoom rows memory → EvaluatesTask c [] a.first t₁ s₁ → Normalises c [] s₁ t₁ t₂ s₂ n
       → StartAnswers rows memory (record { number = 0; strides = n; state = state_of rows c t₂ s₂ })
   -- CR 3: the last row leaves the words, so that it is 45, in the cells' first contents
-  start-failed : {c : Code} {Σ : List Ty} {τ : Ty} (a : AcceptedFlow rows c Σ τ)
+  start_failed : {c : Code} {Σ : List Ty} {τ : Ty} (a : AcceptedFlow rows c Σ τ)
       → HasRoom rows memory → OverflowsTask c [] a.first
-      → StartAnswers rows memory (record { number = 0; strides = 1; state = failedOf rows a.first })
+      → StartAnswers rows memory (record { number = 0; strides = 1; state = failed_of rows a.first })
 
 -- ---- look and handle: 20 to 23 first, where Fits says that the other memory is of its exact length
 
 pub data Shut (rows ws : List ℤ) (Fits : Type 0) : ℕ → Type 0 where
-  shut-20 : (Loads rows → ⊥) → Shut rows ws Fits notAccepted
-  shut-21 : Loads rows → (HasRoom rows ws × Fits → ⊥) → Shut rows ws Fits wrongMemory
-  shut-22 : {c : Code} {Σ : List Ty} {τ : Ty}
+  shut_20 : (Loads rows → ⊥) → Shut rows ws Fits not_accepted
+  shut_21 : Loads rows → (HasRoom rows ws × Fits → ⊥) → Shut rows ws Fits wrong_memory
+  shut_22 : {c : Code} {Σ : List Ty} {τ : Ty}
       → AcceptedFlow rows c Σ τ → HasRoom rows ws → Fits → ((z : FlowState) → Writes rows ws c Σ τ z → ⊥)
-      → Shut rows ws Fits notState
-  shut-23 : {c : Code} {Σ : List Ty} {τ : Ty} {z : FlowState}
+      → Shut rows ws Fits not_state
+  shut_23 : {c : Code} {Σ : List Ty} {τ : Ty} {z : FlowState}
       → AcceptedFlow rows c Σ τ → Fits → Writes rows ws c Σ τ z → (AtRest z → ⊥)
-      → Shut rows ws Fits notAtRest
+      → Shut rows ws Fits not_at_rest
 
 -- 20 to 23, 8, 24
 pub data LookAnswers (rows ws : List ℤ) (role : ℕ) (values : List ℤ) (list : List ℕ) : LookAnswer → Type 0 where
-  look-shut : {g : ℕ} → Shut rows ws (length values ≡ maxLeaves) g → LookAnswers rows ws role values list (lookRefusal g values list)
+  look_shut : {g : ℕ} → Shut rows ws (length values ≡ max_leaves) g → LookAnswers rows ws role values list (look_refusal g values list)
   -- CR 6: "Look gives 8 for a role outside 1 to 8, after 23 and before 24"
-  look-8 : {c : Code} {Σ : List Ty} {τ : Ty} → AcceptedFlow rows c Σ τ → IsRest rows ws c Σ τ
-      → length values ≡ maxLeaves → (IsRole role → ⊥) → LookAnswers rows ws role values list (lookRefusal eventNotRead values list)
-  look-24 : {c : Code} {Σ : List Ty} {τ : Ty} {es : List Entry} → AcceptedFlow rows c Σ τ → (r : IsRest rows ws c Σ τ)
-      → length values ≡ maxLeaves → IsRole role → ShowsIn (is role) r.state es → length list < length es * entryBytes
-      → LookAnswers rows ws role values list (lookRefusal listTooShort values list)
+  look_8 : {c : Code} {Σ : List Ty} {τ : Ty} → AcceptedFlow rows c Σ τ → IsRest rows ws c Σ τ
+      → length values ≡ max_leaves → (IsRole role → ⊥) → LookAnswers rows ws role values list (look_refusal event_not_read values list)
+  look_24 : {c : Code} {Σ : List Ty} {τ : Ty} {es : List Entry} → AcceptedFlow rows c Σ τ → (r : IsRest rows ws c Σ τ)
+      → length values ≡ max_leaves → IsRole role → ShowsIn (is role) r.state es → length list < length es * entry_bytes
+      → LookAnswers rows ws role values list (look_refusal list_too_short values list)
   -- 01: "Bytes after it keep their content"
-  look-0 : {c : Code} {Σ : List Ty} {τ : Ty} {es : List Entry} {x : Bool} → AcceptedFlow rows c Σ τ → (r : IsRest rows ws c Σ τ)
-      → length values ≡ maxLeaves → IsRole role → ShowsIn (is role) r.state es → length es * entryBytes ≤ length list
+  look_0 : {c : Code} {Σ : List Ty} {τ : Ty} {es : List Entry} {x : Bool} → AcceptedFlow rows c Σ τ → (r : IsRest rows ws c Σ τ)
+      → length values ≡ max_leaves → IsRole role → ShowsIn (is role) r.state es → length es * entry_bytes ≤ length list
       → FailsIn r.state x
       → LookAnswers rows ws role values list (record {
         number = 0;
-        has_value = hasOne (valueIn r.state);
+        has_value = has_one (value_in r.state);
         fails = flag x;
-        value = valueMemory (valueIn r.state);
-        part = listText es;
-        list = listText es ++ drop (length (listText es)) list;
+        value = value_memory (value_in r.state);
+        part = list_text es;
+        list = list_text es ++ drop (length (list_text es)) list;
       })
 
 -- 20 to 23, 8, 9, 30, 31
 pub data HandleAnswers (rows ws : List ℤ) (event : List ℕ) : CallAnswer → Type 0 where
-  handle-shut : {g : ℕ} → Shut rows ws (Unit {0}) g → HandleAnswers rows ws event (refusal g ws)
-  handle-8 : {c : Code} {Σ : List Ty} {τ : Ty}
-      → AcceptedFlow rows c Σ τ → IsRest rows ws c Σ τ → eventOf event ≡ none → HandleAnswers rows ws event (refusal eventNotRead ws)
+  handle_shut : {g : ℕ} → Shut rows ws (Unit {0}) g → HandleAnswers rows ws event (refusal g ws)
+  handle_8 : {c : Code} {Σ : List Ty} {τ : Ty}
+      → AcceptedFlow rows c Σ τ → IsRest rows ws c Σ τ → event_of event ≡ none → HandleAnswers rows ws event (refusal event_not_read ws)
   -- no handling rule derives a step, roles and touches aside
-  handle-9 : {c : Code} {Σ : List Ty} {τ : Ty} {role : ℕ} {p : Path} {x : Action} → AcceptedFlow rows c Σ τ → (r : IsRest rows ws c Σ τ)
-      → eventOf event ≡ some (role, p, x) → RefusesIn r.state p x → HandleAnswers rows ws event (refusal notHandled ws)
+  handle_9 : {c : Code} {Σ : List Ty} {τ : Ty} {role : ℕ} {p : Path} {x : Action} → AcceptedFlow rows c Σ τ → (r : IsRest rows ws c Σ τ)
+      → event_of event ≡ some (role, p, x) → RefusesIn r.state p x → HandleAnswers rows ws event (refusal not_handled ws)
   -- CR 6: "30 if a rule derives a step but a row passed has another role, 31 if only the touches are spent"
-  handle-30 : {c : Code} {Σ : List Ty} {τ : Ty} {role : ℕ} {p : Path} {x : Action} {gs : List Gate} → AcceptedFlow rows c Σ τ → (r : IsRest rows ws c Σ τ)
-      → eventOf event ≡ some (role, p, x) → PassesIn r.state p x gs → ofRole role gs ≡ false → HandleAnswers rows ws event (refusal otherRole ws)
-  handle-31 : {c : Code} {Σ : List Ty} {τ : Ty} {role : ℕ} {p : Path} {x : Action} {gs : List Gate} → AcceptedFlow rows c Σ τ → (r : IsRest rows ws c Σ τ)
-      → eventOf event ≡ some (role, p, x) → PassesIn r.state p x gs → ofRole role gs ≡ true → touchesLeft gs ≡ false → HandleAnswers rows ws event (refusal noTouch ws)
+  handle_30 : {c : Code} {Σ : List Ty} {τ : Ty} {role : ℕ} {p : Path} {x : Action} {gs : List Gate} → AcceptedFlow rows c Σ τ → (r : IsRest rows ws c Σ τ)
+      → event_of event ≡ some (role, p, x) → PassesIn r.state p x gs → of_role role gs ≡ false → HandleAnswers rows ws event (refusal other_role ws)
+  handle_31 : {c : Code} {Σ : List Ty} {τ : Ty} {role : ℕ} {p : Path} {x : Action} {gs : List Gate} → AcceptedFlow rows c Σ τ → (r : IsRest rows ws c Σ τ)
+      → event_of event ≡ some (role, p, x) → PassesIn r.state p x gs → of_role role gs ≡ true → touches_left gs ≡ false → HandleAnswers rows ws event (refusal no_touch ws)
   -- 01: "Then the result is normalised"
-  handle-0 : {c : Code} {Σ : List Ty} {τ : Ty} {role : ℕ} {p : Path} {x : Action} {gs : List Gate} {n : ℕ}
-      → AcceptedFlow rows c Σ τ → (r : IsRest rows ws c Σ τ) → eventOf event ≡ some (role, p, x)
+  handle_0 : {c : Code} {Σ : List Ty} {τ : Ty} {role : ℕ} {p : Path} {x : Action} {gs : List Gate} {n : ℕ}
+      → AcceptedFlow rows c Σ τ → (r : IsRest rows ws c Σ τ) → event_of event ≡ some (role, p, x)
       → {t₁ t₂ : TaskOf r.state.code} {s₁ s₂ : Store}
       → Handles r.state.code [] r.state.store r.state.task p x t₁ s₁ gs → admits (is role) gs ≡ true → Normalises r.state.code [] s₁ t₁ t₂ s₂ n
       → HandleAnswers rows ws event (record { number = 0; strides = n; state = state_of rows r.state.code t₂ s₂ })

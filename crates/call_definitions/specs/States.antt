@@ -20,11 +20,11 @@ pub record FlowState : Type 0 where
   pub store : Store
 
 -- a task of c, and 45 of the type τ
-abbrev pub taskState : (c : Code) → TaskOf c → Store → FlowState
-taskState c t s = record { code = c; task = t; store = s }
+abbrev pub task_state : (c : Code) → TaskOf c → Store → FlowState
+task_state c t s = record { code = c; task = t; store = s }
 
-abbrev pub failedState : Ty → Store → FlowState
-failedState τ s = record { code = fail τ; task = failed; store = s }
+abbrev pub failed_state : Ty → Store → FlowState
+failed_state τ s = record { code = fail τ; task = failed; store = s }
 
 -- its task is of the type τ, and its store of the cells' types
 abbrev pub TypedState : List Ty → Ty → FlowState → Type 0
@@ -34,8 +34,8 @@ TypedState Σ τ z = TaskType Σ [] z.code z.task τ × ValueTypes z.store Σ
 abbrev pub AtRest : FlowState → Type 0
 AtRest z = Normalises z.code [] z.store z.task z.task z.store 1
 
-abbrev pub valueIn : FlowState → Option Val
-valueIn z = value z.code z.task z.store
+abbrev pub value_in : FlowState → Option Val
+value_in z = value z.code z.task z.store
 
 abbrev pub FailsIn : FlowState → Bool → Type 0
 FailsIn z x = Fails z.code [] z.store z.task x

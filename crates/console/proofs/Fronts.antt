@@ -19,5 +19,5 @@ pub fresh : {A : Type 0} (n k : ℕ) (a : A) → n ≤ k → n ≡ length (take 
 fresh n k a h = front n (replicate k a) (let e = length-replicate k a in omega (arith, h, e))
 
 -- r bytes counted at the front of a part count at the front of the whole
-pub counts-front : (r : ℕ) (part rest : List ℕ) → IsPrefixLen r part → IsPrefixLen r (part ++ rest)
-counts-front r part rest c = let e = length-append part rest in counts r (part ++ rest) (omega (arith, c.0, e))
+pub counts_front : (r : ℕ) (part rest : List ℕ) → IsPrefixLen r part → IsPrefixLen r (part ++ rest)
+counts_front r part rest c = let e = length-append part rest in counts r (part ++ rest) (omega (arith, c.0, e))

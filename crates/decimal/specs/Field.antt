@@ -24,14 +24,14 @@ abbrev pub nine : ℕ
 nine = 57
 
 -- how wide 01's fields are: row numbers and kinds; operands and leaves; actions and leaf kinds
-abbrev pub rowColumns : ℕ
-rowColumns = 4
+abbrev pub row_columns : ℕ
+row_columns = 4
 
-abbrev pub wordColumns : ℕ
-wordColumns = 12
+abbrev pub word_columns : ℕ
+word_columns = 12
 
-abbrev pub actionColumns : ℕ
-actionColumns = 2
+abbrev pub action_columns : ℕ
+action_columns = 2
 
 -- the byte that ends a line, an event and an entry
 abbrev pub newline : ℕ
@@ -104,8 +104,8 @@ abbrev pub reads : List ℕ → Field
 reads bs = numeral (trimmed bs)
 
 -- what the field of w columns from `at` on says; one that s does not have is unreadable
-unfoldable pub readsAt : List ℕ → ℕ → ℕ → Field
-readsAt s at w = cond (leb (at + w) (length s)) (reads (slice at (at + w) s)) unreadable
+unfoldable pub reads_at : List ℕ → ℕ → ℕ → Field
+reads_at s at w = cond (leb (at + w) (length s)) (reads (slice at (at + w) s)) unreadable
 
 -- the code's answer for a field: the bits of its number
 abbrev pub reading : Field → Reading

@@ -1,6 +1,6 @@
 -- Paths: which part of a screen an event is for (01, "Touches and what is shown").
 -- Rests on specs/Field.antt for bytes and columns.
--- Believed down to `readsPathAt`. Paths as numbers are for contracts only: tied to paths by `path-number` and `number-path` (proofs/PathNumbers).
+-- Believed down to `reads_path_at`. Paths as numbers are for contracts only: tied to paths by `path_number_lem` and `number_path` (proofs/PathNumbers).
 use Rattle.std.specs.Prelude.{ℕ, zero, suc, ◌+◌, ◌*◌, ◌/◌, ◌%◌, cond, List, [], ◌∷◌, leb, eqb, length}
 use Rattle.std.proofs.Math.Option.{Option, none, some}
 use Rattle.std.proofs.Math.Seq.{slice}
@@ -20,28 +20,28 @@ abbrev pub Path : Type 0
 Path = List Mark
 
 -- how many marks enclose a row at most, and so how wide a path is written
-abbrev pub maxMarks : ℕ
-maxMarks = 16
+abbrev pub max_marks : ℕ
+max_marks = 16
 
-abbrev pub pathColumns : ℕ
-pathColumns = maxMarks
+abbrev pub path_columns : ℕ
+path_columns = max_marks
 
-abbrev pub markNumber : Mark → ℕ
-markNumber first = 1
-markNumber second = 2
+abbrev pub mark_number : Mark → ℕ
+mark_number first = 1
+mark_number second = 2
 
 -- a path's text: a digit for each mark, "0" for the empty path
-unfoldable pub marksText : Path → List ℕ
-marksText [] = []
-marksText (m ∷ p) = (nought + markNumber m) ∷ marksText p
+unfoldable pub marks_text : Path → List ℕ
+marks_text [] = []
+marks_text (m ∷ p) = (nought + mark_number m) ∷ marks_text p
 
 unfoldable pub path_text : Path → List ℕ
 path_text [] = nought ∷ []
-path_text (m ∷ p) = marksText (m ∷ p)
+path_text (m ∷ p) = marks_text (m ∷ p)
 
 -- right-justified in its columns; none where there are too many marks
-abbrev pub writtenPath : Path → Option (List ℕ)
-writtenPath p = justified pathColumns (path_text p)
+abbrev pub written_path : Path → Option (List ℕ)
+written_path p = justified path_columns (path_text p)
 
 -- the marks that digits 1 and 2 say; none at any other byte
 abbrev pub mark_of : ℕ → Option Mark
@@ -57,47 +57,47 @@ marks [] = some []
 marks (b ∷ bs) = outside (mark_of b) (marks bs)
 
 -- a 0 stands alone
-abbrev pub emptyAlone : List ℕ → Option Path
-emptyAlone [] = some []
-emptyAlone (b ∷ bs) = none
+abbrev pub empty_alone : List ℕ → Option Path
+empty_alone [] = some []
+empty_alone (b ∷ bs) = none
 
 -- what the bytes after the spaces say
-unfoldable pub pathIn : List ℕ → Option Path
-pathIn [] = some []  -- CR 2: a blank path is the empty one
-pathIn (b ∷ bs) = cond (eqb b nought) (emptyAlone bs) (marks (b ∷ bs))
+unfoldable pub path_in : List ℕ → Option Path
+path_in [] = some []  -- CR 2: a blank path is the empty one
+path_in (b ∷ bs) = cond (eqb b nought) (empty_alone bs) (marks (b ∷ bs))
 
 -- what the bytes of a path's field say; they are that path's writing, or all spaces for the empty one (proofs/Paths.antt)
-abbrev pub readsPath : List ℕ → Option Path
-readsPath bs = pathIn (trimmed bs)
+abbrev pub reads_path : List ℕ → Option Path
+reads_path bs = path_in (trimmed bs)
 
 -- what the path's field from `at` on says; one that s does not have says none
-unfoldable pub readsPathAt : List ℕ → ℕ → Option Path
-readsPathAt s at = cond (leb (at + pathColumns) (length s)) (readsPath (slice at (at + pathColumns) s)) none
+unfoldable pub reads_path_at : List ℕ → ℕ → Option Path
+reads_path_at s at = cond (leb (at + path_columns) (length s)) (reads_path (slice at (at + path_columns) s)) none
 
 -- the number that is a path in code: bijective base 2, the outermost mark least. Every number is a path's
-unfoldable pub pathNumber : Path → ℕ
-pathNumber [] = 0
-pathNumber (m ∷ p) = markNumber m + 2 * pathNumber p
+unfoldable pub path_number : Path → ℕ
+path_number [] = 0
+path_number (m ∷ p) = mark_number m + 2 * path_number p
 
 -- the path of a number, at most k marks of it
-abbrev pub frontMark : ℕ → Mark
-frontMark n = cond (eqb (n % 2) 1) first second
+abbrev pub front_mark : ℕ → Mark
+front_mark n = cond (eqb (n % 2) 1) first second
 
-unfoldable pub marksFrom : ℕ → ℕ → Path
-marksFrom zero n = []
-marksFrom (suc k) zero = []
-marksFrom (suc k) (suc n) = frontMark (suc n) ∷ marksFrom k (n / 2)
+unfoldable pub marks_from : ℕ → ℕ → Path
+marks_from zero n = []
+marks_from (suc k) zero = []
+marks_from (suc k) (suc n) = front_mark (suc n) ∷ marks_from k (n / 2)
 
 -- all of them: a number has no more marks than it is large
-abbrev pub pathOf : ℕ → Path
-pathOf n = marksFrom n n
+abbrev pub path_of : ℕ → Path
+path_of n = marks_from n n
 
 -- the code's answers: for a path's field, and for taking the outermost mark off
-abbrev pub pathReading : Option Path → PathReading
-pathReading (some p) = Marks (pathNumber p)
-pathReading none = Unreadable
+abbrev pub path_reading : Option Path → PathReading
+path_reading (some p) = Marks (path_number p)
+path_reading none = Unreadable
 
 abbrev pub front : Path → Front
 front [] = Empty
-front (first ∷ p) = First (pathNumber p)
-front (second ∷ p) = Second (pathNumber p)
+front (first ∷ p) = First (path_number p)
+front (second ∷ p) = Second (path_number p)

@@ -5,7 +5,7 @@ ghost use Rattle.std.proofs.lemmas.List.Edits.{sets};
 ghost use Rattle.std.specs.Int.{w32};
 ghost use Rattle.std.proofs.Common.{to_z};
 ghost use Rattle.word.specs.Word.{words};
-ghost use Rattle.decimal.specs.Field.{decimal, text, written, counted, numeral, readsAt, reading, put_at};
+ghost use Rattle.decimal.specs.Field.{decimal, text, written, counted, numeral, reads_at, reading, put_at};
 
 use super::part::{MINUS, NINE, NOUGHT, has, past_spaces, put_spaces};
 
@@ -98,7 +98,7 @@ fn read_text(s: &[u8], at: usize, end: usize) -> Reading
 
 // What the field of `width` columns from `at` on says.
 pub fn read(s: &[u8], at: usize, width: usize) -> Reading
-    ensures { result ≡ reading (readsAt s.now at width) }
+    ensures { result ≡ reading (reads_at s.now at width) }
 {
     if !has(s.len(), at, width) {
         return Reading::Unreadable;

@@ -4,7 +4,7 @@ ghost use Rattle.std.specs.Prelude.{◌≡◌, ◌+◌, ◌≤◌, length};
 ghost use Rattle.std.proofs.Math.Seq.{slice};
 ghost use Rattle.std.proofs.lemmas.List.Edits.{sets};
 ghost use Rattle.decimal.specs.Field.{put_at};
-ghost use Rattle.decimal.specs.Path.{pathColumns, marks, pathIn, marksText, path_text, pathOf, writtenPath, readsPathAt, pathReading, front};
+ghost use Rattle.decimal.specs.Path.{path_columns, marks, path_in, marks_text, path_text, path_of, written_path, reads_path_at, path_reading, front};
 
 use super::part::{NOUGHT, has, past_spaces, put_spaces};
 
@@ -28,7 +28,7 @@ pub enum Front {
 
 // Takes the outermost mark off.
 pub fn front_mark(path: u32) -> Front
-    ensures { result ≡ front (pathOf path) }
+    ensures { result ≡ front (path_of path) }
 {
     if path == 0 {
         return Front::Empty;
@@ -41,8 +41,8 @@ pub fn front_mark(path: u32) -> Front
 
 // The marks whose digits stand from `at` on, the innermost read first.
 fn read_marks(s: &[u8], at: usize, end: usize) -> PathReading
-    requires { (at ≤ end) × (end ≤ length s.now) × (end ≤ at + pathColumns) }
-    ensures { result ≡ pathReading (marks (slice at end s.now)) }
+    requires { (at ≤ end) × (end ≤ length s.now) × (end ≤ at + path_columns) }
+    ensures { result ≡ path_reading (marks (slice at end s.now)) }
 {
     let mut path: u32 = 0;
     let mut i = end;
@@ -62,8 +62,8 @@ fn read_marks(s: &[u8], at: usize, end: usize) -> PathReading
 
 // What the bytes from `at` on say, where the spaces are past.
 fn read_text(s: &[u8], at: usize, end: usize) -> PathReading
-    requires { (at ≤ end) × (end ≤ length s.now) × (end ≤ at + pathColumns) }
-    ensures { result ≡ pathReading (pathIn (slice at end s.now)) }
+    requires { (at ≤ end) × (end ≤ length s.now) × (end ≤ at + path_columns) }
+    ensures { result ≡ path_reading (path_in (slice at end s.now)) }
 {
     if at == end {
         return PathReading::Marks(0); // a blank field is the empty path
@@ -79,7 +79,7 @@ fn read_text(s: &[u8], at: usize, end: usize) -> PathReading
 
 // What the path's field from `at` on says.
 pub fn read(s: &[u8], at: usize) -> PathReading
-    ensures { result ≡ pathReading (readsPathAt s.now at) }
+    ensures { result ≡ path_reading (reads_path_at s.now at) }
 {
     if !has(s.len(), at, PATH_COLUMNS) {
         return PathReading::Unreadable;
@@ -91,7 +91,7 @@ pub fn read(s: &[u8], at: usize) -> PathReading
 
 // How many marks a path has.
 pub fn marks_of(path: u32) -> usize
-    ensures { result ≡ length (pathOf path) }
+    ensures { result ≡ length (path_of path) }
 {
     let mut p = path;
     let mut k: usize = 0;
@@ -104,7 +104,7 @@ pub fn marks_of(path: u32) -> usize
 
 // How many columns a path takes.
 fn columns(path: u32) -> usize
-    ensures { result ≡ length (path_text (pathOf path)) }
+    ensures { result ≡ length (path_text (path_of path)) }
 {
     if path == 0 {
         return 1;
@@ -114,8 +114,8 @@ fn columns(path: u32) -> usize
 
 // The digits of a path's marks from `at` on.
 fn put_marks(s: &mut [u8], at: usize, path: u32)
-    requires { at + length (pathOf path) ≤ length s.old }
-    ensures { s.new ≡ sets s.old at (marksText (pathOf path)) }
+    requires { at + length (path_of path) ≤ length s.old }
+    ensures { s.new ≡ sets s.old at (marks_text (path_of path)) }
 {
     let mut p = path;
     let mut i = at;
@@ -128,8 +128,8 @@ fn put_marks(s: &mut [u8], at: usize, path: u32)
 
 // The text of a path from `at` on.
 fn put_text(s: &mut [u8], at: usize, path: u32)
-    requires { at + length (path_text (pathOf path)) ≤ length s.old }
-    ensures { s.new ≡ sets s.old at (path_text (pathOf path)) }
+    requires { at + length (path_text (path_of path)) ≤ length s.old }
+    ensures { s.new ≡ sets s.old at (path_text (path_of path)) }
 {
     if path == 0 {
         s[at] = NOUGHT;
@@ -141,8 +141,8 @@ fn put_text(s: &mut [u8], at: usize, path: u32)
 // Writes a path into its field from `at` on. Where the slice does not have the field, or the path has too many marks, the
 // answer is false and no byte changes.
 pub fn write(s: &mut [u8], at: usize, path: u32) -> bool
-    ensures value { result ≡ (put_at s.old at pathColumns (writtenPath (pathOf path))).0 }
-    ensures s_after { s.new ≡ (put_at s.old at pathColumns (writtenPath (pathOf path))).1 }
+    ensures value { result ≡ (put_at s.old at path_columns (written_path (path_of path))).0 }
+    ensures s_after { s.new ≡ (put_at s.old at path_columns (written_path (path_of path))).1 }
 {
     if !has(s.len(), at, PATH_COLUMNS) {
         return false;

@@ -10,40 +10,40 @@ use Rattle.tophat.specs.Syntax.{Val, TaskOf, Store}
 use Rattle.tophat.specs.Typing.{ValueType}
 use Rattle.tophat.specs.Normalising.{value}
 use Rattle.tophat.specs.Handling.{continue}
-use Rattle.tophat.specs.Showing.{buttonIf}
+use Rattle.tophat.specs.Showing.{button_if}
 use Rattle.tophat.proofs.ComputeEvaluation.{evaluate}
-use Rattle.tophat.proofs.ComputeNormalising.{rightFails}
-use Rattle.tophat.proofs.ComputeEntries.{continueIf}
-use Rattle.tophat.proofs.Preservation.{option_is, value-type}
+use Rattle.tophat.proofs.ComputeNormalising.{right_fails}
+use Rattle.tophat.proofs.ComputeEntries.{continue_if}
+use Rattle.tophat.proofs.Preservation.{option_is, value_type}
 use Rattle.rows.specs.Rows.{op_a}
 use Rattle.value.specs.declared.Found.{Found}
-use Rattle.value.specs.Found.{asFound}
+use Rattle.value.specs.Found.{as_found}
 use Rattle.value.proofs.Operators.{differ}
-use Rattle.state.specs.Contracts.{ValueOk}
+use Rattle.state.specs.Ensured.{ValueOk}
 use Rattle.normalising.specs.Trying.{Attempted, AttemptOk}
 use Rattle.entries.specs.Listing.{GoesOnOk}
 
 module _ (rs ws : List ℕ) (i : ℕ) (env : List ℕ) (d a : ℕ) (e : a ≡ op_a rs i) (f : Found) (hv : ValueOk rs ws a f) where
-  leftValue : ValueOk rs ws (op_a rs i) f
-  leftValue = subst (λ a. ValueOk rs ws a f) e hv
+  left_value : ValueOk rs ws (op_a rs i) f
+  left_value = subst (λ a. ValueOk rs ws a f) e hv
 
   pub goes_none : f.has ≡ false → GoesOnOk rs ws i env d false
-  unfolding asFound continueIf buttonIf
-  goes_none n a b k Σ Γ τ υ s ρ t y x w g = by _ (value a t s) (leftValue d a k.1 Σ Γ τ s t y w.storeTyped w.storeSmall w.bindersSmall g.1 w.stores)
+  unfolding as_found continue_if button_if
+  goes_none n a b k Σ Γ τ υ s ρ t y x w g = by _ (value a t s) (left_value d a k.1 Σ Γ τ s t y w.store_typed w.store_small w.binders_small g.1 w.stores)
     where
-      by : (F : Val → Bool) (o : Option Val) → f ≡ asFound o → buttonIf false continue ≡ continueIf o F
+      by : (F : Val → Bool) (o : Option Val) → f ≡ as_found o → button_if false continue ≡ continue_if o F
       by F none p = refl
       by F (some v) p = differ (sym (ap (λ f. f.has) p) ∙ n)
 
-  pub goes-tried : (ws₁ : List ℕ) (r : Bool) → f.has ≡ true → AttemptOk rs ws ws₁ i env d f.value r → GoesOnOk rs ws i env d r
-  unfolding asFound continueIf
-  goes-tried ws₁ r n h a b k Σ Γ τ υ s ρ t y x w g =
-      by (value a t s) (leftValue d a k.1 Σ Γ τ s t y w.storeTyped w.storeSmall w.bindersSmall g.1 w.stores) (λ v q. option_is (value-type y w.storeTyped) q)
+  pub goes_tried : (ws₁ : List ℕ) (r : Bool) → f.has ≡ true → AttemptOk rs ws ws₁ i env d f.value r → GoesOnOk rs ws i env d r
+  unfolding as_found continue_if
+  goes_tried ws₁ r n h a b k Σ Γ τ υ s ρ t y x w g =
+      by (value a t s) (left_value d a k.1 Σ Γ τ s t y w.store_typed w.store_small w.binders_small g.1 w.stores) (λ v q. option_is (value_type y w.store_typed) q)
     where
       flag : (v : Val) (q : TaskOf b × Store) (x : Bool) → Attempted rs ws ws₁ i env d r a b v q x → r ≡ not x
       flag v q true p = p.0
       flag v q false p = p.0
 
-      by : (o : Option Val) → f ≡ asFound o → ((v : Val) → o ≡ some v → ValueType v τ) → buttonIf r continue ≡ continueIf o (λ v. rightFails b (v ∷ ρ) s)
+      by : (o : Option Val) → f ≡ as_found o → ((v : Val) → o ≡ some v → ValueType v τ) → button_if r continue ≡ continue_if o (λ v. right_fails b (v ∷ ρ) s)
       by none p m = differ (sym n ∙ ap (λ f. f.has) p)
-      by (some v) p m = ap (λ z. buttonIf z continue) (flag v (evaluate b (v ∷ ρ) s) (rightFails b (v ∷ ρ) s) (h a b (inr k) Σ Γ τ υ s ρ t v (ap (λ f. f.value) p) (m v refl) y x w g))
+      by (some v) p m = ap (λ z. button_if z continue) (flag v (evaluate b (v ∷ ρ) s) (right_fails b (v ∷ ρ) s) (h a b (inr k) Σ Γ τ υ s ρ t v (ap (λ f. f.value) p) (m v refl) y x w g))

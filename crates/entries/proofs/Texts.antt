@@ -5,44 +5,44 @@ use mathlib.Core.List.{List, [], ◌∷◌, ◌++◌, map, append_assoc, append-
 use Prim.Native.Nat.{ℕ, zero, suc, ◌+◌, ◌-◌, ◌≤◌}
 use native.Mathlib.Omega.{arith}
 use lib.ListN.{length, replicate, length-map}
-use Rattle.decimal.specs.Path.{Mark, Path, maxMarks}
-use Rattle.tophat.specs.Syntax.{maxLeaves, Ty, leaves}
-use Rattle.tophat.specs.Handling.{Button, giving, pressing, actNumber}
-use Rattle.tophat.specs.Leaves.{padded, Leaf, noLeaf, leafKinds, leafNumber}
-use Rattle.tophat.specs.Showing.{Entry, marked, offers, buttonIf}
-use Rattle.shape.specs.Shape.{asShape, kindsOf}
-use Rattle.shape.proofs.Shapes.{kinds-of}
-use Rattle.formats.specs.Lists.{offerAct, offerKinds, noKinds, numbersEntry, entryText, listText, under, Fits, fit_none, fit-more}
+use Rattle.decimal.specs.Path.{Mark, Path, max_marks}
+use Rattle.tophat.specs.Syntax.{max_leaves, Ty, leaves}
+use Rattle.tophat.specs.Handling.{Button, giving, pressing, act_number}
+use Rattle.tophat.specs.Leaves.{padded, Leaf, no_leaf, leaf_kinds, leaf_number}
+use Rattle.tophat.specs.Showing.{Entry, marked, offers, button_if}
+use Rattle.shape.specs.Shape.{as_shape, kinds_of}
+use Rattle.shape.proofs.Shapes.{kinds_of_lem}
+use Rattle.formats.specs.Lists.{offer_act, offer_kinds, no_kinds, numbers_entry, entry_text, list_text, under, Fits, fit_none, fit_more}
 
 -- ---- entries
 
-pub button-text : (p : Path) (x : Bool) (b : Button) → listText (under p (buttonIf x b)) ≡ cond x (numbersEntry p (actNumber (pressing b)) noKinds) []
-unfolding buttonIf listText under entryText offerAct offerKinds
-button-text p true b = append-nil _ ∙ ap (λ q. numbersEntry q (actNumber (pressing b)) noKinds) (append-nil p)
-button-text p false b = refl
+pub button_text_lem : (p : Path) (x : Bool) (b : Button) → list_text (under p (button_if x b)) ≡ cond x (numbers_entry p (act_number (pressing b)) no_kinds) []
+unfolding button_if list_text under entry_text offer_act offer_kinds
+button_text_lem p true b = append-nil _ ∙ ap (λ q. numbers_entry q (act_number (pressing b)) no_kinds) (append-nil p)
+button_text_lem p false b = refl
 
-map-padded : (f : Leaf → ℕ) (n : ℕ) (xs : List Leaf) → map f (xs ++ replicate n noLeaf) ≡ map f xs ++ replicate n (f noLeaf)
-map-padded f zero [] = refl
-map-padded f (suc n) [] = ap (λ l. f noLeaf ∷ l) (map-padded f n [])
-map-padded f n (x ∷ xs) = ap (λ l. f x ∷ l) (map-padded f n xs)
+map_padded : (f : Leaf → ℕ) (n : ℕ) (xs : List Leaf) → map f (xs ++ replicate n no_leaf) ≡ map f xs ++ replicate n (f no_leaf)
+map_padded f zero [] = refl
+map_padded f (suc n) [] = ap (λ l. f no_leaf ∷ l) (map_padded f n [])
+map_padded f n (x ∷ xs) = ap (λ l. f x ∷ l) (map_padded f n xs)
 
-pub offer-text : (p : Path) (τ : Ty) → leaves τ ≤ maxLeaves → listText (under p (offers τ)) ≡ numbersEntry p (actNumber giving) (kindsOf (asShape τ))
-unfolding offers listText under entryText offerAct offerKinds padded
-offer-text p τ h = append-nil _
-    ∙ ap₂ (λ q ks. numbersEntry q (actNumber giving) ks) (append-nil p)
-    (map-padded leafNumber (maxLeaves - length (leafKinds τ)) (leafKinds τ) ∙ ap (λ n. map leafNumber (leafKinds τ) ++ replicate (maxLeaves - n) 0) (sym (length-map (leafKinds τ) leafNumber)) ∙ sym (kinds-of τ h))
+pub offer_text : (p : Path) (τ : Ty) → leaves τ ≤ max_leaves → list_text (under p (offers τ)) ≡ numbers_entry p (act_number giving) (kinds_of (as_shape τ))
+unfolding offers list_text under entry_text offer_act offer_kinds padded
+offer_text p τ h = append-nil _
+    ∙ ap₂ (λ q ks. numbers_entry q (act_number giving) ks) (append-nil p)
+    (map_padded leaf_number (max_leaves - length (leaf_kinds τ)) (leaf_kinds τ) ∙ ap (λ n. map leaf_number (leaf_kinds τ) ++ replicate (max_leaves - n) 0) (sym (length-map (leaf_kinds τ) leaf_number)) ∙ sym (kinds_of_lem τ h))
 
 -- ---- one after another
 
-pub text-after : (p : Path) (es fs : List Entry) → listText (under p (es ++ fs)) ≡ listText (under p es) ++ listText (under p fs)
-unfolding listText under
-text-after p [] fs = refl
-text-after p (e ∷ es) fs = ap (λ l. entryText (p ++ e.0, e.1) ++ l) (text-after p es fs) ∙ sym (append_assoc (entryText (p ++ e.0, e.1)) (listText (under p es)) (listText (under p fs)))
+pub text_after : (p : Path) (es fs : List Entry) → list_text (under p (es ++ fs)) ≡ list_text (under p es) ++ list_text (under p fs)
+unfolding list_text under
+text_after p [] fs = refl
+text_after p (e ∷ es) fs = ap (λ l. entry_text (p ++ e.0, e.1) ++ l) (text_after p es fs) ∙ sym (append_assoc (entry_text (p ++ e.0, e.1)) (list_text (under p es)) (list_text (under p fs)))
 
-pub under-mark : (p : Path) (m : Mark) (es : List Entry) → under p (marked m es) ≡ under (p ++ m ∷ []) es
+pub under_mark : (p : Path) (m : Mark) (es : List Entry) → under p (marked m es) ≡ under (p ++ m ∷ []) es
 unfolding under marked
-under-mark p m [] = refl
-under-mark p m (e ∷ es) = ap₂ (λ q es. (q, e.1) ∷ es) (sym (append_assoc p (m ∷ []) e.0)) (under-mark p m es)
+under_mark p m [] = refl
+under_mark p m (e ∷ es) = ap₂ (λ q es. (q, e.1) ∷ es) (sym (append_assoc p (m ∷ []) e.0)) (under_mark p m es)
 
 pub under_none : (es : List Entry) → under [] es ≡ es
 unfolding under
@@ -51,21 +51,21 @@ under_none (e ∷ es) = ap (λ es. e ∷ es) (under_none es)
 
 -- ---- entries that can be written
 
-pub fit-left : (k : ℕ) (es fs : List Entry) → Fits k (es ++ fs) → Fits k es
-fit-left k [] fs h = fit_none
-fit-left k (e ∷ es) fs (fit-more l a h) = fit-more l a (fit-left k es fs h)
+pub fit_left : (k : ℕ) (es fs : List Entry) → Fits k (es ++ fs) → Fits k es
+fit_left k [] fs h = fit_none
+fit_left k (e ∷ es) fs (fit_more l a h) = fit_more l a (fit_left k es fs h)
 
-pub fit-right : (k : ℕ) (es fs : List Entry) → Fits k (es ++ fs) → Fits k fs
-fit-right k [] fs h = h
-fit-right k (e ∷ es) fs (fit-more l a h) = fit-right k es fs h
+pub fit_right : (k : ℕ) (es fs : List Entry) → Fits k (es ++ fs) → Fits k fs
+fit_right k [] fs h = h
+fit_right k (e ∷ es) fs (fit_more l a h) = fit_right k es fs h
 
-pub fit-inner : (k : ℕ) (m : Mark) (es : List Entry) → Fits k (marked m es) → Fits (k + 1) es
+pub fit_inner : (k : ℕ) (m : Mark) (es : List Entry) → Fits k (marked m es) → Fits (k + 1) es
 unfolding marked
-fit-inner k m [] h = fit_none
-fit-inner k m (e ∷ es) (fit-more l a h) = fit-more {e = e} (omega arith) a (fit-inner k m es h)
+fit_inner k m [] h = fit_none
+fit_inner k m (e ∷ es) (fit_more l a h) = fit_more {e = e} (omega arith) a (fit_inner k m es h)
 
 -- no mark more fits
-pub fit-full : (k : ℕ) (m : Mark) (es : List Entry) → maxMarks ≤ k → Fits k (marked m es) → marked m es ≡ []
+pub fit_full : (k : ℕ) (m : Mark) (es : List Entry) → max_marks ≤ k → Fits k (marked m es) → marked m es ≡ []
 unfolding marked
-fit-full k m [] l h = refl
-fit-full k m (e ∷ es) l (fit-more g a h) = absurd (omega arith)
+fit_full k m [] l h = refl
+fit_full k m (e ∷ es) l (fit_more g a h) = absurd (omega arith)

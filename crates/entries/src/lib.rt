@@ -2,14 +2,14 @@
 // list of no bytes they are counted. Rests on crate decimal for fields, on crate normalising for what a button would do, and on crate
 // running for rows that hand on.
 ghost use Rattle.std.specs.Prelude.{cond, List, [], ℕ, ◌<◌, ◌≤◌, length};
-ghost use Rattle.decimal.specs.Path.{maxMarks, pathOf};
-ghost use Rattle.rows.specs.Kinds.{eitherK, ifK, taskK, editK, updateK, xorK, viewK};
+ghost use Rattle.decimal.specs.Path.{max_marks, path_of};
+ghost use Rattle.rows.specs.Kinds.{either_k, if_k, task_k, edit_k, update_k, xor_k, view_k};
 ghost use Rattle.tophat.specs.Roles.{Who};
-ghost use Rattle.rows.specs.Rows.{maxRows, OfKind, FromKind, UpToKind};
-ghost use Rattle.state.specs.Contracts.{Fine};
+ghost use Rattle.rows.specs.Rows.{max_rows, OfKind, FromKind, UpToKind};
+ghost use Rattle.state.specs.Ensured.{Fine};
 ghost use Rattle.running.specs.Hands.{Unhanded};
-ghost use Rattle.formats.specs.Lists.{noKinds, numbersEntry};
-ghost use Rattle.entries.specs.Listing.{listBytes, Least, Wrote, AtPath, OneDigit, ContentOk, GoesOnOk, whoOf, ShutOk, EntriesOk};
+ghost use Rattle.formats.specs.Lists.{no_kinds, numbers_entry};
+ghost use Rattle.entries.specs.Listing.{list_bytes, Least, Wrote, AtPath, OneDigit, ContentOk, GoesOnOk, who_of, ShutOk, EntriesOk};
 
 use decimal::field::{ACTION_COLUMNS, NEWLINE};
 use decimal::path::PATH_COLUMNS;
@@ -45,8 +45,8 @@ fn least(a: usize, b: usize) -> usize
 
 // An entry at the front of the list, where there is room for it; how many bytes it has.
 fn write_entry(list: &mut [u8], marks: u32, action: u32, kinds: [u32; MAX_LEAVES]) -> usize
-    requires { (length (pathOf marks) ≤ maxMarks) × (action < 10) × OneDigit kinds }
-    ensures { Wrote list.old list.new result (numbersEntry (pathOf marks) action kinds) }
+    requires { (length (path_of marks) ≤ max_marks) × (action < 10) × OneDigit kinds }
+    ensures { Wrote list.old list.new result (numbers_entry (path_of marks) action kinds) }
 {
     if list.len() < ENTRY_BYTES {
         return ENTRY_BYTES;
@@ -60,8 +60,8 @@ fn write_entry(list: &mut [u8], marks: u32, action: u32, kinds: [u32; MAX_LEAVES
 
 // The entry of a button, where it can be pressed; how many bytes it has.
 fn button(list: &mut [u8], marks: u32, action: u32, enabled: bool) -> usize
-    requires { (length (pathOf marks) ≤ maxMarks) × (action < 10) }
-    ensures { Wrote list.old list.new result (cond enabled (numbersEntry (pathOf marks) action noKinds) []) }
+    requires { (length (path_of marks) ≤ max_marks) × (action < 10) }
+    ensures { Wrote list.old list.new result (cond enabled (numbers_entry (path_of marks) action no_kinds) []) }
 {
     if !enabled {
         return 0;
@@ -72,7 +72,7 @@ fn button(list: &mut [u8], marks: u32, action: u32, enabled: bool) -> usize
 
 // The shape of what the editor at the row offers: of its content, of its type row, or of its cell's content.
 fn content(rows: &[u32; ROWS_WORDS], state: &[u32; STATE_SIZE], row: usize) -> u32
-    requires { Fine rows.now row 0 × FromKind rows.now row (taskK editK) × UpToKind rows.now row (taskK updateK) }
+    requires { Fine rows.now row 0 × FromKind rows.now row (task_k edit_k) × UpToKind rows.now row (task_k update_k) }
     ensures { ContentOk rows.now state.now row result }
 {
     let kind = get(rows, row, 0);
@@ -95,8 +95,8 @@ fn offer(
     marks: u32,
     list: &mut [u8],
 ) -> usize
-    requires { Fine rows.now row 0 × FromKind rows.now row (taskK editK) × UpToKind rows.now row (taskK updateK) × (length (pathOf marks) ≤ maxMarks) }
-    ensures { (result ≤ listBytes) × ((env : List ℕ) (d : ℕ) → (v : Who) → EntriesOk v rows.now state.now row env d (pathOf marks) list.old list.new result) }
+    requires { Fine rows.now row 0 × FromKind rows.now row (task_k edit_k) × UpToKind rows.now row (task_k update_k) × (length (path_of marks) ≤ max_marks) }
+    ensures { (result ≤ list_bytes) × ((env : List ℕ) (d : ℕ) → (v : Who) → EntriesOk v rows.now state.now row env d (path_of marks) list.old list.new result) }
 {
     let shape = content(rows, state, row);
     write_entry(list, marks, GIVE, leaf_kinds(shape))
@@ -110,7 +110,7 @@ fn goes_on(
     env: &[u32; ENV_WORDS],
     depth: usize,
 ) -> bool
-    requires { Fine rows.now row depth × FromKind rows.now row (eitherK ifK) × UpToKind rows.now row (taskK viewK) }
+    requires { Fine rows.now row depth × FromKind rows.now row (either_k if_k) × UpToKind rows.now row (task_k view_k) }
     ensures { GoesOnOk rows.now state.now row env.now depth result }
 {
     let found = value(rows, state, operand(rows, row, 1));
@@ -131,8 +131,8 @@ fn choice(
     marks: u32,
     list: &mut [u8],
 ) -> usize
-    requires { Fine rows.now row depth × OfKind rows.now row (taskK xorK) × Unhanded rows.now state.now row × (length (pathOf marks) ≤ maxMarks) }
-    ensures { (result ≤ listBytes) × ((v : Who) → EntriesOk v rows.now state.now row env.now depth (pathOf marks) list.old list.new result) }
+    requires { Fine rows.now row depth × OfKind rows.now row (task_k xor_k) × Unhanded rows.now state.now row × (length (path_of marks) ≤ max_marks) }
+    ensures { (result ≤ list_bytes) × ((v : Who) → EntriesOk v rows.now state.now row env.now depth (path_of marks) list.old list.new result) }
 {
     let left = tried(rows, state, operand(rows, row, 1), env, depth);
     let right = tried(rows, state, operand(rows, row, 2), env, depth);
@@ -143,7 +143,7 @@ fn choice(
 
 // Whether the row is of kind 50 and shows them nothing: its role is another's, or it has no touch left (CR 6). 0 is anyone.
 fn shut(rows: &[u32; ROWS_WORDS], state: &[u32; STATE_SIZE], row: usize, who: u32) -> bool
-    requires { row < maxRows }
+    requires { row < max_rows }
     ensures { ShutOk rows.now state.now row who result }
 {
     if get(rows, row, 0) != GATE {
@@ -172,7 +172,7 @@ pub fn entries(
     list: &mut [u8],
 ) -> usize
     requires { Fine rows.now row depth × AtPath marks unit }
-    ensures { (result ≤ listBytes) × EntriesOk (whoOf who) rows.now state.now row env.now depth (pathOf marks) list.old list.new result }
+    ensures { (result ≤ list_bytes) × EntriesOk (who_of who) rows.now state.now row env.now depth (path_of marks) list.old list.new result }
 {
     let part = handed_on(rows, state, row);
     if part != 0 {

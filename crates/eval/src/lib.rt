@@ -1,12 +1,12 @@
 // Evaluation of plain expressions, rows of kind 20 to 31, which gives a value and may write cells. Rests on crate value for
-// values and operators, on crate state for the words, and on specs/Contracts of that crate for what evaluation ensures.
+// values and operators, on crate state for the words, and on specs/Ensured of that crate for what evaluation ensures.
 ghost use Rattle.std.specs.Prelude.{◌≡◌, List, ℕ, ◌<◌, ◌≤◌};
-ghost use Rattle.rows.specs.Kinds.{plainK, eunitK, ebinderK, efstK, esndK, number_of};
-ghost use Rattle.rows.specs.Rows.{maxRows, word};
-ghost use Rattle.rows.specs.Enclosing.{maxBinders};
-ghost use Rattle.value.specs.Values.{firstValue, secondValue};
-ghost use Rattle.value.specs.Evaluations.{sureOf};
-ghost use Rattle.state.specs.Contracts.{Fine, EvalOk};
+ghost use Rattle.rows.specs.Kinds.{plain_k, eunit_k, ebinder_k, efst_k, esnd_k, number_of};
+ghost use Rattle.rows.specs.Rows.{max_rows, word};
+ghost use Rattle.rows.specs.Enclosing.{max_binders};
+ghost use Rattle.value.specs.Values.{first_value, second_value};
+ghost use Rattle.value.specs.Evaluations.{sure_of};
+ghost use Rattle.state.specs.Ensured.{Fine, EvalOk};
 
 use rows::kinds::FIRST;
 use rows::{MAX_BINDERS, ROWS_WORDS, get, operand};
@@ -23,8 +23,8 @@ fn constant(
     depth: usize,
     kind: u32,
 ) -> Value
-    requires { (row < maxRows) × (depth ≤ maxBinders) × (kind ≡ word rows.now row 0) × (number_of (plainK eunitK) ≤ kind) × (kind ≤ number_of (plainK ebinderK)) }
-    ensures { (ws : List ℕ) → EvalOk rows.now ws ws row env.now depth (sureOf result) }
+    requires { (row < max_rows) × (depth ≤ max_binders) × (kind ≡ word rows.now row 0) × (number_of (plain_k eunit_k) ≤ kind) × (kind ≤ number_of (plain_k ebinder_k)) }
+    ensures { (ws : List ℕ) → EvalOk rows.now ws ws row env.now depth (sure_of result) }
 {
     match kind {
         20 => unit(),
@@ -36,7 +36,7 @@ fn constant(
 
 // A part of a pair: the first for kind 27, the second for 28.
 fn part(a: Value, kind: u32) -> Value
-    ensures { (kind ≡ number_of (plainK efstK) → result ≡ firstValue a) × (kind ≡ number_of (plainK esndK) → result ≡ secondValue a) }
+    ensures { (kind ≡ number_of (plain_k efst_k) → result ≡ first_value a) × (kind ≡ number_of (plain_k esnd_k) → result ≡ second_value a) }
 {
     if kind == FIRST {
         return first(a);

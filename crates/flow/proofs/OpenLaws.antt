@@ -13,63 +13,63 @@ use lib.ListN.{length, get_or}
 use Rattle.word.specs.Word.{AllWords}
 use Rattle.word.specs.Decides.{Decides}
 use Rattle.tophat.specs.Syntax.{Ty, Code, Store}
-use Rattle.tophat.specs.Typing.{v-nil}
-use Rattle.tophat.specs.Normalising.{s-fail, n-done}
+use Rattle.tophat.specs.Typing.{v_nil}
+use Rattle.tophat.specs.Normalising.{s_fail, n_done}
 use Rattle.tophat.proofs.Basics.{apart}
-use Rattle.tophat.proofs.ComputeEvaluation.{overflowsTask}
+use Rattle.tophat.proofs.ComputeEvaluation.{overflows_task}
 use Rattle.tophat.proofs.ComputeNormalising.{stride}
-use Rattle.tophat.proofs.TaskEvaluationAgrees.{evaluate-good, overflows-task-is}
-use Rattle.rows.specs.GroundNumbers.{notAccepted, wrongMemory, notState, notAtRest}
-use Rattle.rows.specs.Rows.{maxRows}
-use Rattle.rows.specs.Lent.{ownRows, rowCount}
+use Rattle.tophat.proofs.TaskEvaluationAgrees.{evaluate_good, overflows_task_is}
+use Rattle.rows.specs.GroundNumbers.{not_accepted, wrong_memory, not_state, not_at_rest}
+use Rattle.rows.specs.Rows.{max_rows}
+use Rattle.rows.specs.Lent.{own_rows, row_count}
 use Rattle.rows.proofs.Basics.{no}
-use Rattle.rows.proofs.LentLaws.{zeros-after, own_bits}
-use Rattle.sheet.specs.Accepted.{acceptsRows, acceptedCount}
-use Rattle.sheet.proofs.AcceptedRows.{passed-of}
-use Rattle.state.specs.Layout.{stateWords}
-use Rattle.state.specs.Lent.{own_of, stateSize, ownState}
-use Rattle.state.specs.Contracts.{Fine, StrideOk}
-use Rattle.state.proofs.LentLaws.{own-length}
+use Rattle.rows.proofs.LentLaws.{zeros_after, own_bits}
+use Rattle.sheet.specs.Accepted.{accepts_rows, accepted_count}
+use Rattle.sheet.proofs.AcceptedRows.{passed_of}
+use Rattle.state.specs.Layout.{state_words}
+use Rattle.state.specs.Lent.{own_of, state_size, own_state}
+use Rattle.state.specs.Ensured.{Fine, StrideOk}
+use Rattle.state.proofs.LentLaws.{own_length}
 use Rattle.state.specs.Writing.{Writing, WritingFailed}
 use Rattle.state_check.specs.States.{State, ZerosAfter, HeldOk}
 use Rattle.flow.specs.declared.open.Opening.{Opening}
-use Rattle.call_definitions.specs.Memory.{failedOf}
-use Rattle.call_definitions.specs.States.{FlowState, failedState}
-use Rattle.call_definitions.specs.Answers.{WritesTask, Writes, as-task, as-failed, shut-22, shut-23}
-use Rattle.call_definitions.specs.Calls.{Opened, refusedBy, rest_of, opened}
-use Rattle.call_definitions.proofs.Flows.{accepts-loads, flow-of}
-use Rattle.call_definitions.proofs.Opening.{flowRows, past, opens, unmoved, still-of, same_first, first-typed}
-use Rattle.call_definitions.proofs.Grounds.{shut-only, opened-20, opened-misfit}
-use Rattle.flow.specs.Opens.{Site, taskOpening, OpensTo, to-task, to-failed, Opens, OpenOk}
+use Rattle.call_definitions.specs.Memory.{failed_of}
+use Rattle.call_definitions.specs.States.{FlowState, failed_state}
+use Rattle.call_definitions.specs.Answers.{WritesTask, Writes, as_task, as_failed, shut_22, shut_23}
+use Rattle.call_definitions.specs.Calls.{Opened, refused_by, rest_of, opened}
+use Rattle.call_definitions.proofs.Flows.{accepts_loads, flow_of}
+use Rattle.call_definitions.proofs.Opening.{flow_rows, past, opens, unmoved, still_of, same_first, first_typed}
+use Rattle.call_definitions.proofs.Grounds.{shut_only, opened_20, opened_misfit}
+use Rattle.flow.specs.Opens.{Site, task_opening, OpensTo, to_task, to_failed, Opens, OpenOk}
 use Rattle.flow.specs.Failed.{IsFailedOk}
-use Rattle.flow.proofs.SiteLaws.{here, there, some-rows, few-rows, room-is, sits, is-fine, around, written_in, copied-in}
-use Rattle.flow.proofs.FailedLaws.{failed-in, failed-copied}
+use Rattle.flow.proofs.SiteLaws.{here, there, some_rows, few_rows, room_is, sits, is_fine, around, written_in, copied_in}
+use Rattle.flow.proofs.FailedLaws.{failed_in, failed_copied}
 
 -- ---- ground 20
 
-module _ (rows : List ℤ) (n : ℕ) (e : n ≡ acceptedCount rows) where
-  pub counted-yes : (n ≡ 0 → ⊥) → (acceptsRows rows ≡ true) × (n ≡ rowCount rows)
-  counted-yes h = cases (acceptsRows rows) (λ t. (t, e ∙ ap (λ b. cond b (rowCount rows) 0) t)) (λ f. absurd (h (e ∙ ap (λ b. cond b (rowCount rows) 0) f)))
+module _ (rows : List ℤ) (n : ℕ) (e : n ≡ accepted_count rows) where
+  pub counted_yes : (n ≡ 0 → ⊥) → (accepts_rows rows ≡ true) × (n ≡ row_count rows)
+  counted_yes h = cases (accepts_rows rows) (λ t. (t, e ∙ ap (λ b. cond b (row_count rows) 0) t)) (λ f. absurd (h (e ∙ ap (λ b. cond b (row_count rows) 0) f)))
 
-  pub counted-no : n ≡ 0 → acceptsRows rows ≡ false
-  counted-no h = cases (acceptsRows rows)
+  pub counted_no : n ≡ 0 → accepts_rows rows ≡ false
+  counted_no h = cases (accepts_rows rows)
       (λ t.
-      let k : n ≡ rowCount rows = e ∙ ap (λ b. cond b (rowCount rows) 0) t in
-      let l = (passed-of rows t).some-rows in
+      let k : n ≡ row_count rows = e ∙ ap (λ b. cond b (row_count rows) 0) t in
+      let l = (passed_of rows t).some_rows in
       absurd (omega (arith, h, k, l)))
       (λ f. f)
 
   -- accepted rows, copied in
-  pub site-of : {own : List ℕ} → (1 ≤ n → own ≡ ownRows rows) → (1 ≤ n → AllWords rows) → (n ≡ 0 → ⊥) → (c : Code) × (Σ : List Ty) × (τ : Ty) × Site rows own n c Σ τ
-  site-of o w h =
-      let (t, k) = counted-yes h in
-      let l = (passed-of rows t).some-rows in
+  pub site_of : {own : List ℕ} → (1 ≤ n → own ≡ own_rows rows) → (1 ≤ n → AllWords rows) → (n ≡ 0 → ⊥) → (c : Code) × (Σ : List Ty) × (τ : Ty) × Site rows own n c Σ τ
+  site_of o w h =
+      let (t, k) = counted_yes h in
+      let l = (passed_of rows t).some_rows in
       let m : 1 ≤ n = omega (arith, k, l) in
-      let (c, Σ, τ, a) = flow-of (accepts-loads (w m) t) in
+      let (c, Σ, τ, a) = flow_of (accepts_loads (w m) t) in
       (c, Σ, τ, record { flow = a; count = k; rows_in = o m })
 
   pub some_words : (1 ≤ n → AllWords rows) → (n ≡ 0 → ⊥) → AllWords rows
-  some_words w h = let (t, k) = counted-yes h in let l = (passed-of rows t).some-rows in w (omega (arith, k, l))
+  some_words w h = let (t, k) = counted_yes h in let l = (passed_of rows t).some_rows in w (omega (arith, k, l))
 
 -- ---- the ways out
 
@@ -79,106 +79,106 @@ fitted b = record { yes = λ e. e; no = λ e f. no (sym e ∙ f) }
 
 module _ (rows ws : List ℤ) (own words : List ℕ) (fits : Bool) where
   abbrev Answers : ℕ → ℕ → Type 0
-  Answers g n = OpenOk rows ws fits own words (taskOpening g n)
+  Answers g n = OpenOk rows ws fits own words (task_opening g n)
 
-  by-ground : (n : ℕ) {g : ℕ} → 1 ≤ g → opened rows ws fits ≡ refusedBy g → Answers g n
-  by-ground n {g} l q = subst (Opens rows ws own words (taskOpening g n)) (sym q) (refl, l)
+  by_ground : (n : ℕ) {g : ℕ} → 1 ≤ g → opened rows ws fits ≡ refused_by g → Answers g n
+  by_ground n {g} l q = subst (Opens rows ws own words (task_opening g n)) (sym q) (refl, l)
 
-  pub open-20 : (n : ℕ) → n ≡ acceptedCount rows → n ≡ 0 → Answers notAccepted n
-  open-20 n e z = by-ground n (omega arith) (opened-20 rows ws (Unit {0}) (counted-no rows n e z) fits)
+  pub open_20 : (n : ℕ) → n ≡ accepted_count rows → n ≡ 0 → Answers not_accepted n
+  open_20 n e z = by_ground n (omega arith) (opened_20 rows ws (Unit {0}) (counted_no rows n e z) fits)
 
   module _ (n : ℕ) {c : Code} {Σ : List Ty} {τ : Ty} (z : Site rows own n c Σ τ) (wr : AllWords rows) where
-    pub open-length : (length ws ≡ n * stateWords → ⊥) → Answers wrongMemory n
-    open-length l = by-ground n (omega arith) (opened-misfit rows ws fits z.flow.loads (λ m f. l (m ∙ ap (λ k. k * stateWords) (sym z.count))))
+    pub open_length : (length ws ≡ n * state_words → ⊥) → Answers wrong_memory n
+    open_length l = by_ground n (omega arith) (opened_misfit rows ws fits z.flow.loads (λ m f. l (m ∙ ap (λ k. k * state_words) (sym z.count))))
 
-    pub open-misfit : not fits ≡ true → Answers wrongMemory n
-    open-misfit f = by-ground n (omega arith) (opened-misfit rows ws fits z.flow.loads (λ m g. no (sym (not-true fits f) ∙ g)))
+    pub open_misfit : not fits ≡ true → Answers wrong_memory n
+    open_misfit f = by_ground n (omega arith) (opened_misfit rows ws fits z.flow.loads (λ m g. no (sym (not-true fits f) ∙ g)))
 
-    module _ (f : not fits ≡ false) (l : length ws ≡ n * stateWords) (ww : AllWords ws) (e : words ≡ ownState n ws) where
+    module _ (f : not fits ≡ false) (l : length ws ≡ n * state_words) (ww : AllWords ws) (e : words ≡ own_state n ws) where
       fit : fits ≡ true
       fit = not-false fits f
 
       -- zeros stand after the state's words
       pub ends : ZerosAfter n words
       ends k g =
-          let m = own-length n ws ∙ l in
-          ap (λ w. get_or w k 0) e ∙ zeros-after (own_of n ws) (stateSize - n * stateWords) k (omega (arith, m, g))
+          let m = own_length n ws ∙ l in
+          ap (λ w. get_or w k 0) e ∙ zeros_after (own_of n ws) (state_size - n * state_words) k (omega (arith, m, g))
 
       module _ (b : Bool) (work : List ℕ) (h : HeldOk own n words work b) where
-        held-here : HeldOk (ownRows rows) (rowCount rows) words work b
-        held-here = there z (λ o k. HeldOk o k words work b) h
+        held_here : HeldOk (own_rows rows) (row_count rows) words work b
+        held_here = there z (λ o k. HeldOk o k words work b) h
 
         -- no task's writing: the last row failed as a whole, or ground 22
         module _ (y : not b ≡ true) (x : Bool) (k : IsFailedOk own n words x) where
           abbrev first : Store
           first = z.flow.first
 
-          failed-here : Decides x ((overflowsTask c [] first ≡ true) × WritingFailed (ownRows rows) (rowCount rows - 1) first words)
-          failed-here = there z (λ o k. IsFailedOk o k words x) k (flowRows z.flow) (past z.flow) (own_bits rows wr)
+          failed_here : Decides x ((overflows_task c [] first ≡ true) × WritingFailed (own_rows rows) (row_count rows - 1) first words)
+          failed_here = there z (λ o k. IsFailedOk o k words x) k (flow_rows z.flow) (past z.flow) (own_bits rows wr)
 
-          no-state : {q : FlowState} → Writes rows ws c Σ τ q → x ≡ false → ⊥
-          no-state (as-task {t} {s} w) g =
-              (held-here (flowRows z.flow) (past z.flow)).0.no (not-true b y)
+          no_state : {q : FlowState} → Writes rows ws c Σ τ q → x ≡ false → ⊥
+          no_state (as_task {t} {s} w) g =
+              (held_here (flow_rows z.flow) (past z.flow)).0.no (not-true b y)
               (record { task = t; store = s; typed = w.typed; stored = w.stored; writing = there z (λ o k. Writing o (k - 1) c t s words) (written_in z w e) })
-          no-state (as-failed f o d) g =
+          no_state (as_failed f o d) g =
               let q = same_first z.flow f in
-              failed-here.no g (ap (overflowsTask c []) (sym q) ∙ overflows-task-is o, failed-in z (d ∙ ap (failedOf rows) q) e)
+              failed_here.no g (ap (overflows_task c []) (sym q) ∙ overflows_task_is o, failed_in z (d ∙ ap (failed_of rows) q) e)
 
-          pub open-22 : x ≡ false → Answers notState n
-          open-22 g = by-ground n (omega arith) (shut-only rows ws (fits ≡ true) wr ww fits (fitted fits) (shut-22 z.flow (room-is z ws l) fit (λ q w. no-state w g)))
+          pub open_22 : x ≡ false → Answers not_state n
+          open_22 g = by_ground n (omega arith) (shut_only rows ws (fits ≡ true) wr ww fits (fitted fits) (shut_22 z.flow (room_is z ws l) fit (λ q w. no_state w g)))
 
-          pub open-failed : x ≡ true → OpenOk rows ws fits own words (record { number = 0; n = n; failed = true })
-          open-failed g =
-              let (o, v) = failed-here.yes g in
-              let over = (evaluate-good z.flow.flow.typed [] first v-nil (first-typed z.flow)).over o in
-              let w : Writes rows ws c Σ τ (failedState τ first) = as-failed z.flow.flow over (failed-copied z v l ww e) in
-              subst (Opens rows ws own words (record { number = 0; n = n; failed = true })) (sym (ap (opened rows ws) fit ∙ opens z.flow w (n-done s-fail))) (refl, to-failed refl)
+          pub open_failed : x ≡ true → OpenOk rows ws fits own words (record { number = 0; n = n; failed = true })
+          open_failed g =
+              let (o, v) = failed_here.yes g in
+              let over = (evaluate_good z.flow.flow.typed [] first v_nil (first_typed z.flow)).over o in
+              let w : Writes rows ws c Σ τ (failed_state τ first) = as_failed z.flow.flow over (failed_copied z v l ww e) in
+              subst (Opens rows ws own words (record { number = 0; n = n; failed = true })) (sym (ap (opened rows ws) fit ∙ opens z.flow w (n_done s_fail))) (refl, to_failed refl)
 
         module _ (y : not b ≡ false) (moved : Bool) (after env : List ℕ) (m : StrideOk own work after (n - 1) env 0 moved) where
-          state : State (ownRows rows) (rowCount rows) (flowRows z.flow) words
-          state = (held-here (flowRows z.flow) (past z.flow)).0.yes (not-false b y)
+          state : State (own_rows rows) (row_count rows) (flow_rows z.flow) words
+          state = (held_here (flow_rows z.flow) (past z.flow)).0.yes (not-false b y)
 
           writing : Writing own (n - 1) c state.task state.store words
           writing = here z (λ o k. Writing o (k - 1) c state.task state.store words) state.writing
 
           writes : WritesTask rows ws c Σ τ state.task state.store
-          writes = copied-in z state.typed state.stored writing l ww e
+          writes = copied_in z state.typed state.stored writing l ww e
 
           flag : moved ≡ (stride c [] state.store state.task).2
           flag =
-              let u = subst (λ ws. StrideOk own ws after (n - 1) env 0 moved) ((held-here (flowRows z.flow) (past z.flow)).1 (not-false b y)) m in
+              let u = subst (λ ws. StrideOk own ws after (n - 1) env 0 moved) ((held_here (flow_rows z.flow) (past z.flow)).1 (not-false b y)) m in
               (u c (sits z) Σ [] τ state.store [] state.task state.typed (around z writing.stores state.stored) writing.holds).1
 
-          pub open-23 : moved ≡ true → Answers notAtRest n
-          open-23 q = by-ground n (omega arith) (shut-only rows ws (fits ≡ true) wr ww fits (fitted fits)
-              (shut-23 z.flow fit (as-task writes) (λ d. apart (sym flag ∙ q) (unmoved z.flow state.typed state.stored d))))
+          pub open_23 : moved ≡ true → Answers not_at_rest n
+          open_23 q = by_ground n (omega arith) (shut_only rows ws (fits ≡ true) wr ww fits (fitted fits)
+              (shut_23 z.flow fit (as_task writes) (λ d. apart (sym flag ∙ q) (unmoved z.flow state.typed state.stored d))))
 
-          pub open-0 : moved ≡ false → Answers 0 n
-          open-0 q =
-              let d = still-of z.flow state.typed state.stored (sym flag ∙ q) in
-              subst (Opens rows ws own words (taskOpening 0 n)) (sym (ap (opened rows ws) fit ∙ opens z.flow (as-task writes) d))
-              (refl, to-task refl (record { cells = Σ; type = τ; site = z; writes = writes; state-in = e }))
+          pub open_0 : moved ≡ false → Answers 0 n
+          open_0 q =
+              let d = still_of z.flow state.typed state.stored (sym flag ∙ q) in
+              subst (Opens rows ws own words (task_opening 0 n)) (sym (ap (opened rows ws) fit ∙ opens z.flow (as_task writes) d))
+              (refl, to_task refl (record { cells = Σ; type = τ; site = z; writes = writes; state_in = e }))
 
 -- what a caller that gets 0 and no failed row may ask for
-pub opened-fine : (rows ws : List ℤ) (own words : List ℕ) (r : Opening) (o : Opened) → Opens rows ws own words r o → r.number ≡ 0 → r.failed ≡ false → (1 ≤ r.n) × (r.n ≤ maxRows) × Fine own (r.n - 1) 0
-opened-fine rows ws own words r (refusedBy g) x z f = let p = x.0 in let q = x.1 in absurd (omega (arith, p, q, z))
-opened-fine rows ws own words r (rest_of q) x z f = by x.1
+pub opened_fine : (rows ws : List ℤ) (own words : List ℕ) (r : Opening) (o : Opened) → Opens rows ws own words r o → r.number ≡ 0 → r.failed ≡ false → (1 ≤ r.n) × (r.n ≤ max_rows) × Fine own (r.n - 1) 0
+opened_fine rows ws own words r (refused_by g) x z f = let p = x.0 in let q = x.1 in absurd (omega (arith, p, q, z))
+opened_fine rows ws own words r (rest_of q) x z f = by x.1
   where
-    by : {q : FlowState} → OpensTo rows ws own words r q → (1 ≤ r.n) × (r.n ≤ maxRows) × Fine own (r.n - 1) 0
-    by (to-task e y) = (some-rows y.site, few-rows y.site, is-fine y.site)
-    by (to-failed e) = apart e f
+    by : {q : FlowState} → OpensTo rows ws own words r q → (1 ≤ r.n) × (r.n ≤ max_rows) × Fine own (r.n - 1) 0
+    by (to_task e y) = (some_rows y.site, few_rows y.site, is_fine y.site)
+    by (to_failed e) = apart e f
 
 -- where a rest is opened, the other memories fit
-pub opened-fits : (rows ws : List ℤ) (fits : Bool) {z : FlowState} → opened rows ws fits ≡ rest_of z → fits ≡ true
+pub opened_fits : (rows ws : List ℤ) (fits : Bool) {z : FlowState} → opened rows ws fits ≡ rest_of z → fits ≡ true
 unfolding opened
-opened-fits rows ws true e = refl
-opened-fits rows ws false e = no (sym (by (acceptsRows rows) (eqb (length ws) (rowCount rows * stateWords)) _) ∙ ap is-rest e)
+opened_fits rows ws true e = refl
+opened_fits rows ws false e = no (sym (by (accepts_rows rows) (eqb (length ws) (row_count rows * state_words)) _) ∙ ap is_rest e)
   where
-    is-rest : Opened → Bool
-    is-rest (refusedBy g) = false
-    is-rest (rest_of z) = true
+    is_rest : Opened → Bool
+    is_rest (refused_by g) = false
+    is_rest (rest_of z) = true
 
-    by : (x y : Bool) (o : Opened) → is-rest (cond x (cond (y && false) o (refusedBy wrongMemory)) (refusedBy notAccepted)) ≡ false
+    by : (x y : Bool) (o : Opened) → is_rest (cond x (cond (y && false) o (refused_by wrong_memory)) (refused_by not_accepted)) ≡ false
     by true true o = refl
     by true false o = refl
     by false y o = refl

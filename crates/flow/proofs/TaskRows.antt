@@ -5,10 +5,10 @@ use mathlib.Core.Option.{Option, none, some}
 use mathlib.Core.List.{List}
 use Prim.Native.Nat.{ℕ, zero, suc, ◌≤◌}
 use native.Mathlib.Omega.{arith}
-use Rattle.tophat.specs.Syntax.{Code, edit, enter, update, then, next, fail, and, or, xor, view, gate, if, let', taskRows}
+use Rattle.tophat.specs.Syntax.{Code, edit, enter, update, then, next, fail, and, or, xor, view, gate, if, let', task_rows}
 use Rattle.rows.specs.ComputeTrees.{code_at}
 use Rattle.rows.proofs.TreeSum.{sum_to}
-use Rattle.rows.proofs.Totals.{parts, Adds, of, shareAt, total-is}
+use Rattle.rows.proofs.Totals.{parts, Adds, of, share_at, total_is}
 use Rattle.rows.specs.Accepted.{AcceptedRows}
 use Rattle.rows.proofs.Accepted.{facts}
 
@@ -16,8 +16,8 @@ use Rattle.rows.proofs.Accepted.{facts}
 abbrev one : Code → ℕ
 one c = 1
 
-adds : Adds taskRows one
-unfolding taskRows parts
+adds : Adds task_rows one
+unfolding task_rows parts
 adds (edit x) = refl
 adds (enter τ) = refl
 adds (update k) = refl
@@ -32,23 +32,23 @@ adds (gate r n b) = omega arith
 adds (if x a b) = omega arith
 adds (let' x b) = omega arith
 
-one-most : (o : Option Code) → of one o ≤ 1
+one_most : (o : Option Code) → of one o ≤ 1
 unfolding of
-one-most none = omega arith
-one-most (some c) = omega arith
+one_most none = omega arith
+one_most (some c) = omega arith
 
-share-most : (rs : List ℕ) (n i : ℕ) → shareAt taskRows one adds rs n i ≤ 1
-unfolding shareAt
-share-most rs n i = one-most (code_at rs n i)
+share_most : (rs : List ℕ) (n i : ℕ) → share_at task_rows one adds rs n i ≤ 1
+unfolding share_at
+share_most rs n i = one_most (code_at rs n i)
 
-sum-most : (n : ℕ) (f : ℕ → ℕ) → ((i : ℕ) → f i ≤ 1) → sum_to n f ≤ n
+sum_most : (n : ℕ) (f : ℕ → ℕ) → ((i : ℕ) → f i ≤ 1) → sum_to n f ≤ n
 unfolding sum_to
-sum-most zero f h = omega arith
-sum-most (suc n) f h = let a = sum-most n f h in let b = h n in omega (arith, a, b)
+sum_most zero f h = omega arith
+sum_most (suc n) f h = let a = sum_most n f h in let b = h n in omega (arith, a, b)
 
 -- in accepted rows
-pub task-rows-few : (rs : List ℕ) (n : ℕ) (a : AcceptedRows rs n) → 1 ≤ n → taskRows a.code ≤ n
-task-rows-few rs n a l =
-    let e = total-is taskRows one adds rs n l (facts a).sorted (facts a).named a.flow.code in
-    let m = sum-most n (shareAt taskRows one adds rs n) (share-most rs n) in
+pub task_rows_few : (rs : List ℕ) (n : ℕ) (a : AcceptedRows rs n) → 1 ≤ n → task_rows a.code ≤ n
+task_rows_few rs n a l =
+    let e = total_is task_rows one adds rs n l (facts a).sorted (facts a).named a.flow.code in
+    let m = sum_most n (share_at task_rows one adds rs n) (share_most rs n) in
     omega (arith, e, m)

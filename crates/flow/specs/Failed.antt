@@ -1,9 +1,9 @@
 -- What the functions on a last row that failed as a whole leave and answer (CR 3). Rests on crate state's writing and on the calculus' evaluation.
--- For contracts only: tied to `startCall` by the proof of `start`, and to `opened` by that of `open`.
+-- For contracts only: tied to `start_call` by the proof of `start`, and to `opened` by that of `open`.
 use Rattle.std.specs.Prelude.{◌≡◌, Bool, true, List, [], ℕ, ◌-◌, ◌≤◌, ◌<◌, get_or}
 use Rattle.word.specs.Word.{words}
 use Rattle.word.specs.Decides.{Decides}
-use Rattle.tophat.proofs.ComputeEvaluation.{overflowsTask}
+use Rattle.tophat.proofs.ComputeEvaluation.{overflows_task}
 use Rattle.rows.specs.Rows.{word}
 use Rattle.rows.specs.Accepted.{AcceptedRows}
 use Rattle.state.specs.Writing.{WritingFailed}
@@ -18,4 +18,4 @@ WriteFailedOk rs n ws = OfAccepted rs n λ a. WritingFailed rs (n - 1) a.store w
 
 -- r tells whether they do, and start leaves the words
 abbrev pub IsFailedOk : List ℕ → ℕ → List ℕ → Bool → Type 0
-IsFailedOk rs n ws r = OfAccepted rs n λ a. Decides r ((overflowsTask a.code [] a.store ≡ true) × WritingFailed rs (n - 1) a.store ws)
+IsFailedOk rs n ws r = OfAccepted rs n λ a. Decides r ((overflows_task a.code [] a.store ≡ true) × WritingFailed rs (n - 1) a.store ws)

@@ -1,7 +1,7 @@
 -- What the functions below `start` leave: the task that the first contents come to. Rests on Calls, Failed and crate state's writing.
--- Believed: `Answered`, which the contracts of `start` and `handle` name. `BeginOk` is for contracts only: tied to `startCall` by the proof of `start`.
+-- Believed: `Answered`, which the contracts of `start` and `handle` name. `BeginOk` is for contracts only: tied to `start_call` by the proof of `start`.
 use Rattle.std.specs.Prelude.{◌≡◌, true, false, List, [], ℕ, ◌-◌, ℤ}
-use Rattle.tophat.proofs.ComputeEvaluation.{overflowsTask}
+use Rattle.tophat.proofs.ComputeEvaluation.{overflows_task}
 use Rattle.tophat.proofs.ComputeNormalising.{settle}
 use Rattle.state.specs.Writing.{Writing, WritingFailed}
 use Rattle.flow.specs.declared.answer.Answer.{Answer}
@@ -15,6 +15,6 @@ Answered a r out = (r.number ≡ a.number) × (r.strides ≡ a.strides) × (out 
 -- the words write what the last row settles to, in as many strides; or, in one, that it failed as a whole
 abbrev pub BeginOk : List ℕ → ℕ → List ℕ → ℕ → Type 0
 BeginOk rs n ws r = OfAccepted rs n λ a.
-    (overflowsTask a.code [] a.store ≡ false
+    (overflows_task a.code [] a.store ≡ false
     → Writing rs (n - 1) a.code (settle a.code [] a.store).0 (settle a.code [] a.store).1 ws × (r ≡ (settle a.code [] a.store).2))
-    × (overflowsTask a.code [] a.store ≡ true → WritingFailed rs (n - 1) a.store ws × (r ≡ 1))
+    × (overflows_task a.code [] a.store ≡ true → WritingFailed rs (n - 1) a.store ws × (r ≡ 1))

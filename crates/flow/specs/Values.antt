@@ -5,14 +5,14 @@ use Rattle.std.specs.Prelude.{◌≡◌, List, ℤ}
 use Rattle.std.proofs.Math.Option.{some}
 use Rattle.tophat.specs.Syntax.{Ty, Val}
 use Rattle.tophat.specs.Typing.{ValueType}
-unfoldable pub use Rattle.call_definitions.specs.Memory.{valueMemory}
+unfoldable pub use Rattle.call_definitions.specs.Memory.{value_memory}
 
 -- the 8 words of a value: its leaves, "unused 0"
-abbrev pub valueWords : Val → List ℤ
-valueWords v = valueMemory (some v)
+abbrev pub value_words : Val → List ℤ
+value_words v = value_memory (some v)
 
 -- words hold a value of the type
 pub record HoldsValue (τ : Ty) (ws : List ℤ) : Type 0 where
   pub value : Val
   pub typed : ValueType value τ
-  pub words : ws ≡ valueWords value
+  pub words : ws ≡ value_words value

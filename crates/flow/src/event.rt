@@ -1,8 +1,8 @@
 // An event's bytes, read (01, "Touches and what is shown"; CR 6; ground 8).
 ghost use Rattle.std.specs.Prelude.{◌≡◌, Bool, true, false, List};
-ghost use Rattle.formats.specs.Touches.{allNothing, eventOf};
-ghost use Rattle.handle.specs.Events.{ZeroBlanks, leavesBy};
-ghost use Rattle.flow.specs.Reads.{KnownOk, Says, touch_of, fieldsSay};
+ghost use Rattle.formats.specs.Touches.{all_nothing, event_of};
+ghost use Rattle.handle.specs.Events.{ZeroBlanks, leaves_by};
+ghost use Rattle.flow.specs.Reads.{KnownOk, Says, touch_of, fields_say};
 
 use decimal::field::{ACTION_COLUMNS, NEWLINE, Reading, WORD_COLUMNS};
 use decimal::path::PathReading;
@@ -22,7 +22,7 @@ pub struct EventReading {
 
 // Whether every leaf is 0 or blank: a blank one's bits are 0.
 fn all_zero(leaves: [u32; MAX_LEAVES]) -> bool
-    ensures { (blank : List Bool) → ZeroBlanks leaves blank → result ≡ allNothing (leavesBy leaves blank) }
+    ensures { (blank : List Bool) → ZeroBlanks leaves blank → result ≡ all_nothing (leaves_by leaves blank) }
 {
     for k in 0..MAX_LEAVES {
         if leaves[k] != 0 {
@@ -34,7 +34,7 @@ fn all_zero(leaves: [u32; MAX_LEAVES]) -> bool
 
 // Whether the action is one of 01's, with leaves that it can have.
 fn known(action: u32, leaves: [u32; MAX_LEAVES]) -> bool
-    ensures { (blank : List Bool) → ZeroBlanks leaves blank → KnownOk action (leavesBy leaves blank) result }
+    ensures { (blank : List Bool) → ZeroBlanks leaves blank → KnownOk action (leaves_by leaves blank) result }
 {
     if action == GIVE {
         return true;
@@ -90,7 +90,7 @@ fn event_of(role: u32, path: u32, action: u32, leaves: Leaves) -> EventReading
 
 // What the fields of an event say.
 fn read_fields(s: &[u8]) -> EventReading
-    ensures { Says result (fieldsSay s.now) }
+    ensures { Says result (fields_say s.now) }
 {
     let role = read_role(s);
     if role == 0 {
@@ -112,7 +112,7 @@ fn read_fields(s: &[u8]) -> EventReading
 
 // What an event's bytes say.
 pub fn read_event(s: &[u8]) -> EventReading
-    ensures { Says result (eventOf s.now) }
+    ensures { Says result (event_of s.now) }
 {
     if s.len() != EVENT_BYTES {
         return unread();

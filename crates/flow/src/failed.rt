@@ -1,7 +1,7 @@
 // A last row that failed as a whole (CR 3): its words, and whether words are those of a flow whose start fails so.
 ghost use Rattle.std.specs.Prelude.{◌≡◌, ◌-◌, ◌≤◌, replicate};
-ghost use Rattle.state.specs.Contracts.{Fine};
-ghost use Rattle.state.specs.Lent.{stateSize};
+ghost use Rattle.state.specs.Ensured.{Fine};
+ghost use Rattle.state.specs.Lent.{state_size};
 ghost use Rattle.state_check.specs.States.{ToWrite};
 ghost use Rattle.flow.specs.Failed.{WriteFailedOk, IsFailedOk};
 
@@ -14,7 +14,7 @@ use state_check::alike;
 // The first contents of the cells, and the tag of the last row of n, in words of zeros.
 pub fn write_failed(rows: &[u32; ROWS_WORDS], n: usize, words: &mut [u32; STATE_SIZE])
     requires le_n { (1 ≤ n) × Fine rows.now (n - 1) 0 }
-    requires words_value { words.old ≡ replicate stateSize 0 }
+    requires words_value { words.old ≡ replicate state_size 0 }
     ensures { WriteFailedOk rows.now n words.new }
 {
     first_cells(rows, n, words);

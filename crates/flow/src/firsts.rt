@@ -1,8 +1,8 @@
 // The cells' first contents, written into words of zeros (01, "The sheet").
 ghost use Rattle.std.specs.Prelude.{◌≡◌, ◌<◌, ◌≤◌};
-ghost use Rattle.rows.specs.Rows.{maxRows};
-ghost use Rattle.value.specs.Values.{asValue};
-ghost use Rattle.flow.specs.Firsts.{contentAt, CellFirst, CellsFirst};
+ghost use Rattle.rows.specs.Rows.{max_rows};
+ghost use Rattle.value.specs.Values.{as_value};
+ghost use Rattle.flow.specs.Firsts.{content_at, CellFirst, CellsFirst};
 
 use rows::kinds::CELL;
 use rows::{ROWS_WORDS, get};
@@ -13,8 +13,8 @@ use value::{Value, number, truth};
 
 // The first content of a cell.
 fn content(rows: &[u32; ROWS_WORDS], row: usize) -> Value
-    requires { row < maxRows }
-    ensures { result ≡ asValue (contentAt rows.now row) }
+    requires { row < max_rows }
+    ensures { result ≡ as_value (content_at rows.now row) }
 {
     let w = get(rows, row, 2);
     if cell_shape(rows, row) == TRUTH {
@@ -25,7 +25,7 @@ fn content(rows: &[u32; ROWS_WORDS], row: usize) -> Value
 
 // The row's first content, if it is a cell.
 fn first_cell(rows: &[u32; ROWS_WORDS], row: usize, work: &mut [u32; STATE_SIZE])
-    requires { row < maxRows }
+    requires { row < max_rows }
     ensures { CellFirst rows.now work.old work.new row }
 {
     if get(rows, row, 0) == CELL {
@@ -37,7 +37,7 @@ fn first_cell(rows: &[u32; ROWS_WORDS], row: usize, work: &mut [u32; STATE_SIZE]
 
 // The cells among the first n rows.
 pub fn first_cells(rows: &[u32; ROWS_WORDS], n: usize, work: &mut [u32; STATE_SIZE])
-    requires { n ≤ maxRows }
+    requires { n ≤ max_rows }
     ensures { CellsFirst rows.now work.old work.new n }
 {
     for i in 0..n {

@@ -3,10 +3,10 @@ ghost use Rattle.std.specs.Prelude.{◌≡◌, ◌-◌, ◌≤◌, length};
 ghost use Rattle.std.specs.Int.{w32};
 ghost use Rattle.std.proofs.Common.{to_z};
 ghost use Rattle.word.specs.Laid.{laid};
-ghost use Rattle.tophat.specs.Syntax.{maxLeaves};
-ghost use Rattle.state.specs.Contracts.{Fine};
+ghost use Rattle.tophat.specs.Syntax.{max_leaves};
+ghost use Rattle.state.specs.Ensured.{Fine};
 ghost use Rattle.call_definitions.specs.Memory.{flag};
-ghost use Rattle.call_definitions.specs.Calls.{lookCall};
+ghost use Rattle.call_definitions.specs.Calls.{look_call};
 ghost use Rattle.flow.specs.Looks.{Filled, FailsOk, RoomOk, ShowOk, ShowFailedOk, LookOk};
 
 use super::open::open;
@@ -41,7 +41,7 @@ fn flag(b: bool) -> u32
 // The leaves' numbers, over the front of the lent words.
 fn value_out(v: Value, lent: &mut [i32])
     ensures lent_after { lent.new ≡ laid (to_z w32) v.leaves lent.old }
-    ensures leaves_len { length v.leaves ≡ maxLeaves }
+    ensures leaves_len { length v.leaves ≡ max_leaves }
 {
     let leaves = v.leaves;
     copy_out(&leaves, lent);
@@ -127,7 +127,7 @@ fn show_failed(value: &mut [i32]) -> Looked
 
 // Looks in a role, and states all of the list at exit. A role outside 1 to 8 is 8 (CR 6).
 pub fn fill(rows: &[i32], state: &[i32], role: u32, value: &mut [i32], list: &mut [u8]) -> Looked
-    ensures { Filled (lookCall rows.now state.now role value.old list.old) result value.new list.new }
+    ensures { Filled (look_call rows.now state.now role value.old list.old) result value.new list.new }
 {
     let mut own = [0u32; ROWS_WORDS];
     let mut words = [0u32; STATE_SIZE];
@@ -167,7 +167,7 @@ pub fn look<'a>(
     fails: &mut u32,
     list: &'a mut [u8],
 ) -> &'a mut [u8]
-    ensures { LookOk (lookCall rows.now state.now role value.old list.old) result.now number.new valued.new fails.new value.new }
+    ensures { LookOk (look_call rows.now state.now role value.old list.old) result.now number.new valued.new fails.new value.new }
 {
     let seen = fill(rows, state, role, value, list);
     let n = seen.bytes;

@@ -1,8 +1,8 @@
 // Rows and a state copied in from lent memory, with the grounds 20 to 23 asked in this order (01, "Grounds in the state").
 ghost use Rattle.std.specs.Prelude.{◌≡◌, replicate};
-ghost use Rattle.rows.specs.Lent.{rowsSize};
-ghost use Rattle.state.specs.Lent.{stateSize};
-ghost use Rattle.flow.specs.Opens.{taskOpening, OpenOk};
+ghost use Rattle.rows.specs.Lent.{rows_size};
+ghost use Rattle.state.specs.Lent.{state_size};
+ghost use Rattle.flow.specs.Opens.{task_opening, OpenOk};
 
 use super::failed::is_failed;
 use normalising::stride;
@@ -23,7 +23,7 @@ pub struct Opening {
 
 // No row failed as a whole.
 fn not_failed(number: u32, n: usize) -> Opening
-    ensures { result ≡ taskOpening number n }
+    ensures { result ≡ task_opening number n }
 {
     Opening {
         number: number,
@@ -41,7 +41,7 @@ pub fn open(
     own: &mut [u32; ROWS_WORDS],
     words: &mut [u32; STATE_SIZE],
 ) -> Opening
-    requires { (own.old ≡ replicate rowsSize 0) × (words.old ≡ replicate stateSize 0) }
+    requires { (own.old ≡ replicate rows_size 0) × (words.old ≡ replicate state_size 0) }
     ensures { OpenOk rows.now state.now fits own.new words.new result }
 {
     let n = accepted_rows(rows, own);

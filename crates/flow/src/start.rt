@@ -1,8 +1,8 @@
 // The call `start`: accepted rows, their cells' first contents, the last row evaluated and normalised (01, "Normalise").
 ghost use Rattle.std.specs.Prelude.{◌≡◌, ◌-◌, ◌≤◌, replicate};
-ghost use Rattle.state.specs.Contracts.{Fine};
-ghost use Rattle.state.specs.Lent.{stateSize};
-ghost use Rattle.call_definitions.specs.Calls.{startCall};
+ghost use Rattle.state.specs.Ensured.{Fine};
+ghost use Rattle.state.specs.Lent.{state_size};
+ghost use Rattle.call_definitions.specs.Calls.{start_call};
 ghost use Rattle.call_definitions.specs.Touches.{Bounded};
 ghost use Rattle.flow.specs.Starts.{Answered, BeginOk};
 
@@ -21,7 +21,7 @@ use state::{ENV_WORDS, STATE_SIZE, STATE_WORDS};
 // as failed whole, which normalising does not change (CR 3).
 fn begin(rows: &[u32; ROWS_WORDS], n: usize, words: &mut [u32; STATE_SIZE]) -> u32
     requires le_n { (1 ≤ n) × Fine rows.now (n - 1) 0 }
-    requires words_value { words.old ≡ replicate stateSize 0 }
+    requires words_value { words.old ≡ replicate state_size 0 }
     ensures { BeginOk rows.now n words.new result }
 {
     first_cells(rows, n, words);
@@ -36,7 +36,7 @@ fn begin(rows: &[u32; ROWS_WORDS], n: usize, words: &mut [u32; STATE_SIZE]) -> u
 
 // Starts a flow: the answer, and the state at exit.
 pub fn start(rows: &[i32], state: &mut [i32]) -> Answer
-    ensures answered { Answered (startCall rows.now state.old) result state.new }
+    ensures answered { Answered (start_call rows.now state.old) result state.new }
     ensures bounded { Bounded rows.now result.strides }
 {
     let mut own = [0u32; ROWS_WORDS];

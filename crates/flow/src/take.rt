@@ -1,6 +1,6 @@
 // An event that is read, taken by a flow in lent memory (01, "Four calls": handle after its event's bytes are read).
 ghost use Rattle.std.specs.Prelude.{◌≡◌, true};
-ghost use Rattle.rows.specs.GroundNumbers.{notHandled};
+ghost use Rattle.rows.specs.GroundNumbers.{not_handled};
 ghost use Rattle.handle.specs.Events.{KnownEvent};
 ghost use Rattle.flow.specs.Takes.{TakeOk};
 
@@ -16,7 +16,7 @@ use state::{ENV_WORDS, STATE_SIZE};
 
 // What a last row that failed as a whole answers to an event that is read: 9, as 45 does (CR 3).
 fn take_failed() -> Answer
-    ensures { (result.number ≡ notHandled) × (result.strides ≡ 0) }
+    ensures { (result.number ≡ not_handled) × (result.strides ≡ 0) }
 {
     refused(NOT_HANDLED)
 }

@@ -3,9 +3,9 @@
 // call, whatever it answers.
 ghost use Rattle.std.specs.Prelude.{◌≡◌, length};
 ghost use Rattle.sheet.specs.Sheet.{loaded};
-ghost use Rattle.call_definitions.specs.Calls.{startCall, lookCall, handleCall};
+ghost use Rattle.call_definitions.specs.Calls.{start_call, look_call, handle_call};
 ghost use Rattle.call_definitions.specs.Touches.{Bounded};
-ghost use Rattle.receipt.specs.Receipts.{receiptOf};
+ghost use Rattle.receipt.specs.Receipts.{receipt_of};
 
 use flow::{look, start, touch};
 use receipt;
@@ -23,9 +23,9 @@ pub extern "C" fn nannyjiffy_load(sheet: &[u8], rows: &mut [i32]) -> u32
 // Starts a flow in a lent state: 0, or the first ground of 20 and 21.
 #[unsafe(no_mangle)]
 pub extern "C" fn nannyjiffy_start(rows: &[i32], state: &mut [i32], strides: &mut u32) -> u32
-    ensures value { result ≡ (startCall rows.now state.old).number }
-    ensures strides_after { strides.new ≡ (startCall rows.now state.old).strides }
-    ensures state_after { state.new ≡ (startCall rows.now state.old).state }
+    ensures value { result ≡ (start_call rows.now state.old).number }
+    ensures strides_after { strides.new ≡ (start_call rows.now state.old).strides }
+    ensures state_after { state.new ≡ (start_call rows.now state.old).state }
     ensures bounded { Bounded rows.now strides.new }
 {
     let started = start::start(rows, state);
@@ -46,12 +46,12 @@ pub extern "C" fn nannyjiffy_look(
     fails: &mut u32,
     bytes: &mut usize,
 ) -> u32
-    ensures value { result ≡ (lookCall rows.now state.now role value.old list.old).number }
-    ensures valued_after { valued.new ≡ (lookCall rows.now state.now role value.old list.old).has_value }
-    ensures fails_after { fails.new ≡ (lookCall rows.now state.now role value.old list.old).fails }
-    ensures bytes_after { bytes.new ≡ length (lookCall rows.now state.now role value.old list.old).part }
-    ensures value_after { value.new ≡ (lookCall rows.now state.now role value.old list.old).value }
-    ensures list_after { list.new ≡ (lookCall rows.now state.now role value.old list.old).list }
+    ensures value { result ≡ (look_call rows.now state.now role value.old list.old).number }
+    ensures valued_after { valued.new ≡ (look_call rows.now state.now role value.old list.old).has_value }
+    ensures fails_after { fails.new ≡ (look_call rows.now state.now role value.old list.old).fails }
+    ensures bytes_after { bytes.new ≡ length (look_call rows.now state.now role value.old list.old).part }
+    ensures value_after { value.new ≡ (look_call rows.now state.now role value.old list.old).value }
+    ensures list_after { list.new ≡ (look_call rows.now state.now role value.old list.old).list }
 {
     let seen = look::fill(rows, state, role, value, list);
     *valued = seen.valued;
@@ -68,9 +68,9 @@ pub extern "C" fn nannyjiffy_handle(
     event: &[u8],
     strides: &mut u32,
 ) -> u32
-    ensures value { result ≡ (handleCall rows.now state.old event.now).number }
-    ensures strides_after { strides.new ≡ (handleCall rows.now state.old event.now).strides }
-    ensures state_after { state.new ≡ (handleCall rows.now state.old event.now).state }
+    ensures value { result ≡ (handle_call rows.now state.old event.now).number }
+    ensures strides_after { strides.new ≡ (handle_call rows.now state.old event.now).strides }
+    ensures state_after { state.new ≡ (handle_call rows.now state.old event.now).state }
     ensures bounded { Bounded rows.now strides.new }
 {
     let handled = touch::handle(rows, state, event);
@@ -81,8 +81,8 @@ pub extern "C" fn nannyjiffy_handle(
 // What an order comes to by a price list (CR 7): 0, or the first of 32, 33 and 34. `cents` is the total, 0 where one holds.
 #[unsafe(no_mangle)]
 pub extern "C" fn nannyjiffy_receipt(prices: &[u8], order: &[i32], cents: &mut u64) -> u32
-    ensures value { result ≡ (receiptOf prices.now order.now).number }
-    ensures cents_after { cents.new ≡ (receiptOf prices.now order.now).total }
+    ensures value { result ≡ (receipt_of prices.now order.now).number }
+    ensures cents_after { cents.new ≡ (receipt_of prices.now order.now).total }
 {
     let priced = receipt::total(prices, order);
     *cents = priced.total;

@@ -9,8 +9,8 @@ use lib.IntN.{ℤ}
 use lib.ListN.{length, get_or, take}
 use lib.Seq.{take-suc}
 use Rattle.decimal.specs.Field.{Field, number, blank, unreadable}
-use Rattle.tophat.proofs.Basics.{no-some, some_is}
-use Rattle.formats.specs.Records.{numberSaid, each}
+use Rattle.tophat.proofs.Basics.{no_some, some_is}
+use Rattle.formats.specs.Records.{number_said, each}
 
 module _ {X Y : Type 0} (f : X → Option Y) where
   -- the first of several, and the others
@@ -33,9 +33,9 @@ module _ {X Y : Type 0} (f : X → Option Y) where
   none_first h = sym (some_is h)
 
   -- as many as there are
-  pub each-length : (xs : List X) {ys : List Y} → each f xs ≡ some ys → length ys ≡ length xs
-  each-length [] h = ap length (none_first h)
-  each-length (x ∷ xs) h = let g = first_of x xs h in ap length (sym g.both) ∙ ap suc (each-length xs g.rest)
+  pub each_length : (xs : List X) {ys : List Y} → each f xs ≡ some ys → length ys ≡ length xs
+  each_length [] h = ap length (none_first h)
+  each_length (x ∷ xs) h = let g = first_of x xs h in ap length (sym g.both) ∙ ap suc (each_length xs g.rest)
 
   -- each by its place
   pub each_at : (xs : List X) {ys : List Y} → each f xs ≡ some ys → (k : ℕ) → k < length xs → (d : X) (e : Y) → f (get_or xs k d) ≡ some (get_or ys k e)
@@ -71,15 +71,15 @@ module _ {X Y : Type 0} (f : X → Option Y) where
   Missing d xs = (k : ℕ) × (k < length xs) × (f (get_or xs k d) ≡ none)
 
   -- and such a one, where nothing is made of all
-  pub each-not : (xs : List X) (d : X) → each f xs ≡ none → Missing d xs
+  pub each_not : (xs : List X) (d : X) → each f xs ≡ none → Missing d xs
   unfolding each bind
-  each-not [] d h = no-some (sym h)
-  each-not (x ∷ xs) d h = by (f x) refl (each f xs) refl (each-not xs d)
+  each_not [] d h = no_some (sym h)
+  each_not (x ∷ xs) d h = by (f x) refl (each f xs) refl (each_not xs d)
     where
       by : (o : Option Y) → f x ≡ o → (p : Option (List Y)) → each f xs ≡ p → (each f xs ≡ none → Missing d xs) → Missing d (x ∷ xs)
       by none e p g r = (0, omega arith, e)
       by (some y) e none g r = let (k, l, q) = r g in (suc k, omega (arith, l), q)
-      by (some y) e (some ys) g r = let m : each f (x ∷ xs) ≡ some (y ∷ ys) = rw (e, g) in no-some (sym h ∙ m)
+      by (some y) e (some ys) g r = let m : each f (x ∷ xs) ≡ some (y ∷ ys) = rw (e, g) in no_some (sym h ∙ m)
 
   -- all, where each is made
   pub each_all : (d : X) (b : Y) (xs : List X) (ys : List Y) → length xs ≡ length ys → ((k : ℕ) → k < length xs → f (get_or xs k d) ≡ some (get_or ys k b)) → each f xs ≡ some ys
@@ -94,14 +94,14 @@ module _ {X Y : Type 0} (f : X → Option Y) where
 
 -- ---- numbers and leaves
 
-pub number-said : (f : Field) {z : ℤ} → numberSaid f ≡ some z → f ≡ number z
-unfolding numberSaid
-number-said (number y) h = ap number (some_is h)
-number-said blank h = no-some h
-number-said unreadable h = no-some h
+pub number_said_lem : (f : Field) {z : ℤ} → number_said f ≡ some z → f ≡ number z
+unfolding number_said
+number_said_lem (number y) h = ap number (some_is h)
+number_said_lem blank h = no_some h
+number_said_lem unreadable h = no_some h
 
 -- fields that say numbers
-pub numbers-said : (zs : List ℤ) → each numberSaid (map number zs) ≡ some zs
-unfolding each numberSaid bind
-numbers-said [] = refl
-numbers-said (z ∷ zs) = let e = numbers-said zs in rw e
+pub numbers_said : (zs : List ℤ) → each number_said (map number zs) ≡ some zs
+unfolding each number_said bind
+numbers_said [] = refl
+numbers_said (z ∷ zs) = let e = numbers_said zs in rw e

@@ -6,9 +6,9 @@ use Rattle.std.specs.Prelude.{Bool, true, false, ◌&&◌, List, [], ◌∷◌, 
 use Rattle.std.proofs.Math.Option.{Option, none, some, bind}
 use Rattle.std.specs.Int.{w32}
 use Rattle.std.proofs.Common.{to_z, of_z}
-use Rattle.decimal.specs.Field.{Field, number, blank, unreadable, written, readsAt, put_at, newline}
-use Rattle.decimal.specs.Path.{Path, writtenPath}
-use Rattle.tophat.specs.Syntax.{maxLeaves}
+use Rattle.decimal.specs.Field.{Field, number, blank, unreadable, written, reads_at, put_at, newline}
+use Rattle.decimal.specs.Path.{Path, written_path}
+use Rattle.tophat.specs.Syntax.{max_leaves}
 use Rattle.tophat.specs.Leaves.{Given}
 use Rattle.formats.specs.declared.Leaf.{Leaf}
 use Rattle.formats.specs.declared.Leaves.{Leaves}
@@ -23,25 +23,25 @@ abbrev pub place_of : List ℕ → ℕ → ℕ
 place_of ws k = total (take k ws)
 
 -- the length of a record: its columns and byte 10
-abbrev pub recordBytes : List ℕ → ℕ
-recordBytes ws = total ws + 1
+abbrev pub record_bytes : List ℕ → ℕ
+record_bytes ws = total ws + 1
 
 -- ---- reading
 
 -- s has the length of a record of these fields, and ends in byte 10
-unfoldable pub isRecord : List ℕ → List ℕ → Bool
-isRecord ws s = eqb (length s) (recordBytes ws) && eqb (get_or s (total ws) 0) newline
+unfoldable pub is_record : List ℕ → List ℕ → Bool
+is_record ws s = eqb (length s) (record_bytes ws) && eqb (get_or s (total ws) 0) newline
 
 -- what fields of these widths say, one after another from `at` on
 unfoldable pub fields_at : List ℕ → ℕ → List ℕ → List Field
 fields_at s at [] = []
-fields_at s at (w ∷ ws) = readsAt s at w ∷ fields_at s (at + w) ws
+fields_at s at (w ∷ ws) = reads_at s at w ∷ fields_at s (at + w) ws
 
 -- the number that a field says, if it says one
-unfoldable pub numberSaid : Field → Option ℤ
-numberSaid (number z) = some z
-numberSaid blank = none
-numberSaid unreadable = none
+unfoldable pub number_said : Field → Option ℤ
+number_said (number z) = some z
+number_said blank = none
+number_said unreadable = none
 
 -- what f makes of each, if it makes something of each
 unfoldable pub each : {X Y : Type 0} → (X → Option Y) → List X → Option (List Y)
@@ -56,8 +56,8 @@ text_of none = []
 text_of (some t) = t
 
 -- a path's field
-abbrev pub pathField : Path → List ℕ
-pathField p = text_of (writtenPath p)
+abbrev pub path_field : Path → List ℕ
+path_field p = text_of (written_path p)
 
 -- a field's columns, and the number in it
 abbrev pub Item : Type 0
@@ -69,19 +69,19 @@ items_in (w ∷ ws) (z ∷ zs) = (w, z) ∷ items_in ws zs
 items_in [] zs = []
 items_in (w ∷ ws) [] = []
 
-abbrev pub itemText : Item → List ℕ
-itemText i = text_of (written i.0 i.1)
+abbrev pub item_text : Item → List ℕ
+item_text i = text_of (written i.0 i.1)
 
 -- fields one after another
-unfoldable pub itemsText : List Item → List ℕ
-itemsText [] = []
-itemsText (i ∷ is) = itemText i ++ itemsText is
+unfoldable pub items_text : List Item → List ℕ
+items_text [] = []
+items_text (i ∷ is) = item_text i ++ items_text is
 
 -- fields one after another from `at` on, over the bytes s. A number too long for its columns, and a field that s does not have,
 -- leave the bytes there as they are
-unfoldable pub putItems : List ℕ → ℕ → List Item → List ℕ
-putItems s at [] = s
-putItems s at (i ∷ is) = putItems (put_at s at i.0 (written i.0 i.1)).1 (at + i.0) is
+unfoldable pub put_items : List ℕ → ℕ → List Item → List ℕ
+put_items s at [] = s
+put_items s at (i ∷ is) = put_items (put_at s at i.0 (written i.0 i.1)).1 (at + i.0) is
 
 -- ---- a number for each leaf, as code has them: bits
 
@@ -90,24 +90,24 @@ abbrev pub items_of : ℕ → List ℕ → List Item
 items_of w ns = map (λ n. (w, to_z w32 n)) ns
 
 -- the bits of a leaf of an event, and whether it is blank
-unfoldable pub leafBits : Given → ℕ
-leafBits none = 0
-leafBits (some z) = of_z w32 z
+unfoldable pub leaf_bits : Given → ℕ
+leaf_bits none = 0
+leaf_bits (some z) = of_z w32 z
 
-unfoldable pub isBlank : Given → Bool
-isBlank none = true
-isBlank (some z) = false
+unfoldable pub is_blank : Given → Bool
+is_blank none = true
+is_blank (some z) = false
 
 -- the code's answer for a role (CR 6); 0 where none is said
-unfoldable pub roleRead : Option ℕ → ℕ
-roleRead none = 0
-roleRead (some r) = r
+unfoldable pub role_read : Option ℕ → ℕ
+role_read none = 0
+role_read (some r) = r
 
 -- the code's answer for a leaf, and for all of them; zeros where one cannot be read
-unfoldable pub leafRead : Option Given → Leaf
-leafRead none = record { readable = false; bits = 0; blank = false }
-leafRead (some l) = record { readable = true; bits = leafBits l; blank = isBlank l }
+unfoldable pub leaf_read : Option Given → Leaf
+leaf_read none = record { readable = false; bits = 0; blank = false }
+leaf_read (some l) = record { readable = true; bits = leaf_bits l; blank = is_blank l }
 
-unfoldable pub leavesRead : Option (List Given) → Leaves
-leavesRead none = record { readable = false; words = replicate maxLeaves 0; blank = replicate maxLeaves false }
-leavesRead (some ls) = record { readable = true; words = map leafBits ls; blank = map isBlank ls }
+unfoldable pub leaves_read : Option (List Given) → Leaves
+leaves_read none = record { readable = false; words = replicate max_leaves 0; blank = replicate max_leaves false }
+leaves_read (some ls) = record { readable = true; words = map leaf_bits ls; blank = map is_blank ls }

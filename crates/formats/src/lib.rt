@@ -3,10 +3,10 @@
 ghost use Rattle.std.specs.Prelude.{◌≡◌, ◌+◌, ◌*◌, ◌<◌, length, replicate};
 ghost use Rattle.std.specs.Int.{w32};
 ghost use Rattle.std.proofs.Common.{to_z};
-ghost use Rattle.decimal.specs.Field.{number, readsAt};
-ghost use Rattle.tophat.specs.Syntax.{maxLeaves};
-ghost use Rattle.formats.specs.Records.{fields_at, each, putItems, items_of, roleRead, leafRead, leavesRead};
-ghost use Rattle.formats.specs.Touches.{roleSaid, eventRole, leafSaid};
+ghost use Rattle.decimal.specs.Field.{number, reads_at};
+ghost use Rattle.tophat.specs.Syntax.{max_leaves};
+ghost use Rattle.formats.specs.Records.{fields_at, each, put_items, items_of, role_read, leaf_read, leaves_read};
+ghost use Rattle.formats.specs.Touches.{role_said, event_role, leaf_said};
 
 use decimal::field;
 use decimal::field::{ACTION_COLUMNS, ROW_COLUMNS, Reading, WORD_COLUMNS};
@@ -61,7 +61,7 @@ pub struct Leaves {
 
 // The role of these bits, 0 where they are none's.
 fn as_role(bits: u32) -> u32
-    ensures { result ≡ roleRead (roleSaid (number (to_z w32 bits))) }
+    ensures { result ≡ role_read (role_said (number (to_z w32 bits))) }
 {
     if is_role(bits) {
         return bits;
@@ -71,7 +71,7 @@ fn as_role(bits: u32) -> u32
 
 // The role that an event's first columns say, 0 where they say none of 1 to 8 (CR 6). The rest of the event is not read.
 pub fn read_role(s: &[u8]) -> u32
-    ensures { result ≡ roleRead (eventRole s.now) }
+    ensures { result ≡ role_read (event_role s.now) }
 {
     let reading = field::read(s, 0, ROLE_COLUMNS);
     match reading {
@@ -83,7 +83,7 @@ pub fn read_role(s: &[u8]) -> u32
 
 // The leaf in the field of `width` columns from `at` on.
 fn read_leaf(s: &[u8], at: usize, width: usize) -> Leaf
-    ensures { result ≡ leafRead (leafSaid (readsAt s.now at width)) }
+    ensures { result ≡ leaf_read (leaf_said (reads_at s.now at width)) }
 {
     let reading = field::read(s, at, width);
     match reading {
@@ -107,8 +107,8 @@ fn read_leaf(s: &[u8], at: usize, width: usize) -> Leaf
 
 // The leaves in fields of `width` columns, one after another from `at` on.
 pub fn read_leaves(s: &[u8], at: usize, width: usize) -> Leaves
-    requires { at + maxLeaves * width < 4294967296 }
-    ensures { result ≡ leavesRead (each leafSaid (fields_at s.now at (replicate maxLeaves width))) }
+    requires { at + max_leaves * width < 4294967296 }
+    ensures { result ≡ leaves_read (each leaf_said (fields_at s.now at (replicate max_leaves width))) }
 {
     let mut words = [0u32; MAX_LEAVES];
     let mut blank = [false; MAX_LEAVES];
@@ -134,9 +134,9 @@ pub fn read_leaves(s: &[u8], at: usize, width: usize) -> Leaves
 // The numbers into fields of `width` columns, one after another from `at` on. Where the slice does not have a field, or a number
 // does not fit it, its bytes stay. How many numbers there are, which only a function that is lent an array learns, is told.
 pub fn write_numbers(s: &mut [u8], at: usize, width: usize, numbers: [u32; MAX_LEAVES])
-    requires { at + maxLeaves * width < 4294967296 }
-    ensures s_after { s.new ≡ putItems s.old at (items_of width numbers) }
-    ensures numbers_len { length numbers ≡ maxLeaves }
+    requires { at + max_leaves * width < 4294967296 }
+    ensures s_after { s.new ≡ put_items s.old at (items_of width numbers) }
+    ensures numbers_len { length numbers ≡ max_leaves }
 {
     for i in 0..MAX_LEAVES {
         field::write(s, at + i * width, width, numbers[i]);

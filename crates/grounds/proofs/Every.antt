@@ -15,34 +15,34 @@ module _ {w : Bool} (p q r : Bool) (e : w ≡ (p && (q && r))) {x : Bool} (f : x
   pub not_first : not x ≡ true → false ≡ w
   not_first t = sym (e ∙ rw (sym f, not-true x t))
 
-  pub not-second : not x ≡ false → {y : Bool} → y ≡ q → not y ≡ true → false ≡ w
-  not-second t {y} g h = sym (e ∙ rw (sym f, not-false x t, sym g, not-true y h))
+  pub not_second : not x ≡ false → {y : Bool} → y ≡ q → not y ≡ true → false ≡ w
+  not_second t {y} g h = sym (e ∙ rw (sym f, not-false x t, sym g, not-true y h))
 
   pub third : not x ≡ false → {y : Bool} → y ≡ q → not y ≡ false → {z : Bool} → z ≡ r → z ≡ w
   third t {y} g h k = k ∙ sym (e ∙ rw (sym f, not-false x t, sym g, not-false y h))
 
 module _ (p : ℕ → Bool) where
-  pub every-none : every 0 p ≡ true
+  pub every_none : every 0 p ≡ true
   unfolding every
-  every-none = refl
+  every_none = refl
 
-  pub every-so : (i : ℕ) → every i p ≡ true → true ≡ p i → every (i + 1) p ≡ true
+  pub every_so : (i : ℕ) → every i p ≡ true → true ≡ p i → every (i + 1) p ≡ true
   unfolding every
-  every-so i h e = rw (add-one, h, sym e)
+  every_so i h e = rw (add-one, h, sym e)
 
-  pub every-not : (n i : ℕ) → i < n → false ≡ p i → false ≡ every n p
+  pub every_not : (n i : ℕ) → i < n → false ≡ p i → false ≡ every n p
   unfolding every
-  every-not zero i h e = absurd (omega arith)
-  every-not (suc n) i h e = ⊎_elim
+  every_not zero i h e = absurd (omega arith)
+  every_not (suc n) i h e = ⊎_elim
       (λ (q : i ≡ n). let z : p n ≡ false = ap p (sym q) ∙ sym e in sym (rw z (and-false (every n p))))
-      (λ (q : i < n). ap (λ y. y && p n) (every-not n i q e)) (eq-or-lt_of_le (le_of_suc-le-suc h))
+      (λ (q : i < n). ap (λ y. y && p n) (every_not n i q e)) (eq-or-lt_of_le (le_of_suc-le-suc h))
 
   -- as a test `if !x` leaves it
   pub every_more : (i : ℕ) (x : Bool) → every i p ≡ true → x ≡ p i → not x ≡ false → every (i + 1) p ≡ true
-  every_more i x h e t = every-so i h (sym (not-false x t) ∙ e)
+  every_more i x h e t = every_so i h (sym (not-false x t) ∙ e)
 
-  pub every-broken : (n i : ℕ) (x : Bool) → i < n → x ≡ p i → not x ≡ true → false ≡ every n p
-  every-broken n i x h e t = every-not n i h (sym (not-true x t) ∙ e)
+  pub every_broken : (n i : ℕ) (x : Bool) → i < n → x ≡ p i → not x ≡ true → false ≡ every n p
+  every_broken n i x h e t = every_not n i h (sym (not-true x t) ∙ e)
 
-  pub every-all : (n i : ℕ) → every i p ≡ true → i ≡ n → true ≡ every n p
-  every-all n i h e = sym h ∙ ap (λ k. every k p) e
+  pub every_all : (n i : ℕ) → every i p ≡ true → i ≡ n → true ≡ every n p
+  every_all n i h e = sym h ∙ ap (λ k. every k p) e

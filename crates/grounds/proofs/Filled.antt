@@ -8,8 +8,8 @@ use lib.Seq.{take-suc-set}
 
 module _ {A : Type 0} (g : A → ℕ) where
   -- an entry that is read, at a row that is lower or not
-  pub entry-is : (d : A) → g d ≡ 0 → (t : List ℕ) (l : List A) (i w : ℕ) → take i t ≡ map g l → get_or (take i t) w 0 ≡ g (get_or l w d)
-  entry-is d z t l i w e = ap (λ m. get_or m w 0) e ∙ ap (λ k. get_or (map g l) w k) (sym z) ∙ get_or-map g l w d
+  pub entry_is : (d : A) → g d ≡ 0 → (t : List ℕ) (l : List A) (i w : ℕ) → take i t ≡ map g l → get_or (take i t) w 0 ≡ g (get_or l w d)
+  entry_is d z t l i w e = ap (λ m. get_or m w 0) e ∙ ap (λ k. get_or (map g l) w k) (sym z) ∙ get_or-map g l w d
 
   -- an entry that is written
   pub one_more : (t : List ℕ) (l : List A) (i v : ℕ) (x : A) → take i t ≡ map g l → i < length t → v ≡ g x → take (i + 1) (set t i v) ≡ map g (l ++ x ∷ [])

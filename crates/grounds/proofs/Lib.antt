@@ -5,6 +5,5 @@ pub mod Ground4
 pub mod Stop
 pub mod Ground5
 pub mod Ground6
-pub mod Narrow
 pub mod Grounds
 pub mod UnusedWords

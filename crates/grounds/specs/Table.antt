@@ -1,7 +1,7 @@
 -- The code's enums as the table's entries (rows, Kinds). Rests on the declarations of src/table.rt.
 -- For contracts only: tied to rows' table by the contract of `asks_of`.
-use Rattle.rows.specs.Kinds.{Ask, unused, operator, truth, anyWord, a_type, aBasic, aCell, aPlain, aTask, aBranch, likeB, aRole, someTouches}
-use Rattle.rows.specs.Kinds.{typeS, basicS, cell_s, plainS, taskS, Own, is, asB, Around, nothing, binder, mark, Asks, asks, noAsks}
+use Rattle.rows.specs.Kinds.{Ask, unused, operator, truth, any_word, a_type, a_basic, a_cell, a_plain, a_task, a_branch, like_b, a_role, some_touches}
+use Rattle.rows.specs.Kinds.{type_s, basic_s, cell_s, plain_s, task_s, Own, is, as_b, Around, nothing, binder, mark, Asks, asks, no_asks}
 use Rattle.grounds.specs.declared.table.Ask.{Ask as CodeAsk}
 use Rattle.grounds.specs.declared.table.Ask.TheVariants.{Unused, Operator, Truth, AnyWord, AType, ABasic, ACell, APlain, ATask, ABranch, LikeB, ARole, SomeTouches}
 use Rattle.grounds.specs.declared.table.Own.{Own as CodeOwn}
@@ -11,34 +11,34 @@ use Rattle.grounds.specs.declared.table.Around.TheVariants.{Nothing, Binder, Mar
 use Rattle.grounds.specs.declared.table.Asks.{Asks as CodeAsks}
 use Rattle.grounds.specs.declared.table.Asks.TheVariants.{Known, Unknown}
 
-abbrev pub askBy : CodeAsk → Ask
-askBy Unused = unused
-askBy Operator = operator
-askBy Truth = truth
-askBy AnyWord = anyWord
-askBy AType = a_type
-askBy ABasic = aBasic
-askBy ACell = aCell
-askBy APlain = aPlain
-askBy ATask = aTask
-askBy ABranch = aBranch
-askBy LikeB = likeB
-askBy ARole = aRole
-askBy SomeTouches = someTouches
+abbrev pub ask_by : CodeAsk → Ask
+ask_by Unused = unused
+ask_by Operator = operator
+ask_by Truth = truth
+ask_by AnyWord = any_word
+ask_by AType = a_type
+ask_by ABasic = a_basic
+ask_by ACell = a_cell
+ask_by APlain = a_plain
+ask_by ATask = a_task
+ask_by ABranch = a_branch
+ask_by LikeB = like_b
+ask_by ARole = a_role
+ask_by SomeTouches = some_touches
 
-abbrev pub ownBy : CodeOwn → Own
-ownBy OwnType = is typeS
-ownBy OwnBasic = is basicS
-ownBy OwnCell = is cell_s
-ownBy OwnPlain = is plainS
-ownBy OwnTask = is taskS
-ownBy AsB = asB
+abbrev pub own_by : CodeOwn → Own
+own_by OwnType = is type_s
+own_by OwnBasic = is basic_s
+own_by OwnCell = is cell_s
+own_by OwnPlain = is plain_s
+own_by OwnTask = is task_s
+own_by AsB = as_b
 
-abbrev pub aroundBy : CodeAround → Around
-aroundBy Nothing = nothing
-aroundBy Binder = binder
-aroundBy Mark = mark
+abbrev pub around_by : CodeAround → Around
+around_by Nothing = nothing
+around_by Binder = binder
+around_by Mark = mark
 
-abbrev pub asksBy : CodeAsks → Asks
-asksBy (Known p q r o x) = asks (askBy p) (askBy q) (askBy r) (ownBy o) (aroundBy x)
-asksBy Unknown = noAsks
+abbrev pub asks_by : CodeAsks → Asks
+asks_by (Known p q r o x) = asks (ask_by p) (ask_by q) (ask_by r) (own_by o) (around_by x)
+asks_by Unknown = no_asks

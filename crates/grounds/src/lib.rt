@@ -16,14 +16,14 @@ mod small; // ground 6
 pub mod operands; // which are unused
 
 ghost use Rattle.std.specs.Prelude.{◌≡◌, ◌≤◌};
-ghost use Rattle.rows.specs.Rows.{maxRows};
-ghost use Rattle.rows.specs.Ground.{groundOfRows};
-ghost use Rattle.grounds.specs.Accepted.{groundOfForm, acceptedRows};
+ghost use Rattle.rows.specs.Rows.{max_rows};
+ghost use Rattle.rows.specs.Ground.{ground_of_rows};
+ghost use Rattle.grounds.specs.Accepted.{ground_of_form, accepted_rows};
 
 // grounds 3 to 6: 0 where none holds
 pub fn ground_of_form(rows: &[u32; ROWS_WORDS], n: usize) -> u32
-    requires { (1 ≤ n) × (n ≤ maxRows) }
-    ensures { result ≡ groundOfForm rows.now n }
+    requires { (1 ≤ n) × (n ≤ max_rows) }
+    ensures { result ≡ ground_of_form rows.now n }
 {
     if !listed::listed(rows, n) {
         return NOT_LISTED;
@@ -42,8 +42,8 @@ pub fn ground_of_form(rows: &[u32; ROWS_WORDS], n: usize) -> u32
 
 // grounds 3 to 7
 pub fn ground_of_rows(rows: &[u32; ROWS_WORDS], n: usize) -> u32
-    requires { (1 ≤ n) × (n ≤ maxRows) }
-    ensures { result ≡ groundOfRows rows.now n }
+    requires { (1 ≤ n) × (n ≤ max_rows) }
+    ensures { result ≡ ground_of_rows rows.now n }
 {
     let form = ground_of_form(rows, n);
     if form != 0 {
@@ -57,7 +57,7 @@ pub fn ground_of_rows(rows: &[u32; ROWS_WORDS], n: usize) -> u32
 
 // Ground 20 does not hold: the first so many words are rows that an accepted sheet loads to.
 pub fn accepted_rows(rows: &[u32; ROWS_WORDS], words: usize) -> bool
-    ensures { result ≡ acceptedRows rows.now words }
+    ensures { result ≡ accepted_rows rows.now words }
 {
     if words == 0 {
         return false;

@@ -1,8 +1,8 @@
 // Ground 3: a kind, operator, truth, role, number of touches or unused operand not as listed.
 
 ghost use Rattle.std.specs.Prelude.{◌≡◌, ◌&&◌, ◌<◌, ◌≤◌, leb};
-ghost use Rattle.rows.specs.Rows.{maxRows, listedAs, listed, truthCell, rowListed, every};
-ghost use Rattle.grounds.specs.Table.{askBy, asksBy};
+ghost use Rattle.rows.specs.Rows.{max_rows, listed_as, listed, truth_cell, row_listed, every};
+ghost use Rattle.grounds.specs.Table.{ask_by, asks_by};
 
 use crate::table::{Ask, Asks, asks_at};
 use rows::kinds::{CELL, TRUTH};
@@ -19,7 +19,7 @@ fn is_operator(w: u32) -> bool
 }
 
 fn listed_as(q: Ask, w: u32) -> bool
-    ensures { result ≡ listedAs (askBy q) w }
+    ensures { result ≡ listed_as (ask_by q) w }
 {
     match q {
         Ask::Unused => w == 0,
@@ -39,7 +39,7 @@ fn listed_as(q: Ask, w: u32) -> bool
 }
 
 fn operands_listed(s: Asks, a: u32, b: u32, c: u32) -> bool
-    ensures { result ≡ listed (asksBy s) a b c }
+    ensures { result ≡ listed (asks_by s) a b c }
 {
     let Asks::Known(p, q, t, _, _) = s else {
         return false;
@@ -54,8 +54,8 @@ fn operands_listed(s: Asks, a: u32, b: u32, c: u32) -> bool
 }
 
 fn truth_cell(rows: &[u32; ROWS_WORDS], i: usize) -> bool
-    requires { i < maxRows }
-    ensures { result ≡ truthCell rows.now i }
+    requires { i < max_rows }
+    ensures { result ≡ truth_cell rows.now i }
 {
     if get(rows, i, 0) != CELL {
         return true;
@@ -71,8 +71,8 @@ fn truth_cell(rows: &[u32; ROWS_WORDS], i: usize) -> bool
 }
 
 fn row_listed(rows: &[u32; ROWS_WORDS], i: usize) -> bool
-    requires { i < maxRows }
-    ensures { result ≡ rowListed rows.now i }
+    requires { i < max_rows }
+    ensures { result ≡ row_listed rows.now i }
 {
     let s = asks_at(rows, i);
     let a = get(rows, i, 1);
@@ -85,8 +85,8 @@ fn row_listed(rows: &[u32; ROWS_WORDS], i: usize) -> bool
 }
 
 pub fn listed(rows: &[u32; ROWS_WORDS], n: usize) -> bool
-    requires { n ≤ maxRows }
-    ensures { result ≡ every n (rowListed rows.now) }
+    requires { n ≤ max_rows }
+    ensures { result ≡ every n (row_listed rows.now) }
 {
     for i in 0..n {
         if !row_listed(rows, i) {

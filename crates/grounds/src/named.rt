@@ -1,9 +1,9 @@
 // Ground 5: the naming rule broken, or the last row of a kind below 25 or 26 to 30. Namings are counted in one pass.
 
 ghost use Rattle.std.specs.Prelude.{◌≡◌, ◌&&◌, ℕ, ◌+◌, ◌-◌, ◌<◌, ◌≤◌, eqb, get_or};
-ghost use Rattle.rows.specs.Rows.{maxRows, names, count, namesBy, namesIn, namings, namedOnce, fitsLast, lastFits, every};
-ghost use Rattle.grounds.specs.Table.{askBy, asksBy};
-ghost use Rattle.grounds.specs.Tables.{stop, More, maxNamings};
+ghost use Rattle.rows.specs.Rows.{max_rows, names, count, names_by, names_in, namings, named_once, fits_last, last_fits, every};
+ghost use Rattle.grounds.specs.Table.{ask_by, asks_by};
+ghost use Rattle.grounds.specs.Tables.{stop, More, max_namings};
 
 use crate::table::{Ask, Asks, asks_at, names_row};
 use rows::kinds::FIRST_EXPRESSION;
@@ -13,7 +13,7 @@ use rows::{MAX_ROWS, ROWS_WORDS, get};
 const MAX_NAMINGS: u8 = 2;
 
 fn name(table: &mut [u8; MAX_ROWS], q: Ask, w: u32)
-    ensures { More table.old table.new (λ i. count (names (askBy q) && eqb w i)) }
+    ensures { More table.old table.new (λ i. count (names (ask_by q) && eqb w i)) }
 {
     if !names_row(q) {
         return;
@@ -30,7 +30,7 @@ fn name(table: &mut [u8; MAX_ROWS], q: Ask, w: u32)
 }
 
 fn name_operands(table: &mut [u8; MAX_ROWS], s: Asks, a: u32, b: u32, c: u32)
-    ensures { More table.old table.new (λ i. namesBy (asksBy s) a b c i) }
+    ensures { More table.old table.new (λ i. names_by (asks_by s) a b c i) }
 {
     let Asks::Known(p, q, t, _, _) = s else {
         return;
@@ -41,8 +41,8 @@ fn name_operands(table: &mut [u8; MAX_ROWS], s: Asks, a: u32, b: u32, c: u32)
 }
 
 fn name_row(rows: &[u32; ROWS_WORDS], table: &mut [u8; MAX_ROWS], j: usize)
-    requires { j < maxRows }
-    ensures { More table.old table.new (λ i. namesIn rows.now i j) }
+    requires { j < max_rows }
+    ensures { More table.old table.new (λ i. names_in rows.now i j) }
 {
     if get(rows, j, 0) < FIRST_EXPRESSION {
         return;
@@ -54,7 +54,7 @@ fn name_row(rows: &[u32; ROWS_WORDS], table: &mut [u8; MAX_ROWS], j: usize)
 }
 
 fn name_rows(rows: &[u32; ROWS_WORDS], table: &mut [u8; MAX_ROWS], n: usize)
-    requires { n ≤ maxRows }
+    requires { n ≤ max_rows }
     ensures { More table.old table.new (λ i. namings rows.now i n) }
 {
     for j in 0..n {
@@ -64,8 +64,8 @@ fn name_rows(rows: &[u32; ROWS_WORDS], table: &mut [u8; MAX_ROWS], n: usize)
 
 // row i is named as it must be, where x is its namings by n rows
 fn named_once(rows: &[u32; ROWS_WORDS], n: usize, i: usize, x: u8) -> bool
-    requires { (i < n) × (n ≤ maxRows) × (x ≡ stop maxNamings (namings rows.now i n)) }
-    ensures { result ≡ namedOnce rows.now n i }
+    requires { (i < n) × (n ≤ max_rows) × (x ≡ stop max_namings (namings rows.now i n)) }
+    ensures { result ≡ named_once rows.now n i }
 {
     if get(rows, i, 0) < FIRST_EXPRESSION {
         return true;
@@ -77,8 +77,8 @@ fn named_once(rows: &[u32; ROWS_WORDS], n: usize, i: usize, x: u8) -> bool
 }
 
 fn all_named(rows: &[u32; ROWS_WORDS], n: usize, table: &[u8; MAX_ROWS]) -> bool
-    requires { (n ≤ maxRows) × ((i : ℕ) → i < maxRows → get_or table.now i 0 ≡ stop maxNamings (namings rows.now i n)) }
-    ensures { result ≡ every n (namedOnce rows.now n) }
+    requires { (n ≤ max_rows) × ((i : ℕ) → i < max_rows → get_or table.now i 0 ≡ stop max_namings (namings rows.now i n)) }
+    ensures { result ≡ every n (named_once rows.now n) }
 {
     for i in 0..n {
         if !named_once(rows, n, i, table[i]) {
@@ -89,7 +89,7 @@ fn all_named(rows: &[u32; ROWS_WORDS], n: usize, table: &[u8; MAX_ROWS]) -> bool
 }
 
 fn last_fits(k: u32) -> bool
-    ensures { result ≡ fitsLast k }
+    ensures { result ≡ fits_last k }
 {
     match k {
         0..=24 => false,
@@ -99,8 +99,8 @@ fn last_fits(k: u32) -> bool
 }
 
 pub fn named(rows: &[u32; ROWS_WORDS], n: usize) -> bool
-    requires { (1 ≤ n) × (n ≤ maxRows) }
-    ensures { result ≡ (every n (namedOnce rows.now n) && lastFits rows.now (n - 1)) }
+    requires { (1 ≤ n) × (n ≤ max_rows) }
+    ensures { result ≡ (every n (named_once rows.now n) && last_fits rows.now (n - 1)) }
 {
     let mut table = [0u8; MAX_ROWS];
     name_rows(rows, &mut table, n);

@@ -1,13 +1,13 @@
 // Which operands of a row are unused, by the line of its kind in the table of kinds (CR 2: a blank is 0 there).
 
 ghost use Rattle.std.specs.Prelude.{◌≡◌, false, ◌∷◌, get_or};
-ghost use Rattle.rows.specs.Kinds.{isUnused, unusedOf};
-ghost use Rattle.grounds.specs.Table.{askBy};
+ghost use Rattle.rows.specs.Kinds.{is_unused, unused_of};
+ghost use Rattle.grounds.specs.Table.{ask_by};
 
 use crate::table::{Ask, Asks, asks_of};
 
 fn is_unused(q: Ask) -> bool
-    ensures { result ≡ isUnused (askBy q) }
+    ensures { result ≡ is_unused (ask_by q) }
 {
     match q {
         Ask::Unused => true,
@@ -28,7 +28,7 @@ fn is_unused(q: Ask) -> bool
 
 // Whether word k of a row of this kind is an unused operand. Word 0 is the kind itself; a number that is no kind uses all three.
 pub fn unused(kind: u32, k: usize) -> bool
-    ensures { result ≡ get_or (false ∷ unusedOf kind) k false }
+    ensures { result ≡ get_or (false ∷ unused_of kind) k false }
 {
     let Asks::Known(p, q, t, _, _) = asks_of(kind) else {
         return false;

@@ -1,12 +1,12 @@
 // Ground 6: a type row over 8 leaves, or over 16 binders or marks around a row. Counts stand in a table in eight bits,
-// filled from below. Each stops one past its limit, and no number on the way passes that (CR 9).
+// filled from below; each stops one past its limit.
 
 ghost use Rattle.std.specs.Prelude.{◌≡◌, cond, suc, ◌+◌, ◌<◌, ◌≤◌, max};
-ghost use Rattle.tophat.specs.Syntax.{maxLeaves};
-ghost use Rattle.rows.specs.Rows.{maxRows, names, every};
-ghost use Rattle.rows.specs.Enclosing.{maxBinders, maxMarks, bindersBy, marksBy, mostBinders, mostMarks, leavesBy, rowSmall};
-ghost use Rattle.grounds.specs.Table.{askBy, aroundBy, asksBy};
-ghost use Rattle.grounds.specs.Counts.{Stopped, countBy, most_of, count_of, fewAt, CountsTo};
+ghost use Rattle.rows.specs.Rows.{max_rows, names, every};
+ghost use Rattle.rows.specs.Enclosing.{max_binders, binders_by, marks_by, most_binders, most_marks, leaves_by, row_small};
+ghost use Rattle.grounds.specs.Table.{ask_by, around_by, asks_by};
+ghost use Rattle.grounds.specs.Tables.{stop};
+ghost use Rattle.grounds.specs.Counts.{count_by, most_of, count_of, few_at, CountsTo};
 
 use crate::table::{Around, Ask, Asks, Own, asks_at, below, names_row};
 use rows::{MAX_ROWS, ROW_WORDS, ROWS_WORDS, get};
@@ -44,7 +44,7 @@ fn larger(a: u8, b: u8) -> u8
 }
 
 fn if_named(q: Ask, a: u8) -> u8
-    ensures { result ≡ cond (names (askBy q)) a 0 }
+    ensures { result ≡ cond (names (ask_by q)) a 0 }
 {
     if names_row(q) {
         return a;
@@ -53,7 +53,7 @@ fn if_named(q: Ask, a: u8) -> u8
 }
 
 fn binder_of(x: Around) -> u8
-    ensures { (result ≡ bindersBy (aroundBy x)) × (result ≤ 1) }
+    ensures { (result ≡ binders_by (around_by x)) × (result ≤ 1) }
 {
     match x {
         Around::Nothing => 0,
@@ -63,7 +63,7 @@ fn binder_of(x: Around) -> u8
 }
 
 fn mark_of(x: Around) -> u8
-    ensures { (result ≡ marksBy (aroundBy x)) × (result ≤ 1) }
+    ensures { (result ≡ marks_by (around_by x)) × (result ≤ 1) }
 {
     match x {
         Around::Nothing => 0,
@@ -72,32 +72,20 @@ fn mark_of(x: Around) -> u8
     }
 }
 
-// a sum of two counts
-fn stopped_sum(most: u8, a: u8, b: u8) -> u8
-    requires { (a ≤ suc most) × (b ≤ suc most) × (most ≤ maxBinders) }
-    ensures { Stopped most (a + b) result }
-{
-    let end = most + 1;
-    if end - a < b {
-        return end;
-    }
-    a + b
-}
-
 // leaves of a type row: one, or those of a pair
 fn type_leaves(p: Ask, a: u8, b: u8) -> u8
-    requires { (a ≤ suc maxLeaves) × (b ≤ suc maxLeaves) }
-    ensures { Stopped maxLeaves (cond (names (askBy p)) (a + b) 1) result }
+    requires { (a ≤ suc max_binders) × (b ≤ suc max_binders) }
+    ensures { result ≡ cond (names (ask_by p)) (a + b) 1 }
 {
     if names_row(p) {
-        return stopped_sum(MAX_LEAVES, a, b);
+        return a + b;
     }
     1
 }
 
 fn leaves_by(s: Asks, a: u8, b: u8, c: u8) -> u8
-    requires { (a ≤ suc maxLeaves) × (b ≤ suc maxLeaves) }
-    ensures { Stopped maxLeaves (leavesBy (asksBy s) a b c) result }
+    requires { (a ≤ suc max_binders) × (b ≤ suc max_binders) }
+    ensures { result ≡ leaves_by (asks_by s) a b c }
 {
     let Asks::Known(p, _, _, o, _) = s else {
         return 0;
@@ -113,35 +101,35 @@ fn leaves_by(s: Asks, a: u8, b: u8, c: u8) -> u8
 }
 
 fn binders_by(s: Asks, a: u8, b: u8, c: u8) -> u8
-    requires { (a ≤ suc maxBinders) × (b ≤ suc maxBinders) × (c ≤ suc maxBinders) }
-    ensures { Stopped maxBinders (mostBinders (asksBy s) a b c) result }
+    requires { b ≤ suc max_binders }
+    ensures { result ≡ most_binders (asks_by s) a b c }
 {
     let Asks::Known(p, q, t, _, x) = s else {
         return 0;
     };
     let u = if_named(p, a);
-    let v = if_named(q, stopped_sum(MAX_BINDERS, binder_of(x), b));
+    let v = if_named(q, binder_of(x) + b);
     let w = if_named(t, c);
     larger(u, larger(v, w))
 }
 
 fn marks_by(s: Asks, a: u8, b: u8, c: u8) -> u8
-    requires { (a ≤ suc maxMarks) × (b ≤ suc maxMarks) × (c ≤ suc maxMarks) }
-    ensures { Stopped maxMarks (mostMarks (asksBy s) a b c) result }
+    requires { (a ≤ suc max_binders) × (b ≤ suc max_binders) }
+    ensures { result ≡ most_marks (asks_by s) a b c }
 {
     let Asks::Known(p, q, t, _, x) = s else {
         return 0;
     };
     let m = mark_of(x);
-    let u = if_named(p, stopped_sum(MAX_MARKS, m, a));
-    let v = if_named(q, stopped_sum(MAX_MARKS, m, b));
+    let u = if_named(p, m + a);
+    let v = if_named(q, m + b);
     let w = if_named(t, c);
     larger(u, larger(v, w))
 }
 
 fn count_by(w: Counted, s: Asks, a: u8, b: u8, c: u8) -> u8
-    requires { (a ≤ suc (most_of w)) × (b ≤ suc (most_of w)) × (c ≤ suc (most_of w)) }
-    ensures { Stopped (most_of w) (countBy w (asksBy s) a b c) result }
+    requires { (a ≤ suc (most_of w)) × (b ≤ suc (most_of w)) }
+    ensures { result ≡ count_by w (asks_by s) a b c }
 {
     match w {
         Counted::Leaves => leaves_by(s, a, b, c),
@@ -150,20 +138,25 @@ fn count_by(w: Counted, s: Asks, a: u8, b: u8, c: u8) -> u8
     }
 }
 
-// a row's count, by those of its operands in the table
+// a row's count, or one more than the limit
 fn row_count(rows: &[u32; ROWS_WORDS], table: &[u8; MAX_ROWS], i: usize, w: Counted) -> u8
-    requires { (i < maxRows) × CountsTo w rows.now table.now i }
-    ensures { Stopped (most_of w) (count_of w rows.now i) result }
+    requires { (i < max_rows) × CountsTo w rows.now table.now i }
+    ensures { (result ≡ stop (suc (most_of w)) (count_of w rows.now i)) × (result ≤ suc (most_of w)) }
 {
     let a = below(table, i, get(rows, i, 1));
     let b = below(table, i, get(rows, i, 2));
     let c = below(table, i, get(rows, i, 3));
-    count_by(w, asks_at(rows, i), a, b, c)
+    let x = count_by(w, asks_at(rows, i), a, b, c);
+    let most = most_of(w);
+    if x <= most {
+        return x;
+    }
+    most + 1
 }
 
 fn few(rows: &[u32; ROWS_WORDS], n: usize, w: Counted) -> bool
-    requires { n ≤ maxRows }
-    ensures { result ≡ every n (fewAt w rows.now) }
+    requires { n ≤ max_rows }
+    ensures { result ≡ every n (few_at w rows.now) }
 {
     let mut table = [0u8; MAX_ROWS];
     let most = most_of(w);
@@ -178,8 +171,8 @@ fn few(rows: &[u32; ROWS_WORDS], n: usize, w: Counted) -> bool
 }
 
 pub fn small(rows: &[u32; ROWS_WORDS], n: usize) -> bool
-    requires { n ≤ maxRows }
-    ensures { result ≡ every n (rowSmall rows.now) }
+    requires { n ≤ max_rows }
+    ensures { result ≡ every n (row_small rows.now) }
 {
     if !few(rows, n, Counted::Leaves) {
         return false;

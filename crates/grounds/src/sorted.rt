@@ -2,8 +2,8 @@
 
 ghost use Rattle.std.specs.Prelude.{◌≡◌, ◌||◌, ◌<◌, ◌≤◌, eqb};
 ghost use Rattle.rows.specs.Kinds.{Sort};
-ghost use Rattle.rows.specs.Rows.{maxRows, asksAt, op_b, sortBy, sortBelow, sortNumber, sortedAs, sorted, rowSorted, every};
-ghost use Rattle.grounds.specs.Table.{askBy, asksBy};
+ghost use Rattle.rows.specs.Rows.{max_rows, asks_at, op_b, sort_by, sort_below, sort_number, sorted_as, sorted, row_sorted, every};
+ghost use Rattle.grounds.specs.Table.{ask_by, asks_by};
 ghost use Rattle.grounds.specs.Tables.{SortsTo};
 
 use crate::table::{Ask, Asks, Own, asks_at, below};
@@ -21,7 +21,7 @@ const TASK: u8 = 5;
 
 // the number of a row's own sort, where b is that of its B
 fn sort_by(s: Asks, b: u8) -> u8
-    ensures { (u : Sort) → b ≡ sortNumber u → result ≡ sortNumber (sortBy (asksBy s) u) }
+    ensures { (u : Sort) → b ≡ sort_number u → result ≡ sort_number (sort_by (asks_by s) u) }
 {
     let Asks::Known(_, _, _, o, _) = s else {
         return 0;
@@ -46,7 +46,7 @@ fn one_of(s: u8, a: u8, b: u8) -> bool
 }
 
 fn sorted_as(q: Ask, s: u8, b: u8) -> bool
-    ensures { (u v : Sort) → s ≡ sortNumber u → b ≡ sortNumber v → result ≡ sortedAs (askBy q) u v }
+    ensures { (u v : Sort) → s ≡ sort_number u → b ≡ sort_number v → result ≡ sorted_as (ask_by q) u v }
 {
     match q {
         Ask::Unused => true,
@@ -66,7 +66,7 @@ fn sorted_as(q: Ask, s: u8, b: u8) -> bool
 }
 
 fn operands_sorted(s: Asks, a: u8, b: u8, c: u8) -> bool
-    ensures { (u v w : Sort) → a ≡ sortNumber u → b ≡ sortNumber v → c ≡ sortNumber w → result ≡ sorted (asksBy s) u v w }
+    ensures { (u v w : Sort) → a ≡ sort_number u → b ≡ sort_number v → c ≡ sort_number w → result ≡ sorted (asks_by s) u v w }
 {
     let Asks::Known(p, q, t, _, _) = s else {
         return false;
@@ -81,8 +81,8 @@ fn operands_sorted(s: Asks, a: u8, b: u8, c: u8) -> bool
 }
 
 fn row_sorted(rows: &[u32; ROWS_WORDS], table: &[u8; MAX_ROWS], i: usize) -> bool
-    requires { (i < maxRows) × SortsTo rows.now table.now i }
-    ensures { result ≡ rowSorted rows.now i }
+    requires { (i < max_rows) × SortsTo rows.now table.now i }
+    ensures { result ≡ row_sorted rows.now i }
 {
     let a = below(table, i, get(rows, i, 1));
     let b = below(table, i, get(rows, i, 2));
@@ -91,16 +91,16 @@ fn row_sorted(rows: &[u32; ROWS_WORDS], table: &[u8; MAX_ROWS], i: usize) -> boo
 }
 
 fn own_sort(rows: &[u32; ROWS_WORDS], table: &[u8; MAX_ROWS], i: usize) -> u8
-    requires { (i < maxRows) × SortsTo rows.now table.now i }
-    ensures { result ≡ sortNumber (sortBy (asksAt rows.now i) (sortBelow rows.now i (op_b rows.now i))) }
+    requires { (i < max_rows) × SortsTo rows.now table.now i }
+    ensures { result ≡ sort_number (sort_by (asks_at rows.now i) (sort_below rows.now i (op_b rows.now i))) }
 {
     let b = below(table, i, get(rows, i, 2));
     sort_by(asks_at(rows, i), b)
 }
 
 pub fn sorted(rows: &[u32; ROWS_WORDS], n: usize) -> bool
-    requires { n ≤ maxRows }
-    ensures { result ≡ every n (rowSorted rows.now) }
+    requires { n ≤ max_rows }
+    ensures { result ≡ every n (row_sorted rows.now) }
 {
     let mut table = [0u8; MAX_ROWS];
     for i in 0..n {

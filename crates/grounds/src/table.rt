@@ -1,9 +1,9 @@
 // The table of kinds in code: what each operand must be, the row's own sort, and what it puts around the rows below it.
 
 ghost use Rattle.std.specs.Prelude.{◌≡◌, ◌<◌, ◌≤◌, get_or, take};
-ghost use Rattle.rows.specs.Kinds.{asksOf};
-ghost use Rattle.rows.specs.Rows.{maxRows, asksAt, names};
-ghost use Rattle.grounds.specs.Table.{askBy, asksBy};
+ghost use Rattle.rows.specs.Kinds.{asks_of};
+ghost use Rattle.rows.specs.Rows.{max_rows, asks_at, names};
+ghost use Rattle.grounds.specs.Table.{ask_by, asks_by};
 
 use crate::table::Around::*;
 use crate::table::Ask::*;
@@ -52,7 +52,7 @@ pub enum Asks {
 }
 
 pub fn asks_of(k: u32) -> Asks
-    ensures { asksBy result ≡ asksOf k }
+    ensures { asks_by result ≡ asks_of k }
 {
     match k {
         1 => Known(Unused, Unused, Unused, OwnType, Nothing),
@@ -83,7 +83,7 @@ pub fn asks_of(k: u32) -> Asks
 
 // the operand names a row
 pub fn names_row(q: Ask) -> bool
-    ensures { result ≡ names (askBy q) }
+    ensures { result ≡ names (ask_by q) }
 {
     match q {
         Ask::Unused => false,
@@ -103,15 +103,15 @@ pub fn names_row(q: Ask) -> bool
 }
 
 pub fn asks_at(rows: &[u32; ROWS_WORDS], i: usize) -> Asks
-    requires { i < maxRows }
-    ensures { asksBy result ≡ asksAt rows.now i }
+    requires { i < max_rows }
+    ensures { asks_by result ≡ asks_at rows.now i }
 {
     asks_of(get(rows, i, 0))
 }
 
 // what a table says of row w, where it is lower than row i; else 0
 pub fn below(table: &[u8; MAX_ROWS], i: usize, w: u32) -> u8
-    requires { i ≤ maxRows }
+    requires { i ≤ max_rows }
     ensures { result ≡ get_or (take i table.now) w 0 }
 {
     let at = w as usize;

@@ -12,38 +12,38 @@ use mir.Syntax.{w32}
 use mir.Val.{to_z}
 use Rattle.tophat.specs.Syntax.{Ty, leaves}
 use Rattle.tophat.specs.Leaves.{given}
-use Rattle.tophat.proofs.Blanks.{zeroed, blank-refused, given-zeroed}
-use Rattle.handle.specs.Events.{ZeroBlanks, leavesBy}
+use Rattle.tophat.proofs.Blanks.{zeroed, blank_refused, given_zeroed}
+use Rattle.handle.specs.Events.{ZeroBlanks, leaves_by}
 use Rattle.handle.specs.Taking.{NoneBlank}
 
 -- ---- none_blank, way by way
 
 module _ (bs : List Bool) (n : ℕ) where
-  pub some-blank : (k : ℕ) → k < n → get_or bs k false ≡ true → NoneBlank bs n false
-  some-blank k l e = record { yes = λ z. absurd (false≢true z); no = λ z. (k, l, e) }
+  pub some_blank : (k : ℕ) → k < n → get_or bs k false ≡ true → NoneBlank bs n false
+  some_blank k l e = record { yes = λ z. absurd (false≢true z); no = λ z. (k, l, e) }
 
-  pub none-blank : (k : ℕ) → n ≤ k → ((j : ℕ) → j < k → get_or bs j false ≡ false) → NoneBlank bs n true
-  none-blank k l h = record { yes = λ z j m. h j (omega arith); no = λ z. absurd (false≢true (sym z)) }
+  pub none_blank : (k : ℕ) → n ≤ k → ((j : ℕ) → j < k → get_or bs j false ≡ false) → NoneBlank bs n true
+  none_blank k l h = record { yes = λ z j m. h j (omega arith); no = λ z. absurd (false≢true (sym z)) }
 
 -- ---- leaves by bits and flags
 
-leaves-long : (ns : List ℕ) (bs : List Bool) → length (leavesBy ns bs) ≡ length ns
-unfolding leavesBy
-leaves-long [] bs = refl
-leaves-long (n ∷ ns) [] = ap suc (leaves-long ns [])
-leaves-long (n ∷ ns) (b ∷ bs) = ap suc (leaves-long ns bs)
+leaves_long : (ns : List ℕ) (bs : List Bool) → length (leaves_by ns bs) ≡ length ns
+unfolding leaves_by
+leaves_long [] bs = refl
+leaves_long (n ∷ ns) [] = ap suc (leaves_long ns [])
+leaves_long (n ∷ ns) (b ∷ bs) = ap suc (leaves_long ns bs)
 
 -- a flag is a blank leaf
-blank-by : (ns : List ℕ) (bs : List Bool) (j : ℕ) → j < length ns → get_or bs j false ≡ true → get_or (leavesBy ns bs) j (some (pos 0)) ≡ none
-unfolding leavesBy
-blank-by [] bs j l e = absurd (omega arith)
-blank-by (n ∷ ns) [] j l e = absurd (false≢true e)
-blank-by (n ∷ ns) (b ∷ bs) zero l e = ap (λ b. cond b none (some (to_z w32 n))) e
-blank-by (n ∷ ns) (b ∷ bs) (suc j) l e = blank-by ns bs j (omega arith) e
+blank_by : (ns : List ℕ) (bs : List Bool) (j : ℕ) → j < length ns → get_or bs j false ≡ true → get_or (leaves_by ns bs) j (some (pos 0)) ≡ none
+unfolding leaves_by
+blank_by [] bs j l e = absurd (omega arith)
+blank_by (n ∷ ns) [] j l e = absurd (false≢true e)
+blank_by (n ∷ ns) (b ∷ bs) zero l e = ap (λ b. cond b none (some (to_z w32 n))) e
+blank_by (n ∷ ns) (b ∷ bs) (suc j) l e = blank_by ns bs j (omega arith) e
 
 -- and nothing else is
-flag_by : (ns : List ℕ) (bs : List Bool) (j : ℕ) → get_or bs j false ≡ false → get_or (leavesBy ns bs) j (some (pos 0)) ≡ none → ⊥
-unfolding leavesBy
+flag_by : (ns : List ℕ) (bs : List Bool) (j : ℕ) → get_or bs j false ≡ false → get_or (leaves_by ns bs) j (some (pos 0)) ≡ none → ⊥
+unfolding leaves_by
 flag_by [] bs j f e = let z : ◌≡◌ {A = ℕ} 0 1 = cc in omega arith
 flag_by (n ∷ ns) [] zero f e = let z : ◌≡◌ {A = ℕ} 0 1 = cc in omega arith
 flag_by (n ∷ ns) [] (suc j) f e = flag_by ns [] j refl e
@@ -51,18 +51,18 @@ flag_by (n ∷ ns) (b ∷ bs) zero f e = let q : some (to_z w32 n) ≡ none = ap
 flag_by (n ∷ ns) (b ∷ bs) (suc j) f e = flag_by ns bs j f e
 
 -- with a 0 for each blank they are the bits' numbers
-zeroed-by : (ns : List ℕ) (bs : List Bool) → ZeroBlanks ns bs → map zeroed (leavesBy ns bs) ≡ map some (map (to_z w32) ns)
-unfolding leavesBy zeroed
-zeroed-by [] bs h = refl
-zeroed-by (n ∷ ns) [] h = ap (λ ls. some (to_z w32 n) ∷ ls) (zeroed-by ns [] (λ k e. absurd (false≢true e)))
-zeroed-by (n ∷ ns) (true ∷ bs) h = ap₂ (λ m ls. some (to_z w32 m) ∷ ls) (sym (h 0 refl)) (zeroed-by ns bs (λ k. h (suc k)))
-zeroed-by (n ∷ ns) (false ∷ bs) h = ap (λ ls. some (to_z w32 n) ∷ ls) (zeroed-by ns bs (λ k. h (suc k)))
+zeroed_by : (ns : List ℕ) (bs : List Bool) → ZeroBlanks ns bs → map zeroed (leaves_by ns bs) ≡ map some (map (to_z w32) ns)
+unfolding leaves_by zeroed
+zeroed_by [] bs h = refl
+zeroed_by (n ∷ ns) [] h = ap (λ ls. some (to_z w32 n) ∷ ls) (zeroed_by ns [] (λ k e. absurd (false≢true e)))
+zeroed_by (n ∷ ns) (true ∷ bs) h = ap₂ (λ m ls. some (to_z w32 m) ∷ ls) (sym (h 0 refl)) (zeroed_by ns bs (λ k. h (suc k)))
+zeroed_by (n ∷ ns) (false ∷ bs) h = ap (λ ls. some (to_z w32 n) ∷ ls) (zeroed_by ns bs (λ k. h (suc k)))
 
 module _ (τ : Ty) (ns : List ℕ) (bs : List Bool) (r : Bool) (b : NoneBlank bs (leaves τ) r) where
   -- a blank where the type has a leaf
-  pub given-blank : r ≡ false → given τ (leavesBy ns bs) ≡ none
-  given-blank h = let (j, k, e) = b.no h in blank-refused τ (leavesBy ns bs) j k (λ l. blank-by ns bs j (omega (arith, leaves-long ns bs, l)) e)
+  pub given_blank : r ≡ false → given τ (leaves_by ns bs) ≡ none
+  given_blank h = let (j, k, e) = b.no h in blank_refused τ (leaves_by ns bs) j k (λ l. blank_by ns bs j (omega (arith, leaves_long ns bs, l)) e)
 
   -- none
-  pub given-bits : ZeroBlanks ns bs → r ≡ true → given τ (leavesBy ns bs) ≡ given τ (map some (map (to_z w32) ns))
-  given-bits z h = sym (given-zeroed τ (leavesBy ns bs) (λ j l e. flag_by ns bs j (b.yes h j l) e)) ∙ ap (given τ) (zeroed-by ns bs z)
+  pub given_bits : ZeroBlanks ns bs → r ≡ true → given τ (leaves_by ns bs) ≡ given τ (map some (map (to_z w32) ns))
+  given_bits z h = sym (given_zeroed τ (leaves_by ns bs) (λ j l e. flag_by ns bs j (b.yes h j l) e)) ∙ ap (given τ) (zeroed_by ns bs z)

@@ -9,205 +9,205 @@ use Prim.Native.Nat.{ℕ}
 use native.Mathlib.Decide.{ℕ_discrete}
 use native.Mathlib.Omega.{arith}
 use Rattle.decimal.specs.Path.{first, second, Path}
-use Rattle.decimal.proofs.PathNumbers.{path-0}
+use Rattle.decimal.proofs.PathNumbers.{path_0}
 use Rattle.tophat.specs.Syntax.{Code, then, next, and, or, Val, Env, Store}
 use Rattle.tophat.specs.Syntax.{TaskOf, before, after, both, either}
 use Rattle.tophat.specs.Normalising.{value}
 use Rattle.tophat.specs.Handling.{continue, left, right, Action, give, press}
-use Rattle.tophat.proofs.Admitted.{verdict-none}
-use Rattle.tophat.proofs.Basics.{no-some, some_is}
+use Rattle.tophat.proofs.Admitted.{verdict_none}
+use Rattle.tophat.proofs.Basics.{no_some, some_is}
 use Rattle.tophat.proofs.ComputeEvaluation.{evaluate}
-use Rattle.tophat.proofs.ComputeNormalising.{rightFails}
-use Rattle.tophat.proofs.ComputeHandling.{mapTask, atMark, atContinue, unlessFailing, handle, Taken}
-use Rattle.tophat.proofs.Preservation.{option_is, value-type}
-use Rattle.rows.specs.GroundNumbers.{notHandled}
-use Rattle.rows.specs.Kinds.{taskK, thenK, nextK, andK, orK, number_of}
+use Rattle.tophat.proofs.ComputeNormalising.{right_fails}
+use Rattle.tophat.proofs.ComputeHandling.{map_task, at_mark, at_continue, unless_failing, handle, Taken}
+use Rattle.tophat.proofs.Preservation.{option_is, value_type}
+use Rattle.rows.specs.GroundNumbers.{not_handled}
+use Rattle.rows.specs.Kinds.{task_k, then_k, next_k, and_k, or_k, number_of}
 use Rattle.rows.specs.Rows.{word, op_a, op_b, OfKind, FromKind, UpToKind}
 use Rattle.value.specs.declared.Found.{Found}
-use Rattle.value.specs.Found.{asFound, noneFound}
+use Rattle.value.specs.Found.{as_found, none_found}
 use Rattle.value.proofs.Meaning.{found_none, found_some}
 use Rattle.state.specs.Holds.{tree_of, Holds, Ran}
-use Rattle.state.specs.Contracts.{ValueOk, Handled, HandleOk}
-use Rattle.state.proofs.Frames.{same-weak, same_row, keeps, clear_kept, holds_kept, Kids, kids-then, kids-next, kids-and, kids-or}
-use Rattle.running.proofs.Forms.{on-then-before, on-next-before, on-either, on_both}
+use Rattle.state.specs.Ensured.{ValueOk, Handled, HandleOk}
+use Rattle.state.proofs.Frames.{same_weak, same_row, keeps, clear_kept, holds_kept, Kids, kids_then, kids_next, kids_and, kids_or}
+use Rattle.running.proofs.Forms.{on_then_before, on_next_before, on_either, on_both}
 use Rattle.running.specs.Hands.{Unhanded}
 use Rattle.normalising.specs.Trying.{Attempted, AttemptOk}
-use Rattle.normalising.proofs.Asking.{two-kinds}
-use Rattle.normalising.proofs.Trying.{ran-next}
+use Rattle.normalising.proofs.Asking.{two_kinds}
+use Rattle.normalising.proofs.Trying.{ran_next}
 use Rattle.handle.specs.declared.Event.{Event}
-use Rattle.handle.specs.Events.{continueNumber, leavesBy, eventPath, eventAction}
-use Rattle.handle.specs.Taking.{goingOn, GoingOk, answer_of}
-use Rattle.handle.proofs.Numbers.{some-marks, is-continue, continue-is}
+use Rattle.handle.specs.Events.{continue_number, leaves_by, event_path, event_action}
+use Rattle.handle.specs.Taking.{going_on, GoingOk, answer_of}
+use Rattle.handle.proofs.Numbers.{some_marks, is_continue, continue_is}
 
 -- ---- Continue at a step: what goes on, by the value that going_on finds
 
 module _ {X : Type 0} (F : Val → Option X) (G : Unit {0} → Option X) where
-  goes_none : (p : Path) (x : Action) (o : Option Val) → goingOn p x o ≡ none → atContinue p x o F G ≡ G tt
-  unfolding goingOn atContinue
+  goes_none : (p : Path) (x : Action) (o : Option Val) → going_on p x o ≡ none → at_continue p x o F G ≡ G tt
+  unfolding going_on at_continue
   goes_none [] (give ls) o e = refl
   goes_none [] (press continue) none e = refl
-  goes_none [] (press continue) (some v) e = no-some (sym e)
+  goes_none [] (press continue) (some v) e = no_some (sym e)
   goes_none [] (press left) o e = refl
   goes_none [] (press right) o e = refl
   goes_none (m ∷ p) x o e = refl
 
-  goes_some : (p : Path) (x : Action) (o : Option Val) (v : Val) → goingOn p x o ≡ some v → (atContinue p x o F G ≡ F v) × (o ≡ some v)
-  unfolding goingOn atContinue
-  goes_some [] (give ls) o v e = no-some e
-  goes_some [] (press continue) none v e = no-some e
+  goes_some : (p : Path) (x : Action) (o : Option Val) (v : Val) → going_on p x o ≡ some v → (at_continue p x o F G ≡ F v) × (o ≡ some v)
+  unfolding going_on at_continue
+  goes_some [] (give ls) o v e = no_some e
+  goes_some [] (press continue) none v e = no_some e
   goes_some [] (press continue) (some w) v e = (ap F (some_is e), e)
-  goes_some [] (press left) o v e = no-some e
-  goes_some [] (press right) o v e = no-some e
-  goes_some (m ∷ p) x o v e = no-some e
+  goes_some [] (press left) o v e = no_some e
+  goes_some [] (press right) o v e = no_some e
+  goes_some (m ∷ p) x o v e = no_some e
 
 -- going_on, way by way
 module _ (rs ws : List ℕ) (i : ℕ) (e : Event) where
-  pub going-none : (e.path ≡ 0 → e.action ≡ continueNumber → ⊥) → GoingOk rs ws i e noneFound
-  unfolding goingOn asFound
-  going-none h d c z Σ Γ τ s t y st gs gb g w = by (ℕ_discrete e.path 0)
+  pub going_none : (e.path ≡ 0 → e.action ≡ continue_number → ⊥) → GoingOk rs ws i e none_found
+  unfolding going_on as_found
+  going_none h d c z Σ Γ τ s t y st gs gb g w = by (ℕ_discrete e.path 0)
     where
-      at-end : e.path ≡ 0 → (x : Action) → eventAction e ≡ x → noneFound ≡ asFound (goingOn (eventPath e) (eventAction e) (value c t s))
-      at-end p (give ls) q = rw (path-0 e.path p, q)
-      at-end p (press continue) q = absurd (h p (continue-is e.action (leavesBy e.leaves e.blank) q))
-      at-end p (press left) q = rw (path-0 e.path p, q)
-      at-end p (press right) q = rw (path-0 e.path p, q)
+      at_end : e.path ≡ 0 → (x : Action) → event_action e ≡ x → none_found ≡ as_found (going_on (event_path e) (event_action e) (value c t s))
+      at_end p (give ls) q = rw (path_0 e.path p, q)
+      at_end p (press continue) q = absurd (h p (continue_is e.action (leaves_by e.leaves e.blank) q))
+      at_end p (press left) q = rw (path_0 e.path p, q)
+      at_end p (press right) q = rw (path_0 e.path p, q)
 
-      by : Dec (e.path ≡ 0) → noneFound ≡ asFound (goingOn (eventPath e) (eventAction e) (value c t s))
-      by (yes p) = at-end p (eventAction e) refl
-      by (no n) = rw (some-marks e.path n)
+      by : Dec (e.path ≡ 0) → none_found ≡ as_found (going_on (event_path e) (event_action e) (value c t s))
+      by (yes p) = at_end p (event_action e) refl
+      by (no n) = rw (some_marks e.path n)
 
-  pub going-value : (r : Found) → (e.path ≡ 0) × (e.action ≡ continueNumber) → ValueOk rs ws i r → GoingOk rs ws i e r
-  unfolding goingOn
-  going-value r (p, h) f d c z Σ Γ τ s t y st gs gb g w =
-      f d c z Σ Γ τ s t y st gs gb g w ∙ ap asFound (sym (rw (path-0 e.path p, is-continue e.action (leavesBy e.leaves e.blank) (λ k. omega arith) h)))
+  pub going_value : (r : Found) → (e.path ≡ 0) × (e.action ≡ continue_number) → ValueOk rs ws i r → GoingOk rs ws i e r
+  unfolding going_on
+  going_value r (p, h) f d c z Σ Γ τ s t y st gs gb g w =
+      f d c z Σ Γ τ s t y st gs gb g w ∙ ap as_found (sym (rw (path_0 e.path p, is_continue e.action (leaves_by e.leaves e.blank) (λ k. omega arith) h)))
 
 -- ---- the arms
 
 module _ (rs ws ws₁ : List ℕ) (i : ℕ) (env : List ℕ) (d r : ℕ) where
   -- the part's answer, wrapped
   mapped : (role j : ℕ) (a c : Code) (K : TaskOf a → TaskOf c) (o : Option (Taken (TaskOf a))) → ((t : TaskOf a) (s : Store) → Ran rs ws ws₁ j a t s → Ran rs ws ws₁ i c (K t) s)
-      → Handled rs ws ws₁ j env d a role r o → Handled rs ws ws₁ i env d c role r (mapTask K o)
-  unfolding mapTask
+      → Handled rs ws ws₁ j env d a role r o → Handled rs ws ws₁ i env d c role r (map_task K o)
+  unfolding map_task
   mapped role j a c K none f h = h
   mapped role j a c K (some q) f h = (h.0, f q.0 q.1 h.1)
 
   -- 43 and 44 before: the row and B's rows stay where A's change
-  step-on : (a b : Code) (t u : TaskOf a) (s : Store) → Kids rs i 1 (tree_of a) 2 (tree_of b) → Holds rs ws i (then a b) (before t) → Ran rs ws ws₁ (op_a rs i) a u s → Ran rs ws ws₁ i (then a b) (before u) s
-  step-on a b t u s k h q =
-      record { holds = (same_row q.same k.iA h.0, q.holds, clear_kept h.2 (keeps k.aB q.same)); stores = q.stores; same = same-weak k.upA q.same }
+  step_on : (a b : Code) (t u : TaskOf a) (s : Store) → Kids rs i 1 (tree_of a) 2 (tree_of b) → Holds rs ws i (then a b) (before t) → Ran rs ws ws₁ (op_a rs i) a u s → Ran rs ws ws₁ i (then a b) (before u) s
+  step_on a b t u s k h q =
+      record { holds = (same_row q.same k.i_a h.0, q.holds, clear_kept h.2 (keeps k.a_b q.same)); stores = q.stores; same = same_weak k.up_a q.same }
 
   -- 46 and 47: the row and the other part's rows stay
-  left-on : (a b : Code) (t t₁ : TaskOf a) (u : TaskOf b) (s : Store) → Kids rs i 1 (tree_of a) 2 (tree_of b) → Holds rs ws i (and a b) (both t u) → Ran rs ws ws₁ (op_a rs i) a t₁ s → Ran rs ws ws₁ i (and a b) (both t₁ u) s
-  left-on a b t t₁ u s k h q = record {
-    holds = (same_row q.same k.iA h.0, q.holds, holds_kept rs ws ws₁ (op_b rs i) b u h.2 (keeps k.aB q.same));
+  left_on : (a b : Code) (t t₁ : TaskOf a) (u : TaskOf b) (s : Store) → Kids rs i 1 (tree_of a) 2 (tree_of b) → Holds rs ws i (and a b) (both t u) → Ran rs ws ws₁ (op_a rs i) a t₁ s → Ran rs ws ws₁ i (and a b) (both t₁ u) s
+  left_on a b t t₁ u s k h q = record {
+    holds = (same_row q.same k.i_a h.0, q.holds, holds_kept rs ws ws₁ (op_b rs i) b u h.2 (keeps k.a_b q.same));
     stores = q.stores;
-    same = same-weak k.upA q.same;
+    same = same_weak k.up_a q.same;
   }
 
-  right-on : (a b : Code) (t : TaskOf a) (u u₁ : TaskOf b) (s : Store) → Kids rs i 1 (tree_of a) 2 (tree_of b) → Holds rs ws i (and a b) (both t u) → Ran rs ws ws₁ (op_b rs i) b u₁ s → Ran rs ws ws₁ i (and a b) (both t u₁) s
-  right-on a b t u u₁ s k h q = record {
-    holds = (same_row q.same k.iB h.0, holds_kept rs ws ws₁ (op_a rs i) a t h.1 (keeps k.bA q.same), q.holds);
+  right_on : (a b : Code) (t : TaskOf a) (u u₁ : TaskOf b) (s : Store) → Kids rs i 1 (tree_of a) 2 (tree_of b) → Holds rs ws i (and a b) (both t u) → Ran rs ws ws₁ (op_b rs i) b u₁ s → Ran rs ws ws₁ i (and a b) (both t u₁) s
+  right_on a b t u u₁ s k h q = record {
+    holds = (same_row q.same k.i_b h.0, holds_kept rs ws ws₁ (op_a rs i) a t h.1 (keeps k.b_a q.same), q.holds);
     stores = q.stores;
-    same = same-weak k.upB q.same;
+    same = same_weak k.up_b q.same;
   }
 
   -- 43
-  pub handle-then : (role a : ℕ) (p : Path) (x : Action) → Unhanded rs ws i → OfKind rs i (taskK thenK) → a ≡ op_a rs i → HandleOk rs ws ws₁ a env d role p x r → HandleOk rs ws ws₁ i env d role p x r
+  pub handle_then : (role a : ℕ) (p : Path) (x : Action) → Unhanded rs ws i → OfKind rs i (task_k then_k) → a ≡ op_a rs i → HandleOk rs ws ws₁ a env d role p x r → HandleOk rs ws ws₁ i env d role p x r
   unfolding handle
-  handle-then role a p x z q e h c k Σ Γ τ s ρ t y w g =
+  handle_then role a p x z q e h c k Σ Γ τ s ρ t y w g =
       let f = subst (λ a. HandleOk rs ws ws₁ a env d role p x r) e h in
-      on-then-before rs ws d i Σ Γ (λ c t τ. Handled rs ws ws₁ i env d c role r (handle c ρ s t p x)) z q
-      (λ a b t σ υ k g y n. mapped role (op_a rs i) a (then a b) before (handle a ρ s t p x) (λ u s m. step-on a b t u s (kids-then rs d i a b k) g m) (f a k.1 Σ Γ σ s ρ t y w g.1)) c k τ t y g
+      on_then_before rs ws d i Σ Γ (λ c t τ. Handled rs ws ws₁ i env d c role r (handle c ρ s t p x)) z q
+      (λ a b t σ υ k g y n. mapped role (op_a rs i) a (then a b) before (handle a ρ s t p x) (λ u s m. step_on a b t u s (kids_then rs d i a b k) g m) (f a k.1 Σ Γ σ s ρ t y w g.1)) c k τ t y g
 
-  module _ (e : Event) (a : ℕ) (f : Found) (z : Unhanded rs ws i) (q : OfKind rs i (taskK nextK)) (ea : a ≡ op_a rs i) (hg : GoingOk rs ws a e f) where
+  module _ (e : Event) (a : ℕ) (f : Found) (z : Unhanded rs ws i) (q : OfKind rs i (task_k next_k)) (ea : a ≡ op_a rs i) (hg : GoingOk rs ws a e f) where
     going : GoingOk rs ws (op_a rs i) e f
     going = subst (λ a. GoingOk rs ws a e f) ea hg
 
     -- a 44 before, at Continue with a value v, and at any other event
     abbrev onward : (a b : Code) → Env → Store → Val → Option (Taken (TaskOf (next a b)))
     onward a b ρ s v =
-        unlessFailing (rightFails b (v ∷ ρ) s) (after v) (evaluate b (v ∷ ρ) s).0 (evaluate b (v ∷ ρ) s).1
+        unless_failing (right_fails b (v ∷ ρ) s) (after v) (evaluate b (v ∷ ρ) s).0 (evaluate b (v ∷ ρ) s).1
 
     abbrev within : (a b : Code) → Env → Store → TaskOf a → Unit {0} → Option (Taken (TaskOf (next a b)))
-    within a b ρ s t u = mapTask before (handle a ρ s t (eventPath e) (eventAction e))
+    within a b ρ s t u = map_task before (handle a ρ s t (event_path e) (event_action e))
 
     -- 44: what does not go on is passed on
-    pub handle-next : f.has ≡ false → HandleOk rs ws ws₁ a env d e.role (eventPath e) (eventAction e) r → HandleOk rs ws ws₁ i env d e.role (eventPath e) (eventAction e) r
+    pub handle_next : f.has ≡ false → HandleOk rs ws ws₁ a env d e.role (event_path e) (event_action e) r → HandleOk rs ws ws₁ i env d e.role (event_path e) (event_action e) r
     unfolding handle
-    handle-next n h c k Σ Γ τ s ρ t y w g =
-        let l = subst (λ a. HandleOk rs ws ws₁ a env d e.role (eventPath e) (eventAction e) r) ea h in
-        on-next-before rs ws d i Σ Γ (λ c t τ. Handled rs ws ws₁ i env d c e.role r (handle c ρ s t (eventPath e) (eventAction e))) z q
+    handle_next n h c k Σ Γ τ s ρ t y w g =
+        let l = subst (λ a. HandleOk rs ws ws₁ a env d e.role (event_path e) (event_action e) r) ea h in
+        on_next_before rs ws d i Σ Γ (λ c t τ. Handled rs ws ws₁ i env d c e.role r (handle c ρ s t (event_path e) (event_action e))) z q
         (λ a b t σ υ k g y x.
-        let o = found_none _ (going d a k.1 Σ Γ σ s t y w.storeTyped w.storeSmall w.bindersSmall g.1 w.stores) n in
-        subst (Handled rs ws ws₁ i env d (next a b) e.role r) (sym (goes_none (onward a b ρ s) (within a b ρ s t) (eventPath e) (eventAction e) (value a t s) o))
-        (mapped e.role (op_a rs i) a (next a b) before (handle a ρ s t (eventPath e) (eventAction e)) (λ u s m. let o = step-on a b t u s (kids-next rs d i a b k) g m in record { holds = o.holds; stores = o.stores; same = o.same }) (l a k.1 Σ Γ σ s ρ t y w g.1)))
+        let o = found_none _ (going d a k.1 Σ Γ σ s t y w.store_typed w.store_small w.binders_small g.1 w.stores) n in
+        subst (Handled rs ws ws₁ i env d (next a b) e.role r) (sym (goes_none (onward a b ρ s) (within a b ρ s t) (event_path e) (event_action e) (value a t s) o))
+        (mapped e.role (op_a rs i) a (next a b) before (handle a ρ s t (event_path e) (event_action e)) (λ u s m. let o = step_on a b t u s (kids_next rs d i a b k) g m in record { holds = o.holds; stores = o.stores; same = o.same }) (l a k.1 Σ Γ σ s ρ t y w g.1)))
         c k τ t y g
 
     -- what goes on is tried
-    attempted : (q : Bool) → r ≡ answer_of q → (a b : Code) (v : Val) (u : TaskOf b) (s : Store) (x : Bool) → Attempted rs ws ws₁ i env d q a b v (u, s) x → Handled rs ws ws₁ i env d (next a b) e.role r (unlessFailing x (after v) u s)
-    unfolding unlessFailing
+    attempted : (q : Bool) → r ≡ answer_of q → (a b : Code) (v : Val) (u : TaskOf b) (s : Store) (x : Bool) → Attempted rs ws ws₁ i env d q a b v (u, s) x → Handled rs ws ws₁ i env d (next a b) e.role r (unless_failing x (after v) u s)
+    unfolding unless_failing
     attempted q m a b v u s true h = (m ∙ ap answer_of h.0, h.1)
-    attempted q m a b v u s false h = (m ∙ ap answer_of h.0 ∙ sym (verdict-none e.role), ran-next h.1)
+    attempted q m a b v u s false h = (m ∙ ap answer_of h.0 ∙ sym (verdict_none e.role), ran_next h.1)
 
-    pub handle-continue : (q : Bool) → r ≡ answer_of q → f.has ≡ true → AttemptOk rs ws ws₁ i env d f.value q → HandleOk rs ws ws₁ i env d e.role (eventPath e) (eventAction e) r
+    pub handle_continue : (q : Bool) → r ≡ answer_of q → f.has ≡ true → AttemptOk rs ws ws₁ i env d f.value q → HandleOk rs ws ws₁ i env d e.role (event_path e) (event_action e) r
     unfolding handle
-    handle-continue b₀ m₀ n h c k Σ Γ τ s ρ t y w g =
-        on-next-before rs ws d i Σ Γ (λ c t τ. Handled rs ws ws₁ i env d c e.role r (handle c ρ s t (eventPath e) (eventAction e))) z q
+    handle_continue b₀ m₀ n h c k Σ Γ τ s ρ t y w g =
+        on_next_before rs ws d i Σ Γ (λ c t τ. Handled rs ws ws₁ i env d c e.role r (handle c ρ s t (event_path e) (event_action e))) z q
         (λ a b t σ υ k g y x.
-        let (v, o, m) = found_some _ (going d a k.1 Σ Γ σ s t y w.storeTyped w.storeSmall w.bindersSmall g.1 w.stores) n in
-        let l = goes_some (onward a b ρ s) (within a b ρ s t) (eventPath e) (eventAction e) (value a t s) v o in
+        let (v, o, m) = found_some _ (going d a k.1 Σ Γ σ s t y w.store_typed w.store_small w.binders_small g.1 w.stores) n in
+        let l = goes_some (onward a b ρ s) (within a b ρ s t) (event_path e) (event_action e) (value a t s) v o in
         subst (Handled rs ws ws₁ i env d (next a b) e.role r) (sym l.0)
-        (attempted b₀ m₀ a b v (evaluate b (v ∷ ρ) s).0 (evaluate b (v ∷ ρ) s).1 (rightFails b (v ∷ ρ) s)
-        (h a b (inr k) Σ Γ σ υ s ρ t v m (option_is (value-type y w.storeTyped) l.1) y x w g)))
+        (attempted b₀ m₀ a b v (evaluate b (v ∷ ρ) s).0 (evaluate b (v ∷ ρ) s).1 (right_fails b (v ∷ ρ) s)
+        (h a b (inr k) Σ Γ σ υ s ρ t v m (option_is (value_type y w.store_typed) l.1) y x w g)))
         c k τ t y g
 
   -- 46 and 47: the part that the mark names
-  module _ (role : ℕ) (p : Path) (x : Action) (z : Unhanded rs ws i) (lo : FromKind rs i (taskK andK)) (hi : UpToKind rs i (taskK orK)) where
+  module _ (role : ℕ) (p : Path) (x : Action) (z : Unhanded rs ws i) (lo : FromKind rs i (task_k and_k)) (hi : UpToKind rs i (task_k or_k)) where
     abbrev Took : Env → Store → (c : Code) → TaskOf c → Type 0
     Took ρ s c t = Handled rs ws ws₁ i env d c role r (handle c ρ s t p x)
 
-    pub handle-first : (a : ℕ) (m : Path) → a ≡ op_a rs i → p ≡ first ∷ m → HandleOk rs ws ws₁ a env d role m x r → HandleOk rs ws ws₁ i env d role p x r
-    unfolding handle atMark
-    handle-first a m ea e h c k Σ Γ τ s ρ t y w g =
+    pub handle_first : (a : ℕ) (m : Path) → a ≡ op_a rs i → p ≡ first ∷ m → HandleOk rs ws ws₁ a env d role m x r → HandleOk rs ws ws₁ i env d role p x r
+    unfolding handle at_mark
+    handle_first a m ea e h c k Σ Γ τ s ρ t y w g =
         let f = subst (λ a. HandleOk rs ws ws₁ a env d role m x r) ea h in
         ⊎_elim
         (λ q. on_both rs ws d i Σ Γ (λ c t τ. Took ρ s c t) q
         (λ a b t u σ υ k g y n l.
         subst (λ p. Handled rs ws ws₁ i env d (and a b) role r (handle (and a b) ρ s (both t u) p x)) (sym e)
-        (mapped role (op_a rs i) a (and a b) (λ t. both t u) (handle a ρ s t m x) (λ t₁ s q. left-on a b t t₁ u s (kids-and rs d i a b k) g q) (f a k.1 Σ Γ σ s ρ t y w g.1)))
+        (mapped role (op_a rs i) a (and a b) (λ t. both t u) (handle a ρ s t m x) (λ t₁ s q. left_on a b t t₁ u s (kids_and rs d i a b k) g q) (f a k.1 Σ Γ σ s ρ t y w g.1)))
         c k τ t y g)
-        (λ q. on-either rs ws d i Σ Γ (λ c t τ. Took ρ s c t) z q
+        (λ q. on_either rs ws d i Σ Γ (λ c t τ. Took ρ s c t) z q
         (λ a b t u σ k g y n.
         subst (λ p. Handled rs ws ws₁ i env d (or a b) role r (handle (or a b) ρ s (either t u) p x)) (sym e)
         (mapped role (op_a rs i) a (or a b) (λ t. either t u) (handle a ρ s t m x)
-        (λ t₁ s q. let o = left-on a b t t₁ u s (kids-or rs d i a b k) g q in record { holds = o.holds; stores = o.stores; same = o.same }) (f a k.1 Σ Γ σ s ρ t y w g.1)))
+        (λ t₁ s q. let o = left_on a b t t₁ u s (kids_or rs d i a b k) g q in record { holds = o.holds; stores = o.stores; same = o.same }) (f a k.1 Σ Γ σ s ρ t y w g.1)))
         c k τ t y g)
-        (two-kinds (number_of (taskK andK)) (word rs i 0) lo hi)
+        (two_kinds (number_of (task_k and_k)) (word rs i 0) lo hi)
 
-    pub handle-second : (b : ℕ) (m : Path) → b ≡ op_b rs i → p ≡ second ∷ m → HandleOk rs ws ws₁ b env d role m x r → HandleOk rs ws ws₁ i env d role p x r
-    unfolding handle atMark
-    handle-second b m eb e h c k Σ Γ τ s ρ t y w g =
+    pub handle_second : (b : ℕ) (m : Path) → b ≡ op_b rs i → p ≡ second ∷ m → HandleOk rs ws ws₁ b env d role m x r → HandleOk rs ws ws₁ i env d role p x r
+    unfolding handle at_mark
+    handle_second b m eb e h c k Σ Γ τ s ρ t y w g =
         let f = subst (λ b. HandleOk rs ws ws₁ b env d role m x r) eb h in
         ⊎_elim
         (λ q. on_both rs ws d i Σ Γ (λ c t τ. Took ρ s c t) q
         (λ a b t u σ υ k g y n l.
         subst (λ p. Handled rs ws ws₁ i env d (and a b) role r (handle (and a b) ρ s (both t u) p x)) (sym e)
-        (mapped role (op_b rs i) b (and a b) (λ u. both t u) (handle b ρ s u m x) (λ u₁ s q. right-on a b t u u₁ s (kids-and rs d i a b k) g q) (f b k.2 Σ Γ υ s ρ u n w g.2)))
+        (mapped role (op_b rs i) b (and a b) (λ u. both t u) (handle b ρ s u m x) (λ u₁ s q. right_on a b t u u₁ s (kids_and rs d i a b k) g q) (f b k.2 Σ Γ υ s ρ u n w g.2)))
         c k τ t y g)
-        (λ q. on-either rs ws d i Σ Γ (λ c t τ. Took ρ s c t) z q
+        (λ q. on_either rs ws d i Σ Γ (λ c t τ. Took ρ s c t) z q
         (λ a b t u σ k g y n.
         subst (λ p. Handled rs ws ws₁ i env d (or a b) role r (handle (or a b) ρ s (either t u) p x)) (sym e)
         (mapped role (op_b rs i) b (or a b) (λ u. either t u) (handle b ρ s u m x)
-        (λ u₁ s q. let o = right-on a b t u u₁ s (kids-or rs d i a b k) g q in record { holds = o.holds; stores = o.stores; same = o.same }) (f b k.2 Σ Γ σ s ρ u n w g.2)))
+        (λ u₁ s q. let o = right_on a b t u u₁ s (kids_or rs d i a b k) g q in record { holds = o.holds; stores = o.stores; same = o.same }) (f b k.2 Σ Γ σ s ρ u n w g.2)))
         c k τ t y g)
-        (two-kinds (number_of (taskK andK)) (word rs i 0) lo hi)
+        (two_kinds (number_of (task_k and_k)) (word rs i 0) lo hi)
 
 -- no mark: refused
-pub handle-unmarked : (rs ws : List ℕ) (i : ℕ) (env : List ℕ) (d role : ℕ) (p : Path) (x : Action) → Unhanded rs ws i → FromKind rs i (taskK andK) → UpToKind rs i (taskK orK) → p ≡ [] → HandleOk rs ws ws i env d role p x notHandled
-unfolding handle atMark
-handle-unmarked rs ws i env d role p x z lo hi e c k Σ Γ τ s ρ t y w g = ⊎_elim
-    (λ q. on_both rs ws d i Σ Γ (λ c t τ. Handled rs ws ws i env d c role notHandled (handle c ρ s t p x)) q
-    (λ a b t u σ υ k g y n l. subst (λ p. Handled rs ws ws i env d (and a b) role notHandled (handle (and a b) ρ s (both t u) p x)) (sym e) (refl, refl)) c k τ t y g)
-    (λ q. on-either rs ws d i Σ Γ (λ c t τ. Handled rs ws ws i env d c role notHandled (handle c ρ s t p x)) z q
-    (λ a b t u σ k g y n. subst (λ p. Handled rs ws ws i env d (or a b) role notHandled (handle (or a b) ρ s (either t u) p x)) (sym e) (refl, refl)) c k τ t y g)
-    (two-kinds (number_of (taskK andK)) (word rs i 0) lo hi)
+pub handle_unmarked : (rs ws : List ℕ) (i : ℕ) (env : List ℕ) (d role : ℕ) (p : Path) (x : Action) → Unhanded rs ws i → FromKind rs i (task_k and_k) → UpToKind rs i (task_k or_k) → p ≡ [] → HandleOk rs ws ws i env d role p x not_handled
+unfolding handle at_mark
+handle_unmarked rs ws i env d role p x z lo hi e c k Σ Γ τ s ρ t y w g = ⊎_elim
+    (λ q. on_both rs ws d i Σ Γ (λ c t τ. Handled rs ws ws i env d c role not_handled (handle c ρ s t p x)) q
+    (λ a b t u σ υ k g y n l. subst (λ p. Handled rs ws ws i env d (and a b) role not_handled (handle (and a b) ρ s (both t u) p x)) (sym e) (refl, refl)) c k τ t y g)
+    (λ q. on_either rs ws d i Σ Γ (λ c t τ. Handled rs ws ws i env d c role not_handled (handle c ρ s t p x)) z q
+    (λ a b t u σ k g y n. subst (λ p. Handled rs ws ws i env d (or a b) role not_handled (handle (or a b) ρ s (either t u) p x)) (sym e) (refl, refl)) c k τ t y g)
+    (two_kinds (number_of (task_k and_k)) (word rs i 0) lo hi)

@@ -4,13 +4,13 @@
 // here and in `attempt` of crate normalising. Rests on the crates below for values, evaluation, normalising and rows that hand on;
 // specs/Events says what an event is.
 ghost use Rattle.std.specs.Prelude.{◌≡◌, List, ℕ, ◌-◌, ◌<◌, ◌≤◌};
-ghost use Rattle.tophat.specs.Syntax.{maxLeaves};
-ghost use Rattle.rows.specs.Kinds.{taskK, editK, updateK, xorK};
-ghost use Rattle.rows.specs.Rows.{maxRows, OfKind, FromKind, UpToKind};
-ghost use Rattle.state.specs.Contracts.{Fine, HandleOk};
+ghost use Rattle.tophat.specs.Syntax.{max_leaves};
+ghost use Rattle.rows.specs.Kinds.{task_k, edit_k, update_k, xor_k};
+ghost use Rattle.rows.specs.Rows.{max_rows, OfKind, FromKind, UpToKind};
+ghost use Rattle.state.specs.Ensured.{Fine, HandleOk};
 ghost use Rattle.running.specs.Hands.{Unhanded};
-ghost use Rattle.handle.specs.Events.{ZeroBlanks, KnownEvent, eventPath, eventAction, Ends, passed};
-ghost use Rattle.handle.specs.Taking.{NoneBlank, FillOk, GoingOk, PickOk, answer_of, gateVerdict, PassOk};
+ghost use Rattle.handle.specs.Events.{ZeroBlanks, KnownEvent, event_path, event_action, Ends, passed};
+ghost use Rattle.handle.specs.Taking.{NoneBlank, FillOk, GoingOk, PickOk, answer_of, gate_verdict, PassOk};
 
 use decimal::path::{Front, front_mark};
 use normalising::{attempt, settle};
@@ -48,7 +48,7 @@ fn ends(e: Event, action: u32) -> bool
 
 // Whether none of the first n leaves is blank.
 fn none_blank(blank: [bool; MAX_LEAVES], n: usize) -> bool
-    requires { n ≤ maxLeaves }
+    requires { n ≤ max_leaves }
     ensures { NoneBlank blank n result }
 {
     for k in 0..n {
@@ -61,7 +61,7 @@ fn none_blank(blank: [bool; MAX_LEAVES], n: usize) -> bool
 
 // The value that an event gives an editor of the shape, laid at the row. A blank where the type has a leaf gives none.
 fn fill(state: &mut [u32; STATE_SIZE], row: usize, tag: u32, shape: u32, e: Event) -> bool
-    requires { (row < maxRows) × ZeroBlanks e.leaves e.blank }
+    requires { (row < max_rows) × ZeroBlanks e.leaves e.blank }
     ensures { FillOk state.old state.new row tag shape e result }
 {
     if !ends(e, GIVE) {
@@ -85,8 +85,8 @@ fn fill(state: &mut [u32; STATE_SIZE], row: usize, tag: u32, shape: u32, e: Even
 
 // An editor: its content's type is that of its row's value, of its type row, or of its cell.
 fn edit(rows: &[u32; ROWS_WORDS], state: &mut [u32; STATE_SIZE], row: usize, e: Event) -> bool
-    requires { Fine rows.now row 0 × FromKind rows.now row (taskK editK) × UpToKind rows.now row (taskK updateK) × ZeroBlanks e.leaves e.blank }
-    ensures { (env : List ℕ) (d : ℕ) → HandleOk rows.now state.old state.new row env d e.role (eventPath e) (eventAction e) (answer_of result) }
+    requires { Fine rows.now row 0 × FromKind rows.now row (task_k edit_k) × UpToKind rows.now row (task_k update_k) × ZeroBlanks e.leaves e.blank }
+    ensures { (env : List ℕ) (d : ℕ) → HandleOk rows.now state.old state.new row env d e.role (event_path e) (event_action e) (answer_of result) }
 {
     let kind = get(rows, row, 0);
     let a = operand(rows, row, 1);
@@ -128,7 +128,7 @@ fn side(
     env: &[u32; ENV_WORDS],
     depth: usize,
 ) -> bool
-    requires { (row < maxRows) × Fine rows.now a depth }
+    requires { (row < max_rows) × Fine rows.now a depth }
     ensures { PickOk rows.now state.old state.new row a tag env.now depth result }
 {
     let mut work = *state;
@@ -149,8 +149,8 @@ fn pick(
     depth: usize,
     e: Event,
 ) -> bool
-    requires { Fine rows.now row depth × OfKind rows.now row (taskK xorK) × Unhanded rows.now state.old row × KnownEvent e }
-    ensures { HandleOk rows.now state.old state.new row env.now depth e.role (eventPath e) (eventAction e) (answer_of result) }
+    requires { Fine rows.now row depth × OfKind rows.now row (task_k xor_k) × Unhanded rows.now state.old row × KnownEvent e }
+    ensures { HandleOk rows.now state.old state.new row env.now depth e.role (event_path e) (event_action e) (answer_of result) }
 {
     if ends(e, LEFT) {
         return side(rows, state, row, operand(rows, row, 1), ONE, env, depth);
@@ -182,7 +182,7 @@ fn answer(taken: bool) -> u32
 
 // What a row of kind 50, of a role and with so many touches left, makes of its part's verdict. CR 6: 30 before 31.
 fn gate_verdict(role: u32, own: u32, touches: u32, verdict: u32) -> u32
-    ensures { result ≡ gateVerdict role own touches verdict }
+    ensures { result ≡ gate_verdict role own touches verdict }
 {
     if role != own {
         return OTHER_ROLE;
@@ -214,7 +214,7 @@ fn pass(
     role: u32,
     answer: u32,
 ) -> u32
-    requires { row < maxRows }
+    requires { row < max_rows }
     ensures { PassOk rows.now state.old state.new row role answer result }
 {
     if get(rows, row, 0) != GATE {
@@ -238,7 +238,7 @@ pub fn handle(
     e: Event,
 ) -> u32
     requires { Fine rows.now row depth × KnownEvent e }
-    ensures { HandleOk rows.now state.old state.new row env.now depth e.role (eventPath e) (eventAction e) result }
+    ensures { HandleOk rows.now state.old state.new row env.now depth e.role (event_path e) (event_action e) result }
 {
     let part = handed_on(rows, state, row);
     if part != 0 {

@@ -1,5 +1,5 @@
 -- What an arm of a `match` on a number knows, turned into a fact of that number: one of some numbers (`one_of`), in a
--- range (`in-range`), in a range but none of the numbers of other arms (`in-gap`, and `within` by one computed test),
+-- range (`in_range`), in a range but none of the numbers of other arms (`in_gap`, and `within` by one computed test),
 -- past the end of a table (`past`). Rests on nothing.
 use mathlib.Core.Path.{◌≡◌, refl, sym, subst}
 use mathlib.Core.Bool.{Bool, true, false, ◌&&◌, ◌||◌}
@@ -54,22 +54,22 @@ abbrev pub Each : (ℕ → Type 0) → ℕ → ℕ → Type 0
 Each P a zero = Unit {0}
 Each P a (suc n) = P a × Each P (suc a) n
 
-pub in-range : (P : ℕ → Type 0) (a n : ℕ) {x : ℕ} → Each P a n → a ≤ x → x < a + n → P x
-in-range P a zero e l h = absurd (omega arith)
-in-range P a (suc n) {x} e l h = ⊎_elim (λ p. subst P p e.0) (λ q. in-range P (suc a) n e.1 q (omega arith)) (eq-or-lt_of_le l)
+pub in_range : (P : ℕ → Type 0) (a n : ℕ) {x : ℕ} → Each P a n → a ≤ x → x < a + n → P x
+in_range P a zero e l h = absurd (omega arith)
+in_range P a (suc n) {x} e l h = ⊎_elim (λ p. subst P p e.0) (λ q. in_range P (suc a) n e.1 q (omega arith)) (eq-or-lt_of_le l)
 
 -- the same where the numbers of other arms are left out: nothing is asked there
 abbrev pub Unless : Bool → Type 0 → Type 0
 Unless true P = Unit {0}
 Unless false P = P
 
-pub in-gap : (P : ℕ → Type 0) (kss : List (List ℕ)) (a n : ℕ) {x : ℕ} → Each (λ k. Unless (membs kss k) (P k)) a n → a ≤ x → x < a + n → NoneOf kss x → P x
-in-gap P kss a n {x} e l h g = subst (λ b. Unless b (P x)) (none_of kss x g) (in-range (λ k. Unless (membs kss k) (P k)) a n e l h)
+pub in_gap : (P : ℕ → Type 0) (kss : List (List ℕ)) (a n : ℕ) {x : ℕ} → Each (λ k. Unless (membs kss k) (P k)) a n → a ≤ x → x < a + n → NoneOf kss x → P x
+in_gap P kss a n {x} e l h g = subst (λ b. Unless b (P x)) (none_of kss x g) (in_range (λ k. Unless (membs kss k) (P k)) a n e l h)
 
 -- the same for a fact that is a test: one computed test of the whole range, by refl
-abbrev pub testAll : (ℕ → Bool) → ℕ → ℕ → Bool
-testAll p a zero = true
-testAll p a (suc n) = p a && testAll p (suc a) n
+abbrev pub test_all : (ℕ → Bool) → ℕ → ℕ → Bool
+test_all p a zero = true
+test_all p a (suc n) = p a && test_all p (suc a) n
 
 pub and-false : (b : Bool) → (b && false) ≡ false
 and-false true = refl
@@ -83,13 +83,13 @@ pub and_right : (a b : Bool) → (a && b) ≡ true → b ≡ true
 and_right true b h = h
 and_right false b h = let z : ◌≡◌ {A = ℕ} 0 1 = cc in absurd (omega arith)
 
-tested : (p : ℕ → Bool) (a n : ℕ) → testAll p a n ≡ true → (x : ℕ) → a ≤ x → x < a + n → p x ≡ true
+tested : (p : ℕ → Bool) (a n : ℕ) → test_all p a n ≡ true → (x : ℕ) → a ≤ x → x < a + n → p x ≡ true
 tested p a zero t x l h = absurd (omega arith)
 tested p a (suc n) t x l h =
-    ⊎_elim (λ e. subst (λ y. p y ≡ true) e (and_left (p a) (testAll p (suc a) n) t))
-    (λ q. tested p (suc a) n (and_right (p a) (testAll p (suc a) n) t) x q (omega arith)) (eq-or-lt_of_le l)
+    ⊎_elim (λ e. subst (λ y. p y ≡ true) e (and_left (p a) (test_all p (suc a) n) t))
+    (λ q. tested p (suc a) n (and_right (p a) (test_all p (suc a) n) t) x q (omega arith)) (eq-or-lt_of_le l)
 
-pub within : (p : ℕ → Bool) (a n : ℕ) (kss : List (List ℕ)) (x : ℕ) → testAll (λ k. membs kss k || p k) a n ≡ true → a ≤ x → x < a + n → NoneOf kss x → p x ≡ true
+pub within : (p : ℕ → Bool) (a n : ℕ) (kss : List (List ℕ)) (x : ℕ) → test_all (λ k. membs kss k || p k) a n ≡ true → a ≤ x → x < a + n → NoneOf kss x → p x ≡ true
 within p a n kss x t l h g = let u = tested (λ k. membs kss k || p k) a n t x l h in rw (none_of kss x g) at u
 
 -- ---- past the end of a table

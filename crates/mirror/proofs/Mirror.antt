@@ -20,64 +20,64 @@ use Prim.Native.Nat.{ℕ, ◌-◌}
 use native.Mathlib.Omega.{arith}
 use lib.IntN.{ℤ}
 use Rattle.tophat.specs.Syntax.{Ty, leaves, Code, and}
-use Rattle.tophat.specs.Typing.{CodeType, t-and}
-use Rattle.rows.specs.Kinds.{taskK, andK}
+use Rattle.tophat.specs.Typing.{CodeType, t_and}
+use Rattle.rows.specs.Kinds.{task_k, and_k}
 use Rattle.rows.specs.Rows.{OfKind}
-use Rattle.rows.specs.Lent.{ownRows, rowCount}
-use Rattle.rows.specs.Trees.{ReadsCode, r-edit, r-enter, r-update, r-then, r-next, r-fail, r_and, r-or, r-xor, r-view, r-if, r-let, r-gate}
+use Rattle.rows.specs.Lent.{own_rows, row_count}
+use Rattle.rows.specs.Trees.{ReadsCode, r_edit, r_enter, r_update, r_then, r_next, r_fail, r_and, r_or, r_xor, r_view, r_if, r_let, r_gate}
 use Rattle.call_definitions.specs.Answers.{Loads, AcceptedFlow}
 use Rattle.call_definitions.specs.Touches.{Call, look, handle, after, run}
-use Rattle.call_definitions.proofs.Flows.{flow-of}
-use Rattle.mirror.specs.Mirrored.{mirrored, writeless, mirroredCall, Halves, Mirrors}
-use Rattle.mirror.proofs.MirroredEvents.{mirrored-event, mirrored-twice}
-use Rattle.mirror.proofs.MirroredText.{mirrored-loads}
-use Rattle.mirror.proofs.MirroredFlow.{last-kind, two-flows, mirrored-accepts}
-use Rattle.mirror.proofs.MirroredCalls.{starts-mirrored, touches-mirrored}
-use Rattle.mirror.proofs.MirroredLooks.{looks-mirrored}
+use Rattle.call_definitions.proofs.Flows.{flow_of}
+use Rattle.mirror.specs.Mirrored.{mirrored, writeless, mirrored_call, Halves, Mirrors}
+use Rattle.mirror.proofs.MirroredEvents.{mirrored_event_lem, mirrored_twice}
+use Rattle.mirror.proofs.MirroredText.{mirrored_loads}
+use Rattle.mirror.proofs.MirroredFlow.{last_kind_lem, two_flows, mirrored_accepts}
+use Rattle.mirror.proofs.MirroredCalls.{starts_mirrored, touches_mirrored}
+use Rattle.mirror.proofs.MirroredLooks.{looks_mirrored}
 
 -- accepted rows whose last row is of kind 46 have two halves
-pub halves : {rows : List ℤ} → Loads rows → OfKind (ownRows rows) (rowCount rows - 1) (taskK andK) → (τ : Ty) × (υ : Ty) × Halves rows τ υ
-halves {rows} l h = let (c, Σ, τ, f) = flow-of l in by f f.flow.code h
+pub halves : {rows : List ℤ} → Loads rows → OfKind (own_rows rows) (row_count rows - 1) (task_k and_k) → (τ : Ty) × (υ : Ty) × Halves rows τ υ
+halves {rows} l h = let (c, Σ, τ, f) = flow_of l in by f f.flow.code h
   where
     typed : {a b : Code} {Σ : List Ty} {σ : Ty} (f : AcceptedFlow rows (and a b) Σ σ) → CodeType Σ [] (and a b) σ → (τ : Ty) × (υ : Ty) × Halves rows τ υ
-    typed {a} {b} {Σ} f (t-and {τ = τ} {υ = υ} p q k) = (τ, υ, record { a = a; b = b; cells = Σ; flow = f })
+    typed {a} {b} {Σ} f (t_and {τ = τ} {υ = υ} p q k) = (τ, υ, record { a = a; b = b; cells = Σ; flow = f })
 
-    by : {c : Code} {Σ : List Ty} {σ : Ty} {i : ℕ} → AcceptedFlow rows c Σ σ → ReadsCode (ownRows rows) i c → OfKind (ownRows rows) i (taskK andK)
+    by : {c : Code} {Σ : List Ty} {σ : Ty} {i : ℕ} → AcceptedFlow rows c Σ σ → ReadsCode (own_rows rows) i c → OfKind (own_rows rows) i (task_k and_k)
         → (τ : Ty) × (υ : Ty) × Halves rows τ υ
     by f (r_and k x y g e) h = typed f f.flow.typed
-    by f (r-edit k x g) h = absurd (omega (arith, k, h))
-    by f (r-enter k x g) h = absurd (omega (arith, k, h))
-    by f (r-update k x g) h = absurd (omega (arith, k, h))
-    by f (r-then k x y g e) h = absurd (omega (arith, k, h))
-    by f (r-next k x y g e) h = absurd (omega (arith, k, h))
-    by f (r-fail k x g) h = absurd (omega (arith, k, h))
-    by f (r-or k x y g e) h = absurd (omega (arith, k, h))
-    by f (r-xor k x y g e) h = absurd (omega (arith, k, h))
-    by f (r-view k x g) h = absurd (omega (arith, k, h))
-    by f (r-gate k y g) h = absurd (omega (arith, k, h))
-    by f (r-if k x y z g e d) h = absurd (omega (arith, k, h))
-    by f (r-let k x y g e) h = absurd (omega (arith, k, h))
+    by f (r_edit k x g) h = absurd (omega (arith, k, h))
+    by f (r_enter k x g) h = absurd (omega (arith, k, h))
+    by f (r_update k x g) h = absurd (omega (arith, k, h))
+    by f (r_then k x y g e) h = absurd (omega (arith, k, h))
+    by f (r_next k x y g e) h = absurd (omega (arith, k, h))
+    by f (r_fail k x g) h = absurd (omega (arith, k, h))
+    by f (r_or k x y g e) h = absurd (omega (arith, k, h))
+    by f (r_xor k x y g e) h = absurd (omega (arith, k, h))
+    by f (r_view k x g) h = absurd (omega (arith, k, h))
+    by f (r_gate k y g) h = absurd (omega (arith, k, h))
+    by f (r_if k x y z g e d) h = absurd (omega (arith, k, h))
+    by f (r_let k x y g e) h = absurd (omega (arith, k, h))
 
 module _ {rows : List ℤ} {τ υ : Ty} (h : Halves rows τ υ) (w : writeless rows ≡ true) where
   -- a call, and its mirror image
-  after-mirrored : (ws : List ℤ) (k : Call) → after (mirrored rows) ws (mirroredCall k) ≡ after rows ws k
-  unfolding after mirroredCall
-  after-mirrored ws (look role values list) = refl
-  after-mirrored ws (handle event) = ap (λ r. r.state) (touches-mirrored h.flow w ws event)
+  after_mirrored : (ws : List ℤ) (k : Call) → after (mirrored rows) ws (mirrored_call k) ≡ after rows ws k
+  unfolding after mirrored_call
+  after_mirrored ws (look role values list) = refl
+  after_mirrored ws (handle event) = ap (λ r. r.state) (touches_mirrored h.flow w ws event)
 
-  runs-mirrored : (ws : List ℤ) (ks : List Call) → run (mirrored rows) ws (map mirroredCall ks) ≡ run rows ws ks
+  runs_mirrored : (ws : List ℤ) (ks : List Call) → run (mirrored rows) ws (map mirrored_call ks) ≡ run rows ws ks
   unfolding run
-  runs-mirrored ws [] = refl
-  runs-mirrored ws (k ∷ ks) = ap (λ ws. run (mirrored rows) ws (map mirroredCall ks)) (after-mirrored ws k) ∙ runs-mirrored (after rows ws k) ks
+  runs_mirrored ws [] = refl
+  runs_mirrored ws (k ∷ ks) = ap (λ ws. run (mirrored rows) ws (map mirrored_call ks)) (after_mirrored ws k) ∙ runs_mirrored (after rows ws k) ks
 
   pub mirror : Mirrors rows (leaves τ) (leaves υ)
   mirror = record {
-    says = mirrored-event;
-    twice = mirrored-twice;
-    accepts = mirrored-accepts h.flow;
-    loads = λ text memory e. mirrored-loads text memory rows e (last-kind h.flow) (two-flows h.flow).ground₁;
-    starts = starts-mirrored h.flow w;
-    touches = touches-mirrored h.flow w;
-    looks = λ ws role values list. looks-mirrored h.flow w role values list ws;
-    runs = runs-mirrored;
+    says = mirrored_event_lem;
+    twice = mirrored_twice;
+    accepts = mirrored_accepts h.flow;
+    loads = λ text memory e. mirrored_loads text memory rows e (last_kind_lem h.flow) (two_flows h.flow).ground₁;
+    starts = starts_mirrored h.flow w;
+    touches = touches_mirrored h.flow w;
+    looks = λ ws role values list. looks_mirrored h.flow w role values list ws;
+    runs = runs_mirrored;
   }

@@ -13,206 +13,206 @@ use lib.Dec.{leb, eqb}
 use lib.IntN.{ℤ}
 use lib.ListN.{length, get_or, take, drop, replicate, length-take, length-drop}
 use lib.Seq.{slice}
-use Rattle.decimal.specs.Field.{space, nought, unreadable, newline, wordColumns, actionColumns, trimmed, reads, readsAt}
-use Rattle.decimal.specs.Path.{Path, first, second, pathColumns, marks, emptyAlone, outside, pathIn, readsPath, readsPathAt}
-use Rattle.tophat.specs.Syntax.{maxLeaves}
+use Rattle.decimal.specs.Field.{space, nought, unreadable, newline, word_columns, action_columns, trimmed, reads, reads_at}
+use Rattle.decimal.specs.Path.{Path, first, second, path_columns, marks, empty_alone, outside, path_in, reads_path, reads_path_at}
+use Rattle.tophat.specs.Syntax.{max_leaves}
 use Rattle.tophat.specs.Leaves.{Given}
-use Rattle.tophat.specs.Handling.{Act, actNumber, actTable, Action}
-use Rattle.tophat.specs.Redrawn.{mirrorPath}
-use Rattle.formats.specs.Records.{total, recordBytes, isRecord, fields_at, numberSaid, each}
-use Rattle.formats.specs.Touches.{roleColumns, eventColumns, numbered, touchIn, roleSaid, eventRole, leafSaid, allowed, eventSays, actionOf, eventOf}
-use Rattle.mirror.specs.Mirrored.{movedTouch, mirroredDigit, mirroredFirst, mirroredEvent}
+use Rattle.tophat.specs.Handling.{Act, act_number, act_table, Action}
+use Rattle.tophat.specs.Redrawn.{mirror_path}
+use Rattle.formats.specs.Records.{total, record_bytes, is_record, fields_at, number_said, each}
+use Rattle.formats.specs.Touches.{role_columns, event_columns, numbered, touch_in, role_said, event_role, leaf_said, allowed, event_says, action_of, event_of}
+use Rattle.mirror.specs.Mirrored.{moved_touch, mirrored_digit, mirrored_first, mirrored_event}
 
 -- ---- what is said, mirrored
 
-unfoldable pub mirroredPath : Option Path → Option Path
-mirroredPath none = none
-mirroredPath (some p) = some (mirrorPath p)
+unfoldable pub mirrored_path : Option Path → Option Path
+mirrored_path none = none
+mirrored_path (some p) = some (mirror_path p)
 
 -- ---- digits
 
-digit-twice : (b : ℕ) → mirroredDigit (mirroredDigit b) ≡ b
-unfolding mirroredDigit
-digit-twice b = cases (eqb b (nought + 1))
+digit_twice : (b : ℕ) → mirrored_digit (mirrored_digit b) ≡ b
+unfolding mirrored_digit
+digit_twice b = cases (eqb b (nought + 1))
     (λ e. rw e (sym (eqb-true b (nought + 1) e)))
     (λ e. cases (eqb b (nought + 2))
     (λ f. rw (e, f) (sym (eqb-true b (nought + 2) f)))
     (λ f. rw (e, f, e, f)))
 
 -- no space becomes of a byte that is none
-digit-no-space : (b : ℕ) → eqb b space ≡ false → eqb (mirroredDigit b) space ≡ false
-unfolding mirroredDigit
-digit-no-space b h = cases (eqb b (nought + 1))
+digit_no_space : (b : ℕ) → eqb b space ≡ false → eqb (mirrored_digit b) space ≡ false
+unfolding mirrored_digit
+digit_no_space b h = cases (eqb b (nought + 1))
     (λ e. rw e)
     (λ e. cases (eqb b (nought + 2)) (λ f. rw (e, f)) (λ f. rw (e, f, h)))
 
 -- ---- the first byte that is no space
 
 -- twice
-first-twice : (n : ℕ) (s : List ℕ) → mirroredFirst n (mirroredFirst n s) ≡ s
-unfolding mirroredFirst
-first-twice zero s = refl
-first-twice (suc n) [] = refl
-first-twice (suc n) (b ∷ s) = cases (eqb b space)
-    (λ e. rw (e, e) (ap (λ l. b ∷ l) (first-twice n s)))
-    (λ e. let d = digit-no-space b e in rw (e, d) (ap (λ c. c ∷ s) (digit-twice b)))
+first_twice : (n : ℕ) (s : List ℕ) → mirrored_first n (mirrored_first n s) ≡ s
+unfolding mirrored_first
+first_twice zero s = refl
+first_twice (suc n) [] = refl
+first_twice (suc n) (b ∷ s) = cases (eqb b space)
+    (λ e. rw (e, e) (ap (λ l. b ∷ l) (first_twice n s)))
+    (λ e. let d = digit_no_space b e in rw (e, d) (ap (λ c. c ∷ s) (digit_twice b)))
 
 -- as many bytes
-first-length : (n : ℕ) (s : List ℕ) → length (mirroredFirst n s) ≡ length s
-unfolding mirroredFirst
-first-length zero s = refl
-first-length (suc n) [] = refl
-first-length (suc n) (b ∷ s) = cases (eqb b space) (λ e. rw e (ap suc (first-length n s))) (λ e. rw e)
+first_length : (n : ℕ) (s : List ℕ) → length (mirrored_first n s) ≡ length s
+unfolding mirrored_first
+first_length zero s = refl
+first_length (suc n) [] = refl
+first_length (suc n) (b ∷ s) = cases (eqb b space) (λ e. rw e (ap suc (first_length n s))) (λ e. rw e)
 
 -- those from n on stay
-first-getD : (n : ℕ) (s : List ℕ) (i d : ℕ) → n ≤ i → get_or (mirroredFirst n s) i d ≡ get_or s i d
-unfolding mirroredFirst
-first-getD zero s i d h = refl
-first-getD (suc n) [] i d h = refl
-first-getD (suc n) (b ∷ s) zero d h = absurd (omega arith)
-first-getD (suc n) (b ∷ s) (suc i) d h = cases (eqb b space) (λ e. rw e (first-getD n s i d (omega arith))) (λ e. rw e)
+first_get_d : (n : ℕ) (s : List ℕ) (i d : ℕ) → n ≤ i → get_or (mirrored_first n s) i d ≡ get_or s i d
+unfolding mirrored_first
+first_get_d zero s i d h = refl
+first_get_d (suc n) [] i d h = refl
+first_get_d (suc n) (b ∷ s) zero d h = absurd (omega arith)
+first_get_d (suc n) (b ∷ s) (suc i) d h = cases (eqb b space) (λ e. rw e (first_get_d n s i d (omega arith))) (λ e. rw e)
 
-first-slice : (n : ℕ) (s : List ℕ) (f t : ℕ) → n ≤ f → slice f t (mirroredFirst n s) ≡ slice f t s
-unfolding mirroredFirst
-first-slice zero s f t h = refl
-first-slice (suc n) [] f t h = refl
-first-slice (suc n) (b ∷ s) zero t h = absurd (omega arith)
-first-slice (suc n) (b ∷ s) (suc f) zero h = refl
-first-slice (suc n) (b ∷ s) (suc f) (suc t) h = cases (eqb b space) (λ e. rw e (first-slice n s f t (omega arith))) (λ e. rw e)
+first_slice : (n : ℕ) (s : List ℕ) (f t : ℕ) → n ≤ f → slice f t (mirrored_first n s) ≡ slice f t s
+unfolding mirrored_first
+first_slice zero s f t h = refl
+first_slice (suc n) [] f t h = refl
+first_slice (suc n) (b ∷ s) zero t h = absurd (omega arith)
+first_slice (suc n) (b ∷ s) (suc f) zero h = refl
+first_slice (suc n) (b ∷ s) (suc f) (suc t) h = cases (eqb b space) (λ e. rw e (first_slice n s f t (omega arith))) (λ e. rw e)
 
 -- those below n by themselves
-first-take : (n : ℕ) (s : List ℕ) → take n (mirroredFirst n s) ≡ mirroredFirst n (take n s)
-unfolding mirroredFirst
-first-take zero s = refl
-first-take (suc n) [] = refl
-first-take (suc n) (b ∷ s) = cases (eqb b space) (λ e. rw e (ap (λ l. b ∷ l) (first-take n s))) (λ e. rw e)
+first_take : (n : ℕ) (s : List ℕ) → take n (mirrored_first n s) ≡ mirrored_first n (take n s)
+unfolding mirrored_first
+first_take zero s = refl
+first_take (suc n) [] = refl
+first_take (suc n) (b ∷ s) = cases (eqb b space) (λ e. rw e (ap (λ l. b ∷ l) (first_take n s))) (λ e. rw e)
 
 -- ---- the same past k bytes
 
 abbrev past : ℕ → ℕ → List ℕ → List ℕ
-past k n s = take k s ++ mirroredFirst n (drop k s)
+past k n s = take k s ++ mirrored_first n (drop k s)
 
-first-none : (n : ℕ) → mirroredFirst n [] ≡ []
-unfolding mirroredFirst
-first-none zero = refl
-first-none (suc n) = refl
+first_none : (n : ℕ) → mirrored_first n [] ≡ []
+unfolding mirrored_first
+first_none zero = refl
+first_none (suc n) = refl
 
-past-twice : (k n : ℕ) (s : List ℕ) → past k n (past k n s) ≡ s
-past-twice zero n s = first-twice n s
-past-twice (suc k) n [] = ap (past (suc k) n) (first-none n) ∙ first-none n
-past-twice (suc k) n (b ∷ s) = ap (λ l. b ∷ l) (past-twice k n s)
+past_twice : (k n : ℕ) (s : List ℕ) → past k n (past k n s) ≡ s
+past_twice zero n s = first_twice n s
+past_twice (suc k) n [] = ap (past (suc k) n) (first_none n) ∙ first_none n
+past_twice (suc k) n (b ∷ s) = ap (λ l. b ∷ l) (past_twice k n s)
 
-past-length : (k n : ℕ) (s : List ℕ) → length (past k n s) ≡ length s
-past-length zero n s = first-length n s
-past-length (suc k) n [] = ap length (first-none n)
-past-length (suc k) n (b ∷ s) = ap suc (past-length k n s)
+past_length : (k n : ℕ) (s : List ℕ) → length (past k n s) ≡ length s
+past_length zero n s = first_length n s
+past_length (suc k) n [] = ap length (first_none n)
+past_length (suc k) n (b ∷ s) = ap suc (past_length k n s)
 
-past-getD : (k n : ℕ) (s : List ℕ) (i d : ℕ) → k + n ≤ i → get_or (past k n s) i d ≡ get_or s i d
-past-getD zero n s i d h = first-getD n s i d (omega (arith, h))
-past-getD (suc k) n [] i d h = ap (λ l. get_or l i d) (first-none n)
-past-getD (suc k) n (b ∷ s) zero d h = absurd (omega arith)
-past-getD (suc k) n (b ∷ s) (suc i) d h = past-getD k n s i d (omega (arith, h))
+past_get_d : (k n : ℕ) (s : List ℕ) (i d : ℕ) → k + n ≤ i → get_or (past k n s) i d ≡ get_or s i d
+past_get_d zero n s i d h = first_get_d n s i d (omega (arith, h))
+past_get_d (suc k) n [] i d h = ap (λ l. get_or l i d) (first_none n)
+past_get_d (suc k) n (b ∷ s) zero d h = absurd (omega arith)
+past_get_d (suc k) n (b ∷ s) (suc i) d h = past_get_d k n s i d (omega (arith, h))
 
-past-slice : (k n : ℕ) (s : List ℕ) (f t : ℕ) → k + n ≤ f → slice f t (past k n s) ≡ slice f t s
-past-slice zero n s f t h = first-slice n s f t (omega (arith, h))
-past-slice (suc k) n [] f t h = ap (slice f t) (first-none n)
-past-slice (suc k) n (b ∷ s) zero t h = absurd (omega arith)
-past-slice (suc k) n (b ∷ s) (suc f) zero h = refl
-past-slice (suc k) n (b ∷ s) (suc f) (suc t) h = past-slice k n s f t (omega (arith, h))
+past_slice : (k n : ℕ) (s : List ℕ) (f t : ℕ) → k + n ≤ f → slice f t (past k n s) ≡ slice f t s
+past_slice zero n s f t h = first_slice n s f t (omega (arith, h))
+past_slice (suc k) n [] f t h = ap (slice f t) (first_none n)
+past_slice (suc k) n (b ∷ s) zero t h = absurd (omega arith)
+past_slice (suc k) n (b ∷ s) (suc f) zero h = refl
+past_slice (suc k) n (b ∷ s) (suc f) (suc t) h = past_slice k n s f t (omega (arith, h))
 
 -- the k bytes, and those that the exchange is in
-past-front : (k n : ℕ) (s : List ℕ) (t : ℕ) → t ≤ k → take t (past k n s) ≡ take t s
-past-front k n s zero h = refl
-past-front zero n s (suc t) h = absurd (omega arith)
-past-front (suc k) n [] (suc t) h = ap (take (suc t)) (first-none n)
-past-front (suc k) n (b ∷ s) (suc t) h = ap (λ l. b ∷ l) (past-front k n s t (omega (arith, h)))
+past_front : (k n : ℕ) (s : List ℕ) (t : ℕ) → t ≤ k → take t (past k n s) ≡ take t s
+past_front k n s zero h = refl
+past_front zero n s (suc t) h = absurd (omega arith)
+past_front (suc k) n [] (suc t) h = ap (take (suc t)) (first_none n)
+past_front (suc k) n (b ∷ s) (suc t) h = ap (λ l. b ∷ l) (past_front k n s t (omega (arith, h)))
 
-past-field : (k n : ℕ) (s : List ℕ) (t : ℕ) → t ≡ k + n → slice k t (past k n s) ≡ mirroredFirst n (slice k t s)
-past-field zero n s t e = let q : t ≡ n = omega (arith, e) in rw q (first-take n s)
-past-field (suc k) n s zero e = absurd (omega (arith, e))
-past-field (suc k) n [] (suc t) e = ap (slice (suc k) (suc t)) (first-none n) ∙ sym (first-none n)
-past-field (suc k) n (b ∷ s) (suc t) e = past-field k n s t (omega (arith, e))
+past_field : (k n : ℕ) (s : List ℕ) (t : ℕ) → t ≡ k + n → slice k t (past k n s) ≡ mirrored_first n (slice k t s)
+past_field zero n s t e = let q : t ≡ n = omega (arith, e) in rw q (first_take n s)
+past_field (suc k) n s zero e = absurd (omega (arith, e))
+past_field (suc k) n [] (suc t) e = ap (slice (suc k) (suc t)) (first_none n) ∙ sym (first_none n)
+past_field (suc k) n (b ∷ s) (suc t) e = past_field k n s t (omega (arith, e))
 
 -- ---- after the spaces
 
-unfoldable mirroredHead : List ℕ → List ℕ
-mirroredHead [] = []
-mirroredHead (b ∷ bs) = mirroredDigit b ∷ bs
+unfoldable mirrored_head : List ℕ → List ℕ
+mirrored_head [] = []
+mirrored_head (b ∷ bs) = mirrored_digit b ∷ bs
 
-first-trimmed : (n : ℕ) (s : List ℕ) → length s ≤ n → trimmed (mirroredFirst n s) ≡ mirroredHead (trimmed s)
-unfolding mirroredFirst trimmed mirroredHead
-first-trimmed zero [] h = refl
-first-trimmed zero (b ∷ s) h = absurd (omega arith)
-first-trimmed (suc n) [] h = refl
-first-trimmed (suc n) (b ∷ s) h = cases (eqb b space)
-    (λ e. rw (e, e) (first-trimmed n s (omega arith)))
-    (λ e. let d = digit-no-space b e in rw (e, d))
+first_trimmed : (n : ℕ) (s : List ℕ) → length s ≤ n → trimmed (mirrored_first n s) ≡ mirrored_head (trimmed s)
+unfolding mirrored_first trimmed mirrored_head
+first_trimmed zero [] h = refl
+first_trimmed zero (b ∷ s) h = absurd (omega arith)
+first_trimmed (suc n) [] h = refl
+first_trimmed (suc n) (b ∷ s) h = cases (eqb b space)
+    (λ e. rw (e, e) (first_trimmed n s (omega arith)))
+    (λ e. let d = digit_no_space b e in rw (e, d))
 
 -- the path that they say
-head-path : (t : List ℕ) → pathIn (mirroredHead t) ≡ mirroredPath (pathIn t)
-unfolding mirroredHead pathIn mirroredPath mirrorPath mirroredDigit marks
-head-path [] = refl
-head-path (b ∷ bs) = cases (eqb b nought)
-    (λ e. let q = eqb-true b nought e in rw q (by-alone bs))
+head_path : (t : List ℕ) → path_in (mirrored_head t) ≡ mirrored_path (path_in t)
+unfolding mirrored_head path_in mirrored_path mirror_path mirrored_digit marks
+head_path [] = refl
+head_path (b ∷ bs) = cases (eqb b nought)
+    (λ e. let q = eqb-true b nought e in rw q (by_alone bs))
     (λ e. cases (eqb b (nought + 1))
     (λ f. rw (e, f) (by_first (marks bs)))
     (λ f. cases (eqb b (nought + 2))
-    (λ g. rw (e, f, g) (by-second (marks bs)))
+    (λ g. rw (e, f, g) (by_second (marks bs)))
     (λ g. rw (e, f, g, e, f, g))))
   where
-    by-alone : (l : List ℕ) → emptyAlone l ≡ mirroredPath (emptyAlone l)
-    by-alone [] = refl
-    by-alone (c ∷ l) = refl
+    by_alone : (l : List ℕ) → empty_alone l ≡ mirrored_path (empty_alone l)
+    by_alone [] = refl
+    by_alone (c ∷ l) = refl
 
-    by_first : (o : Option Path) → outside (some second) o ≡ mirroredPath (outside (some first) o)
+    by_first : (o : Option Path) → outside (some second) o ≡ mirrored_path (outside (some first) o)
     by_first none = refl
     by_first (some p) = refl
 
-    by-second : (o : Option Path) → outside (some first) o ≡ mirroredPath (outside (some second) o)
-    by-second none = refl
-    by-second (some p) = refl
+    by_second : (o : Option Path) → outside (some first) o ≡ mirrored_path (outside (some second) o)
+    by_second none = refl
+    by_second (some p) = refl
 
 -- ---- an event's fields
 
 module _ (event : List ℕ) where
-  event-length : length (mirroredEvent event) ≡ length event
-  unfolding mirroredEvent
-  event-length = past-length roleColumns pathColumns event
+  event_length : length (mirrored_event event) ≡ length event
+  unfolding mirrored_event
+  event_length = past_length role_columns path_columns event
 
-  same-record : isRecord eventColumns (mirroredEvent event) ≡ isRecord eventColumns event
-  unfolding isRecord mirroredEvent
-  same-record = (λ j. eqb (event-length j) (recordBytes eventColumns) && eqb (past-getD roleColumns pathColumns event (total eventColumns) 0 (omega arith) j) newline)
+  same_record : is_record event_columns (mirrored_event event) ≡ is_record event_columns event
+  unfolding is_record mirrored_event
+  same_record = (λ j. eqb (event_length j) (record_bytes event_columns) && eqb (past_get_d role_columns path_columns event (total event_columns) 0 (omega arith) j) newline)
 
-  same-role : eventRole (mirroredEvent event) ≡ eventRole event
-  unfolding readsAt mirroredEvent
-  same-role = (λ j. roleSaid (cond (leb (0 + roleColumns) (event-length j)) (reads (past-front roleColumns pathColumns event roleColumns (omega arith) j)) unreadable))
+  same_role : event_role (mirrored_event event) ≡ event_role event
+  unfolding reads_at mirrored_event
+  same_role = (λ j. role_said (cond (leb (0 + role_columns) (event_length j)) (reads (past_front role_columns path_columns event role_columns (omega arith) j)) unreadable))
 
   abbrev path : List ℕ
-  path = slice roleColumns (roleColumns + pathColumns) event
+  path = slice role_columns (role_columns + path_columns) event
 
-  path-mirrored : readsPathAt (mirroredEvent event) roleColumns ≡ mirroredPath (readsPathAt event roleColumns)
-  unfolding readsPathAt mirroredEvent mirroredPath
-  path-mirrored =
-      let l : length path ≤ pathColumns = let m = length-take (roleColumns + pathColumns) event in let n = length-drop roleColumns (take (roleColumns + pathColumns) event) in omega (arith, m, n) in
-      let e : readsPath (slice roleColumns (roleColumns + pathColumns) (past roleColumns pathColumns event)) ≡ mirroredPath (readsPath path) =
-      ap readsPath (past-field roleColumns pathColumns event (roleColumns + pathColumns) refl)
-      ∙ ap pathIn (first-trimmed pathColumns path l)
-      ∙ head-path (trimmed path) in
-      (λ j. cond (leb (roleColumns + pathColumns) (event-length j)) (e j) none) ∙ by (leb (roleColumns + pathColumns) (length event)) (readsPath path)
+  path_mirrored : reads_path_at (mirrored_event event) role_columns ≡ mirrored_path (reads_path_at event role_columns)
+  unfolding reads_path_at mirrored_event mirrored_path
+  path_mirrored =
+      let l : length path ≤ path_columns = let m = length-take (role_columns + path_columns) event in let n = length-drop role_columns (take (role_columns + path_columns) event) in omega (arith, m, n) in
+      let e : reads_path (slice role_columns (role_columns + path_columns) (past role_columns path_columns event)) ≡ mirrored_path (reads_path path) =
+      ap reads_path (past_field role_columns path_columns event (role_columns + path_columns) refl)
+      ∙ ap path_in (first_trimmed path_columns path l)
+      ∙ head_path (trimmed path) in
+      (λ j. cond (leb (role_columns + path_columns) (event_length j)) (e j) none) ∙ by (leb (role_columns + path_columns) (length event)) (reads_path path)
     where
-      by : (b : Bool) (o : Option Path) → cond b (mirroredPath o) none ≡ mirroredPath (cond b o none)
+      by : (b : Bool) (o : Option Path) → cond b (mirrored_path o) none ≡ mirrored_path (cond b o none)
       by true o = refl
       by false o = refl
 
   -- a field after the path
-  same-field : (at w : ℕ) → roleColumns + pathColumns ≤ at → readsAt (mirroredEvent event) at w ≡ readsAt event at w
-  unfolding readsAt mirroredEvent
-  same-field at w h = (λ j. cond (leb (at + w) (event-length j)) (reads (past-slice roleColumns pathColumns event at (at + w) h j)) unreadable)
+  same_field : (at w : ℕ) → role_columns + path_columns ≤ at → reads_at (mirrored_event event) at w ≡ reads_at event at w
+  unfolding reads_at mirrored_event
+  same_field at w h = (λ j. cond (leb (at + w) (event_length j)) (reads (past_slice role_columns path_columns event at (at + w) h j)) unreadable)
 
-  same-fields : (ws : List ℕ) (at : ℕ) → roleColumns + pathColumns ≤ at → fields_at (mirroredEvent event) at ws ≡ fields_at event at ws
+  same_fields : (ws : List ℕ) (at : ℕ) → role_columns + path_columns ≤ at → fields_at (mirrored_event event) at ws ≡ fields_at event at ws
   unfolding fields_at
-  same-fields [] at h = refl
-  same-fields (w ∷ ws) at h = ap₂ ◌∷◌ (same-field at w h) (same-fields ws (at + w) (omega (arith, h)))
+  same_fields [] at h = refl
+  same_fields (w ∷ ws) at h = ap₂ ◌∷◌ (same_field at w h) (same_fields ws (at + w) (omega (arith, h)))
 
 -- ---- what they say
 
@@ -224,41 +224,41 @@ abbrev permitted : ℕ → Option (Path × Act × List Given) → Option (ℕ ×
 permitted k o = bind o λ t. cond (allowed t.1 t.2) (some (k, t.0, t.1, t.2)) none
 
 abbrev acted : Option (ℕ × Path × Act × List Given) → Option (ℕ × Path × Action)
-acted o = bind o λ t. some (t.0, t.1, actionOf t.2 t.3)
+acted o = bind o λ t. some (t.0, t.1, action_of t.2 t.3)
 
 abbrev saying : Bool → Option ℕ → Option Path → Option ℤ → Option (List Given) → Option (ℕ × Path × Action)
-saying r role path number leaves = acted (cond r (bind role λ k. permitted k (bind path λ p. bind number λ n. touched p (numbered actNumber actTable n) leaves)) none)
+saying r role path number leaves = acted (cond r (bind role λ k. permitted k (bind path λ p. bind number λ n. touched p (numbered act_number act_table n) leaves)) none)
 
-said-mirrored : (r : Bool) (role : Option ℕ) (path : Option Path) (number : Option ℤ) (leaves : Option (List Given))
-    → saying r role (mirroredPath path) number leaves ≡ movedTouch mirrorPath (saying r role path number leaves)
-unfolding bind mirroredPath movedTouch
-said-mirrored false role path number leaves = refl
-said-mirrored true none path number leaves = refl
-said-mirrored true (some k) none number leaves = refl
-said-mirrored true (some k) (some p) none leaves = refl
-said-mirrored true (some k) (some p) (some n) leaves = by (numbered actNumber actTable n) leaves
+said_mirrored : (r : Bool) (role : Option ℕ) (path : Option Path) (number : Option ℤ) (leaves : Option (List Given))
+    → saying r role (mirrored_path path) number leaves ≡ moved_touch mirror_path (saying r role path number leaves)
+unfolding bind mirrored_path moved_touch
+said_mirrored false role path number leaves = refl
+said_mirrored true none path number leaves = refl
+said_mirrored true (some k) none number leaves = refl
+said_mirrored true (some k) (some p) none leaves = refl
+said_mirrored true (some k) (some p) (some n) leaves = by (numbered act_number act_table n) leaves
   where
-    told : (b : Bool) (a : Act) (ls : List Given) → acted (cond b (some (k, mirrorPath p, a, ls)) none) ≡ movedTouch mirrorPath (acted (cond b (some (k, p, a, ls)) none))
+    told : (b : Bool) (a : Act) (ls : List Given) → acted (cond b (some (k, mirror_path p, a, ls)) none) ≡ moved_touch mirror_path (acted (cond b (some (k, p, a, ls)) none))
     told true a ls = refl
     told false a ls = refl
 
     by : (o : Option Act) (leaves : Option (List Given))
-        → acted (permitted k (touched (mirrorPath p) o leaves)) ≡ movedTouch mirrorPath (acted (permitted k (touched p o leaves)))
+        → acted (permitted k (touched (mirror_path p) o leaves)) ≡ moved_touch mirror_path (acted (permitted k (touched p o leaves)))
     by none leaves = refl
     by (some a) none = refl
     by (some a) (some ls) = told (allowed a ls) a ls
 
 -- THE THEOREM of events
-pub mirrored-event : (event : List ℕ) → eventOf (mirroredEvent event) ≡ movedTouch mirrorPath (eventOf event)
-unfolding eventOf eventSays touchIn
-mirrored-event event =
-    let action = roleColumns + pathColumns in
-    let leaves = roleColumns + pathColumns + actionColumns in
-    (λ j. saying (same-record event j) (same-role event j) (path-mirrored event j) (numberSaid (same-field event action actionColumns (omega arith) j))
-    (each leafSaid (same-fields event (replicate maxLeaves wordColumns) leaves (omega arith) j)))
-    ∙ said-mirrored (isRecord eventColumns event) (eventRole event) (readsPathAt event roleColumns) (numberSaid (readsAt event action actionColumns))
-    (each leafSaid (fields_at event leaves (replicate maxLeaves wordColumns)))
+pub mirrored_event_lem : (event : List ℕ) → event_of (mirrored_event event) ≡ moved_touch mirror_path (event_of event)
+unfolding event_of event_says touch_in
+mirrored_event_lem event =
+    let action = role_columns + path_columns in
+    let leaves = role_columns + path_columns + action_columns in
+    (λ j. saying (same_record event j) (same_role event j) (path_mirrored event j) (number_said (same_field event action action_columns (omega arith) j))
+    (each leaf_said (same_fields event (replicate max_leaves word_columns) leaves (omega arith) j)))
+    ∙ said_mirrored (is_record event_columns event) (event_role event) (reads_path_at event role_columns) (number_said (reads_at event action action_columns))
+    (each leaf_said (fields_at event leaves (replicate max_leaves word_columns)))
 
-pub mirrored-twice : (event : List ℕ) → mirroredEvent (mirroredEvent event) ≡ event
-unfolding mirroredEvent
-mirrored-twice event = past-twice roleColumns pathColumns event
+pub mirrored_twice : (event : List ℕ) → mirrored_event (mirrored_event event) ≡ event
+unfolding mirrored_event
+mirrored_twice event = past_twice role_columns path_columns event

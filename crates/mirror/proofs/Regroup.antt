@@ -24,33 +24,33 @@
 use mathlib.Core.List.{List}
 use lib.IntN.{ℤ}
 use Rattle.call_definitions.specs.Touches.{Call, after, run}
-use Rattle.mirror.specs.Regrouped.{Regroups, Stand, Together, no_more, both-look, both-handle, Regrouped}
+use Rattle.mirror.specs.Regrouped.{Regroups, Stand, Together, no_more, both_look, both_handle, Regrouped}
 use Rattle.mirror.proofs.RegroupedStates.{types_same}
-use Rattle.mirror.proofs.RegroupedStarts.{starts-together}
-use Rattle.mirror.proofs.RegroupedRests.{rests-there, rests-back}
-use Rattle.mirror.proofs.RegroupedLooks.{looks-together, shows-together}
-use Rattle.mirror.proofs.RegroupedTouches.{touches-together}
-use Rattle.mirror.proofs.Counterparts.{there-together, back-together}
+use Rattle.mirror.proofs.RegroupedStarts.{starts_together}
+use Rattle.mirror.proofs.RegroupedRests.{rests_there, rests_back}
+use Rattle.mirror.proofs.RegroupedLooks.{looks_together, shows_together}
+use Rattle.mirror.proofs.RegroupedTouches.{touches_together}
+use Rattle.mirror.proofs.Counterparts.{there_together, back_together}
 
 module _ {rows rows₁ : List ℤ} (g : Regroups rows rows₁) where
   -- by one call after another
-  runs-together : {ws ws₁ : List ℤ} {ks ks₁ : List Call} → Stand g ws ws₁ → Together g ws ws₁ ks ks₁
+  runs_together : {ws ws₁ : List ℤ} {ks ks₁ : List Call} → Stand g ws ws₁ → Together g ws ws₁ ks ks₁
       → Stand g (run rows ws ks) (run rows₁ ws₁ ks₁)
   unfolding run after
-  runs-together z no_more = z
-  runs-together z (both-look d) = runs-together z d
-  runs-together z (both-handle {event = event} {event₁ = event₁} y e d) = runs-together (touches-together g y event event₁ e).2 d
+  runs_together z no_more = z
+  runs_together z (both_look d) = runs_together z d
+  runs_together z (both_handle {event = event} {event₁ = event₁} y e d) = runs_together (touches_together g y event event₁ e).2 d
 
   pub regroup : Regrouped g
   regroup = record {
     types = types_same g;
-    starts = starts-together g;
-    rests = rests-there g;
-    rests-back = rests-back g;
-    looks = looks-together g;
-    shows = shows-together g;
-    touches = touches-together g;
-    there = there-together g;
-    back = back-together g;
-    runs = runs-together;
+    starts = starts_together g;
+    rests = rests_there g;
+    rests_back = rests_back g;
+    looks = looks_together g;
+    shows = shows_together g;
+    touches = touches_together g;
+    there = there_together g;
+    back = back_together g;
+    runs = runs_together;
   }

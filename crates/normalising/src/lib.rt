@@ -1,9 +1,9 @@
 // Failing, normalising and striding: a cycle in which the row falls (01: "failing calls normalise on branches, normalise calls stride,
 // stride calls failing"). Between them stand `settle` and `tried`, `attempt` and `choose`; `tried` and `attempt` alone hold a copy of the
 // state, so that frames stay small. Rests on crate running for values, evaluation and rows that hand on, and on crate state's contracts.
-ghost use Rattle.rows.specs.Kinds.{eitherK, ifK, taskK, orK, viewK};
+ghost use Rattle.rows.specs.Kinds.{either_k, if_k, task_k, or_k, view_k};
 ghost use Rattle.rows.specs.Rows.{OfKind, FromKind, UpToKind};
-ghost use Rattle.state.specs.Contracts.{Fine, FailingOk, StrideOk, NormaliseOk};
+ghost use Rattle.state.specs.Ensured.{Fine, FailingOk, StrideOk, NormaliseOk};
 ghost use Rattle.running.specs.Hands.{Unhanded};
 ghost use Rattle.normalising.specs.Trying.{SettleOk, TriedOk, AttemptOk};
 
@@ -161,7 +161,7 @@ fn choose(
     env: &[u32; ENV_WORDS],
     depth: usize,
 ) -> bool
-    requires { Fine rows.now row depth × OfKind rows.now row (taskK orK) × Unhanded rows.now state.old row }
+    requires { Fine rows.now row depth × OfKind rows.now row (task_k or_k) × Unhanded rows.now state.old row }
     ensures { StrideOk rows.now state.old state.new row env.now depth result }
 {
     let a = operand(rows, row, 1);
@@ -194,7 +194,7 @@ pub fn attempt(
     depth: usize,
     v: Value,
 ) -> bool
-    requires { Fine rows.now row depth × FromKind rows.now row (eitherK ifK) × UpToKind rows.now row (taskK viewK) }
+    requires { Fine rows.now row depth × FromKind rows.now row (either_k if_k) × UpToKind rows.now row (task_k view_k) }
     ensures { AttemptOk rows.now state.old state.new row env.now depth v result }
 {
     if MAX_BINDERS <= depth {

@@ -9,17 +9,17 @@ use native.Mathlib.Decide.{dec_le}
 use lib.Dec.{eqb}
 use lib.IntN.{pos, negsuc}
 use lib.ListN.{length}
-use Rattle.word.specs.Word.{isWord}
-use Rattle.tophat.specs.Syntax.{leaves, sum, difference, product, less, lessEqual, equal, and_op, orOp, Val, vtruth, vnumber}
-use Rattle.tophat.proofs.ComputeTyping.{ask, nth, takes, gives, numberTo, opTo, sameTo, ifTo, typeTo, firstTo, secondTo, assignTo, infer, inferTask}
-use Rattle.tophat.proofs.ComputeEvaluation.{leaf, isTrue, kept, exact, apply, eval}
-use Rattle.tophat.specs.Roles.{isRole}
-use Rattle.rows.specs.Kinds.{kind_of, asksOf}
-use Rattle.rows.specs.Rows.{every, listedAs, listed, truthCell, rowListed, sortBy, sorts, sortNumber, sortedAs, sorted, rowSorted, names, namesBy, namesIn, namings, namedOnce, lastFits}
-use Rattle.rows.specs.Enclosing.{bindersBy, marksBy, mostBinders, mostMarks, counts, leavesBy, rowSmall}
-use Rattle.rows.specs.Trees.{operatorOf}
-use Rattle.rows.specs.ComputeTrees.{type_at, expAt, code_at, cellType, cellTypes}
-use Rattle.rows.specs.Ground.{flowType, is_some, passes3, passes4, passes5, passes6, passes7, groundOfRows}
+use Rattle.word.specs.Word.{is_word}
+use Rattle.tophat.specs.Syntax.{leaves, sum, difference, product, less, less_equal, equal, and_op, or_op, Val, vtruth, vnumber}
+use Rattle.tophat.proofs.ComputeTyping.{ask, nth, takes, gives, number_to, op_to, same_to, if_to, type_to, first_to, second_to, assign_to, infer, infer_task}
+use Rattle.tophat.proofs.ComputeEvaluation.{leaf, is_true, kept, exact, apply, eval}
+use Rattle.tophat.specs.Roles.{is_role}
+use Rattle.rows.specs.Kinds.{kind_of, asks_of}
+use Rattle.rows.specs.Rows.{every, listed_as, listed, truth_cell, row_listed, sort_by, sorts, sort_number, sorted_as, sorted, row_sorted, names, names_by, names_in, namings, named_once, last_fits}
+use Rattle.rows.specs.Enclosing.{binders_by, marks_by, most_binders, most_marks, counts, leaves_by, row_small}
+use Rattle.rows.specs.Trees.{operator_of}
+use Rattle.rows.specs.ComputeTrees.{type_at, exp_at, code_at, cell_type, cell_types}
+use Rattle.rows.specs.Ground.{flow_type, is_some, passes3, passes4, passes5, passes6, passes7, ground_of_rows}
 
 -- kind, A, B, C
 abbrev Row : Type 0
@@ -39,9 +39,9 @@ around k zero = (1, 0, 0, 0) ∷ (45, 0, 0, 0) ∷ []
 around k (suc n) = around k n ++ (45, 0, 0, 0) ∷ (k, 2 * n + 2, 2 * n + 1, 0) ∷ []
 
 -- the same around a shown unit
-abbrev aroundShown : ℕ → ℕ → List Row
-aroundShown k zero = (1, 0, 0, 0) ∷ (20, 0, 0, 0) ∷ (49, 1, 0, 0) ∷ []
-aroundShown k (suc n) = aroundShown k n ++ (45, 0, 0, 0) ∷ (k, 2 * n + 3, 2 * n + 2, 0) ∷ []
+abbrev around_shown : ℕ → ℕ → List Row
+around_shown k zero = (1, 0, 0, 0) ∷ (20, 0, 0, 0) ∷ (49, 1, 0, 0) ∷ []
+around_shown k (suc n) = around_shown k n ++ (45, 0, 0, 0) ∷ (k, 2 * n + 3, 2 * n + 2, 0) ∷ []
 
 -- n rows of kind 50 around a row (CR 6)
 abbrev gates : ℕ → List Row
@@ -49,8 +49,8 @@ gates zero = (1, 0, 0, 0) ∷ (45, 0, 0, 0) ∷ []
 gates (suc n) = gates n ++ (50, 1, n + 1, 9) ∷ []
 
 -- types of 1, 2, 4 and 8 leaves
-abbrev eightLeaves : List Row
-eightLeaves = (3, 0, 0, 0) ∷ (4, 0, 0, 0) ∷ (4, 1, 1, 0) ∷ (4, 2, 2, 0) ∷ []
+abbrev eight_leaves : List Row
+eight_leaves = (3, 0, 0, 0) ∷ (4, 0, 0, 0) ∷ (4, 1, 1, 0) ∷ (4, 2, 2, 0) ∷ []
 
 -- a ground, and rows that get it
 abbrev cases : List (ℕ × List Row)
@@ -85,25 +85,25 @@ cases =
     (0, (3, 0, 0, 0) ∷ (45, 0, 0, 0) ∷ (45, 0, 0, 0) ∷ (48, 1, 2, 0) ∷ []) ∷  -- a type named twice
     (5, (22, 1, 0, 0) ∷ (22, 2, 0, 0) ∷ (24, 1, 0, 1) ∷ []) ∷  -- the last row plain, of kind 24
     (5, (3, 0, 0, 0) ∷ []) ∷  -- the last row a type
-    (0, eightLeaves ++ (41, 3, 0, 0) ∷ []) ∷  -- a type of 8 leaves
-    (6, eightLeaves ++ (4, 3, 0, 0) ∷ (41, 4, 0, 0) ∷ []) ∷  -- a type of 9 leaves
-    (6, eightLeaves ++ (4, 3, 0, 0) ∷ (41, 0, 0, 0) ∷ []) ∷  -- one that no row names
+    (0, eight_leaves ++ (41, 3, 0, 0) ∷ []) ∷  -- a type of 8 leaves
+    (6, eight_leaves ++ (4, 3, 0, 0) ∷ (41, 4, 0, 0) ∷ []) ∷  -- a type of 9 leaves
+    (6, eight_leaves ++ (4, 3, 0, 0) ∷ (41, 0, 0, 0) ∷ []) ∷  -- one that no row names
     (7, (22, 1, 0, 0) ∷ (21, 1, 0, 0) ∷ (24, 1, 0, 1) ∷ (40, 2, 0, 0) ∷ []) ∷  -- a sum of a truth
     (7, (23, 0, 0, 0) ∷ (40, 0, 0, 0) ∷ []) ∷  -- a 23 that reaches no binder
     (7, (22, 1, 0, 0) ∷ (22, 2, 0, 0) ∷ (31, 0, 1, 0) ∷ []) ∷  -- the last row plain, of kind 31
     (7, (1, 0, 0, 0) ∷ (3, 0, 0, 0) ∷ (45, 0, 0, 0) ∷ (45, 1, 0, 0) ∷ (47, 2, 3, 0) ∷ []) ∷  -- choices of two types
-    (0, eightLeaves ++ (41, 2, 0, 0) ∷ (41, 2, 0, 0) ∷ (46, 4, 5, 0) ∷ []) ∷  -- 46 of 4 and 4 leaves
-    (7, eightLeaves ++ (41, 3, 0, 0) ∷ (41, 0, 0, 0) ∷ (46, 4, 5, 0) ∷ []) ∷  -- 46 over 8 leaves
-    (0, eightLeaves ++ (41, 2, 0, 0) ∷ (23, 0, 0, 0) ∷ (23, 0, 0, 0) ∷ (26, 5, 6, 0) ∷ (40, 7, 0, 0) ∷ (43, 4, 8, 0) ∷ []) ∷  -- 26 of 4 and 4 leaves
-    (7, eightLeaves ++ (41, 3, 0, 0) ∷ (23, 0, 0, 0) ∷ (22, 1, 0, 0) ∷ (26, 5, 6, 0) ∷ (40, 7, 0, 0) ∷ (43, 4, 8, 0) ∷ []) ∷  -- 26 over 8 leaves
+    (0, eight_leaves ++ (41, 2, 0, 0) ∷ (41, 2, 0, 0) ∷ (46, 4, 5, 0) ∷ []) ∷  -- 46 of 4 and 4 leaves
+    (7, eight_leaves ++ (41, 3, 0, 0) ∷ (41, 0, 0, 0) ∷ (46, 4, 5, 0) ∷ []) ∷  -- 46 over 8 leaves
+    (0, eight_leaves ++ (41, 2, 0, 0) ∷ (23, 0, 0, 0) ∷ (23, 0, 0, 0) ∷ (26, 5, 6, 0) ∷ (40, 7, 0, 0) ∷ (43, 4, 8, 0) ∷ []) ∷  -- 26 of 4 and 4 leaves
+    (7, eight_leaves ++ (41, 3, 0, 0) ∷ (23, 0, 0, 0) ∷ (22, 1, 0, 0) ∷ (26, 5, 6, 0) ∷ (40, 7, 0, 0) ∷ (43, 4, 8, 0) ∷ []) ∷  -- 26 over 8 leaves
     (0, binders 16 ++ (40, 32, 0, 0) ∷ []) ∷  -- 16 binders
     (6, binders 17 ++ (40, 34, 0, 0) ∷ []) ∷  -- 17 binders
     (0, around 47 16) ∷  -- 16 marks
     (6, around 47 17) ∷  -- 17 marks
     (6, around 46 17) ∷  -- 17 marks
     (0, around 48 17) ∷  -- 48 is no mark
-    (0, aroundShown 47 16) ∷  -- 16 marks around a shown value and what it shows: 49 is no mark
-    (6, aroundShown 47 17) ∷  -- 17 marks around a shown value
+    (0, around_shown 47 16) ∷  -- 16 marks around a shown value and what it shows: 49 is no mark
+    (6, around_shown 47 17) ∷  -- 17 marks around a shown value
     (0, gates 17) ∷  -- CR 6: 50 is no mark and no binder
     (0, around 43 16) ∷  -- 16 binders, of steps
     (6, around 43 17) ∷  -- 17 binders, of steps
@@ -111,21 +111,21 @@ cases =
     []
 
 -- the ground of rows, with all that is unfolded on the way
-unfoldable pub groundOf : List Row → ℕ
+unfoldable pub ground_of : List Row → ℕ
 unfolding
-    groundOfRows passes3 passes4 passes5 passes6 passes7 flowType is_some every rowListed listed listedAs isRole truthCell rowSorted sorts sortBy
-    sorted sortedAs sortNumber namedOnce namings namesIn namesBy names lastFits rowSmall counts leavesBy mostBinders mostMarks bindersBy marksBy
-    kind_of asksOf operatorOf code_at expAt type_at cellTypes cellType bind inferTask infer nth ask opTo ifTo sameTo typeTo numberTo takes gives firstTo
-    secondTo assignTo leaves dec_le
-groundOf rs = groundOfRows (words_of rs) (length rs)
+    ground_of_rows passes3 passes4 passes5 passes6 passes7 flow_type is_some every row_listed listed listed_as is_role truth_cell row_sorted sorts sort_by
+    sorted sorted_as sort_number named_once namings names_in names_by names last_fits row_small counts leaves_by most_binders most_marks binders_by marks_by
+    kind_of asks_of operator_of code_at exp_at type_at cell_types cell_type bind infer_task infer nth ask op_to if_to same_to type_to number_to takes gives first_to
+    second_to assign_to leaves dec_le
+ground_of rs = ground_of_rows (words_of rs) (length rs)
 
 abbrev met : List (ℕ × List Row) → Bool
 met [] = true
-met (c ∷ cs) = eqb (groundOf c.1) c.0 && met cs
+met (c ∷ cs) = eqb (ground_of c.1) c.0 && met cs
 
-pub all-met : met cases ≡ true
-unfolding groundOf
-all-met = refl
+pub all_met : met cases ≡ true
+unfolding ground_of
+all_met = refl
 
 -- ---- operators: 01's "1 sum, 2 difference, 3 product, 4 less, 5 less or equal, 6 equal (all on numbers), 7 and, 8 or (on truths, ..)"
 
@@ -134,19 +134,19 @@ abbrev operation : ℕ → ℕ → ℕ → ℕ → List Row
 operation o k x y = (k, x, 0, 0) ∷ (k, y, 0, 0) ∷ (24, o, 0, 1) ∷ []
 
 -- which operator each number is
-pub operators-named : map operatorOf (1 ∷ 2 ∷ 3 ∷ 4 ∷ 5 ∷ 6 ∷ 7 ∷ 8 ∷ []) ≡ (sum ∷ difference ∷ product ∷ less ∷ lessEqual ∷ equal ∷ and_op ∷ orOp ∷ [])
-unfolding operatorOf
-operators-named = refl
+pub operators_named : map operator_of (1 ∷ 2 ∷ 3 ∷ 4 ∷ 5 ∷ 6 ∷ 7 ∷ 8 ∷ []) ≡ (sum ∷ difference ∷ product ∷ less ∷ less_equal ∷ equal ∷ and_op ∷ or_op ∷ [])
+unfolding operator_of
+operators_named = refl
 
 -- the ground of an editor of operator o on two numbers, and on two truths
-abbrev groundsOn : ℕ → ℕ × ℕ
-groundsOn o = (groundOf (operation o 22 1 1 ++ (40, 2, 0, 0) ∷ []), groundOf (operation o 21 1 1 ++ (40, 2, 0, 0) ∷ []))
+abbrev grounds_on : ℕ → ℕ × ℕ
+grounds_on o = (ground_of (operation o 22 1 1 ++ (40, 2, 0, 0) ∷ []), ground_of (operation o 21 1 1 ++ (40, 2, 0, 0) ∷ []))
 
 -- 0 and 9 are none; 1 to 6 are on numbers, 7 and 8 on truths
-pub operators-typed : map groundsOn (0 ∷ 1 ∷ 2 ∷ 3 ∷ 4 ∷ 5 ∷ 6 ∷ 7 ∷ 8 ∷ 9 ∷ [])
+pub operators_typed : map grounds_on (0 ∷ 1 ∷ 2 ∷ 3 ∷ 4 ∷ 5 ∷ 6 ∷ 7 ∷ 8 ∷ 9 ∷ [])
     ≡ ((3, 3) ∷ (0, 7) ∷ (0, 7) ∷ (0, 7) ∷ (0, 7) ∷ (0, 7) ∷ (0, 7) ∷ (7, 0) ∷ (7, 0) ∷ (3, 3) ∷ [])
-unfolding groundOf
-operators-typed = refl
+unfolding ground_of
+operators_typed = refl
 
 -- operator, kind of both operands, their A, and the value
 abbrev results : List (ℕ × ℕ × ℕ × ℕ × Val)
@@ -176,8 +176,8 @@ results =
     []
 
 abbrev value_of : ℕ → ℕ → ℕ → ℕ → Option Val
-value_of o k x y = bind (expAt (words_of (operation o k x y)) 3 2) λ e. some (eval e [] []).0
+value_of o k x y = bind (exp_at (words_of (operation o k x y)) 3 2) λ e. some (eval e [] []).0
 
-pub operators-valued : map (λ (o, k, x, y, v). value_of o k x y) results ≡ map (λ (o, k, x, y, v). some v) results
-unfolding expAt bind kind_of operatorOf eval apply exact kept isWord isTrue leaf
-operators-valued = refl
+pub operators_valued : map (λ (o, k, x, y, v). value_of o k x y) results ≡ map (λ (o, k, x, y, v). some v) results
+unfolding exp_at bind kind_of operator_of eval apply exact kept is_word is_true leaf
+operators_valued = refl

@@ -8,18 +8,18 @@ use Prim.Native.Nat.{ℕ, ◌-◌, ◌≤◌}
 use native.Mathlib.Omega.{arith}
 use borrow.Table.Steps.{cases}
 use Rattle.tophat.specs.Syntax.{Ty, Code, Store}
-use Rattle.tophat.proofs.Basics.{no-some}
-use Rattle.tophat.proofs.ComputeTyping.{inferTask}
-use Rattle.tophat.proofs.TypingAgrees.{infer-task-is, infer-task-sound, one-task-type}
-use Rattle.rows.specs.Rows.{rowSorted}
+use Rattle.tophat.proofs.Basics.{no_some}
+use Rattle.tophat.proofs.ComputeTyping.{infer_task}
+use Rattle.tophat.proofs.TypingAgrees.{infer_task_is, infer_task_sound, one_task_type}
+use Rattle.rows.specs.Rows.{row_sorted}
 use Rattle.rows.specs.Trees.{Flow}
-use Rattle.rows.specs.ComputeTrees.{code_at, cellTypes}
-use Rattle.rows.specs.Ground.{WellFormed, Small, IsFlow, Untyped, RowsGround, rows-3, rows-4, rows-5, rows-6, rows-7, rows-0, flowType, is_some, passes3, passes4, passes5, passes6, passes7, firstGround, groundOfRows}
-use Rattle.rows.proofs.Basics.{no, every-at}
-use Rattle.rows.proofs.TreesAgree.{code_is, one_code, cells_are, one-cells}
-use Rattle.rows.proofs.Exists.{Sorted, cells-exist}
-use Rattle.rows.proofs.Most.{small_of, of-small}
-use Rattle.rows.proofs.CodeRead.{none-some, code_read}
+use Rattle.rows.specs.ComputeTrees.{code_at, cell_types}
+use Rattle.rows.specs.Ground.{WellFormed, Small, IsFlow, Untyped, RowsGround, rows_3, rows_4, rows_5, rows_6, rows_7, rows_0, flow_type, is_some, passes3, passes4, passes5, passes6, passes7, first_ground, ground_of_rows}
+use Rattle.rows.proofs.Basics.{no, every_at}
+use Rattle.rows.proofs.TreesAgree.{code_is, one_code, cells_are, one_cells}
+use Rattle.rows.proofs.Exists.{Sorted, cells_exist}
+use Rattle.rows.proofs.Most.{small_of, of_small}
+use Rattle.rows.proofs.CodeRead.{none_some, code_read}
 
 -- ---- a flow is unique
 
@@ -29,17 +29,17 @@ pub record SameFlow (c c₁ : Code) (Σ Σ₁ : List Ty) (s s₁ : Store) (τ τ
   pub store : s ≡ s₁
   pub type : τ ≡ τ₁
 
-pub one-flow : {rs : List ℕ} {n : ℕ} {c c₁ : Code} {Σ Σ₁ : List Ty} {s s₁ : Store} {τ τ₁ : Ty} → Flow rs n c Σ s τ → Flow rs n c₁ Σ₁ s₁ τ₁ → SameFlow c c₁ Σ Σ₁ s s₁ τ τ₁
-one-flow f g =
-    let p = one_code f.code g.code in let q = one-cells f.cells g.cells in
-    record { code = p; cells = q.0; store = q.1; type = one-task-type (rw (p, q.0) at f.typed) g.typed }
+pub one_flow : {rs : List ℕ} {n : ℕ} {c c₁ : Code} {Σ Σ₁ : List Ty} {s s₁ : Store} {τ τ₁ : Ty} → Flow rs n c Σ s τ → Flow rs n c₁ Σ₁ s₁ τ₁ → SameFlow c c₁ Σ Σ₁ s s₁ τ τ₁
+one_flow f g =
+    let p = one_code f.code g.code in let q = one_cells f.cells g.cells in
+    record { code = p; cells = q.0; store = q.1; type = one_task_type (rw (p, q.0) at f.typed) g.typed }
 
 -- ---- what is computed of the last row
 
-bind-some : {X Y : Type 0} (o : Option X) (f : X → Option Y) {y : Y} → bind o f ≡ some y → (x : X) × (o ≡ some x) × (f x ≡ some y)
+bind_some : {X Y : Type 0} (o : Option X) (f : X → Option Y) {y : Y} → bind o f ≡ some y → (x : X) × (o ≡ some x) × (f x ≡ some y)
 unfolding bind
-bind-some none f h = no-some h
-bind-some (some x) f h = (x, refl, h)
+bind_some none f h = no_some h
+bind_some (some x) f h = (x, refl, h)
 
 bind_is : {X Y : Type 0} (o : Option X) (f : X → Option Y) {x : X} → o ≡ some x → bind o f ≡ f x
 unfolding bind
@@ -65,81 +65,81 @@ is_none (some x) h = no (sym h)
 module _ (rs : List ℕ) (n : ℕ) where
   pub sorted_of : passes4 rs n ≡ true → Sorted rs n
   unfolding passes4
-  sorted_of h = every-at n (λ i. rowSorted rs i) h
+  sorted_of h = every_at n (λ i. row_sorted rs i) h
 
   small_at : passes4 rs n ≡ true → passes6 rs n ≡ true → Small rs n
   unfolding passes6
   small_at f h = small_of rs n (sorted_of f) h
 
-  six-of : passes4 rs n ≡ true → Small rs n → passes6 rs n ≡ true
+  six_of : passes4 rs n ≡ true → Small rs n → passes6 rs n ≡ true
   unfolding passes6
-  six-of f k = of-small rs n (sorted_of f) k
+  six_of f k = of_small rs n (sorted_of f) k
 
   module _ (l : 1 ≤ n) where
-    pub flow-type-is : {c : Code} {Σ : List Ty} {s : Store} {τ : Ty} → Flow rs n c Σ s τ → flowType rs n ≡ some τ
-    unfolding flowType
-    flow-type-is {c = c} {τ = τ} f =
+    pub flow_type_is : {c : Code} {Σ : List Ty} {s : Store} {τ : Ty} → Flow rs n c Σ s τ → flow_type rs n ≡ some τ
+    unfolding flow_type
+    flow_type_is {c = c} {τ = τ} f =
         let e = (cells_are f.cells).0 in
-        bind_is (code_at rs n (n - 1)) (λ c. inferTask (cellTypes rs n) [] c) (code_is f.code n (omega arith)) ∙ subst (λ Σ. inferTask Σ [] c ≡ some τ) e (infer-task-is f.typed)
+        bind_is (code_at rs n (n - 1)) (λ c. infer_task (cell_types rs n) [] c) (code_is f.code n (omega arith)) ∙ subst (λ Σ. infer_task Σ [] c ≡ some τ) e (infer_task_is f.typed)
 
-    pub flow-of-type : passes4 rs n ≡ true → {τ : Ty} → flowType rs n ≡ some τ → (c : Code) × (Σ : List Ty) × (s : Store) × Flow rs n c Σ s τ
-    unfolding flowType
-    flow-of-type h e =
+    pub flow_of_type : passes4 rs n ≡ true → {τ : Ty} → flow_type rs n ≡ some τ → (c : Code) × (Σ : List Ty) × (s : Store) × Flow rs n c Σ s τ
+    unfolding flow_type
+    flow_of_type h e =
         let q = sorted_of h in
-        let (c, x, y) = bind-some (code_at rs n (n - 1)) (λ c. inferTask (cellTypes rs n) [] c) e in
-        let (Σ, s, d) = cells-exist rs n q in
+        let (c, x, y) = bind_some (code_at rs n (n - 1)) (λ c. infer_task (cell_types rs n) [] c) e in
+        let (Σ, s, d) = cells_exist rs n q in
         let p = (cells_are d).0 in
-        (c, Σ, s, record { code = code_read rs n (n - 1) n c q (omega arith) (omega arith) x; cells = d; typed = infer-task-sound Σ [] c (rw p y) })
+        (c, Σ, s, record { code = code_read rs n (n - 1) n c q (omega arith) (omega arith) x; cells = d; typed = infer_task_sound Σ [] c (rw p y) })
 
     -- the last row has a type exactly where the rows are a flow
-    seven-flow : passes4 rs n ≡ true → passes7 rs n ≡ true → IsFlow rs n
+    seven_flow : passes4 rs n ≡ true → passes7 rs n ≡ true → IsFlow rs n
     unfolding passes7
-    seven-flow f h =
-        let (τ, t) = some_of (flowType rs n) h in
-        let (c, Σ, s, k) = flow-of-type f t in
+    seven_flow f h =
+        let (τ, t) = some_of (flow_type rs n) h in
+        let (c, Σ, s, k) = flow_of_type f t in
         record { code = c; cells = Σ; store = s; type = τ; flow = k }
 
-    flow-seven : IsFlow rs n → passes7 rs n ≡ true
+    flow_seven : IsFlow rs n → passes7 rs n ≡ true
     unfolding passes7 is_some
-    flow-seven f = ap is_some (flow-type-is f.flow)
+    flow_seven f = ap is_some (flow_type_is f.flow)
 
-    seven-untyped : passes7 rs n ≡ false → Untyped rs n
+    seven_untyped : passes7 rs n ≡ false → Untyped rs n
     unfolding passes7
-    seven-untyped h c r Σ s d τ k = none-some (is_none (flowType rs n) h) (flow-type-is (record { code = r; cells = d; typed = k }))
+    seven_untyped h c r Σ s d τ k = none_some (is_none (flow_type rs n) h) (flow_type_is (record { code = r; cells = d; typed = k }))
 
-    untyped-seven : passes4 rs n ≡ true → Untyped rs n → passes7 rs n ≡ false
+    untyped_seven : passes4 rs n ≡ true → Untyped rs n → passes7 rs n ≡ false
     unfolding passes7
-    untyped-seven f u = none_or_some (flowType rs n) (λ τ e. let (c, Σ, s, k) = flow-of-type f e in u c k.code Σ s k.cells τ k.typed)
+    untyped_seven f u = none_or_some (flow_type rs n) (λ τ e. let (c, Σ, s, k) = flow_of_type f e in u c k.code Σ s k.cells τ k.typed)
 
     -- the rules derive the ground that is computed
-    pub ground-derived : RowsGround rs n (groundOfRows rs n)
-    unfolding groundOfRows
-    ground-derived = by (passes3 rs n) (passes4 rs n) (passes5 rs n) (passes6 rs n) (passes7 rs n) refl refl refl refl refl
+    pub ground_derived : RowsGround rs n (ground_of_rows rs n)
+    unfolding ground_of_rows
+    ground_derived = by (passes3 rs n) (passes4 rs n) (passes5 rs n) (passes6 rs n) (passes7 rs n) refl refl refl refl refl
       where
-        by : (a b c d e : Bool) → passes3 rs n ≡ a → passes4 rs n ≡ b → passes5 rs n ≡ c → passes6 rs n ≡ d → passes7 rs n ≡ e → RowsGround rs n (firstGround a b c d e)
-        by false b c d e p q r t u = rows-3 p
-        by true false c d e p q r t u = rows-4 p q
-        by true true false d e p q r t u = rows-5 p q r
-        by true true true false e p q r t u = rows-6 (record { listed = p; sorted = q; named = r }) (λ k. no (sym t ∙ six-of q k))
-        by true true true true false p q r t u = rows-7 (record { listed = p; sorted = q; named = r }) (small_at q t) (seven-untyped u)
-        by true true true true true p q r t u = rows-0 (record { listed = p; sorted = q; named = r }) (small_at q t) (seven-flow q u)
+        by : (a b c d e : Bool) → passes3 rs n ≡ a → passes4 rs n ≡ b → passes5 rs n ≡ c → passes6 rs n ≡ d → passes7 rs n ≡ e → RowsGround rs n (first_ground a b c d e)
+        by false b c d e p q r t u = rows_3 p
+        by true false c d e p q r t u = rows_4 p q
+        by true true false d e p q r t u = rows_5 p q r
+        by true true true false e p q r t u = rows_6 (record { listed = p; sorted = q; named = r }) (λ k. no (sym t ∙ six_of q k))
+        by true true true true false p q r t u = rows_7 (record { listed = p; sorted = q; named = r }) (small_at q t) (seven_untyped u)
+        by true true true true true p q r t u = rows_0 (record { listed = p; sorted = q; named = r }) (small_at q t) (seven_flow q u)
 
-    firsts : {a b c d e : Bool} → passes3 rs n ≡ a → passes4 rs n ≡ b → passes5 rs n ≡ c → passes6 rs n ≡ d → passes7 rs n ≡ e → groundOfRows rs n ≡ firstGround a b c d e
-    unfolding groundOfRows
-    firsts p q r t u = λ j. firstGround (p j) (q j) (r j) (t j) (u j)
+    firsts : {a b c d e : Bool} → passes3 rs n ≡ a → passes4 rs n ≡ b → passes5 rs n ≡ c → passes6 rs n ≡ d → passes7 rs n ≡ e → ground_of_rows rs n ≡ first_ground a b c d e
+    unfolding ground_of_rows
+    firsts p q r t u = λ j. first_ground (p j) (q j) (r j) (t j) (u j)
 
     -- and no other
-    pub ground-only : {g : ℕ} → RowsGround rs n g → groundOfRows rs n ≡ g
-    ground-only (rows-3 p) = firsts p refl refl refl refl
-    ground-only (rows-4 p q) = firsts p q refl refl refl
-    ground-only (rows-5 p q r) = firsts p q r refl refl
-    ground-only (rows-6 f k) = cases (passes6 rs n) (λ t. absurd (k (small_at f.sorted t))) (λ t. firsts f.listed f.sorted f.named t refl)
-    ground-only (rows-7 f k u) = firsts f.listed f.sorted f.named (six-of f.sorted k) (untyped-seven f.sorted u)
-    ground-only (rows-0 f k i) = firsts f.listed f.sorted f.named (six-of f.sorted k) (flow-seven i)
+    pub ground_only : {g : ℕ} → RowsGround rs n g → ground_of_rows rs n ≡ g
+    ground_only (rows_3 p) = firsts p refl refl refl refl
+    ground_only (rows_4 p q) = firsts p q refl refl refl
+    ground_only (rows_5 p q r) = firsts p q r refl refl
+    ground_only (rows_6 f k) = cases (passes6 rs n) (λ t. absurd (k (small_at f.sorted t))) (λ t. firsts f.listed f.sorted f.named t refl)
+    ground_only (rows_7 f k u) = firsts f.listed f.sorted f.named (six_of f.sorted k) (untyped_seven f.sorted u)
+    ground_only (rows_0 f k i) = firsts f.listed f.sorted f.named (six_of f.sorted k) (flow_seven i)
 
     -- what rows that get 0 are
-    pub zero-flow : groundOfRows rs n ≡ 0 → WellFormed rs n × Small rs n × IsFlow rs n
-    zero-flow h = by (subst (RowsGround rs n) h ground-derived)
+    pub zero_flow : ground_of_rows rs n ≡ 0 → WellFormed rs n × Small rs n × IsFlow rs n
+    zero_flow h = by (subst (RowsGround rs n) h ground_derived)
       where
         by : RowsGround rs n 0 → WellFormed rs n × Small rs n × IsFlow rs n
-        by (rows-0 f k i) = (f, k, i)
+        by (rows_0 f k i) = (f, k, i)

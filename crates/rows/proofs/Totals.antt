@@ -7,20 +7,20 @@ use mathlib.Core.List.{List}
 use Prim.Native.Nat.{ℕ, zero, suc, ◌+◌, ◌-◌, ◌<◌, ◌≤◌}
 use native.Mathlib.Omega.{arith}
 use Rattle.tophat.specs.Syntax.{Ty, Exp, Code, edit, enter, update, then, next, fail, and, or, xor, view, gate, if, let'}
-use Rattle.rows.specs.Kinds.{Kind, eunitK, etruthK, enumberK, ebinderK, eopK, ifK, epairK, efstK, esndK, ederefK, eassignK, letK}
-use Rattle.rows.specs.Kinds.{editK, enterK, updateK, thenK, nextK, failK, andK, orK, xorK, viewK, gateK, Sort, plainK, eitherK, taskK, asksOf, number_of}
-use Rattle.rows.specs.Rows.{op_a, op_b, op_c, names, OfKind, FromKind, BelowKind, firstExpression}
-use Rattle.rows.specs.Trees.{ReadsType, ReadsCell, r-cell}
-use Rattle.rows.specs.Trees.{ReadsExp, r-eunit, r-etruth, r-enumber, r-ebinder, r-eop, r-eif, r-epair, r-efst, r-esnd, r-ederef, r-eassign, r-elet}
-use Rattle.rows.specs.Trees.{ReadsCode, r-edit, r-enter, r-update, r-then, r-next, r-fail, r_and, r-or, r-xor, r-view, r-gate, r-if, r-let}
+use Rattle.rows.specs.Kinds.{Kind, eunit_k, etruth_k, enumber_k, ebinder_k, eop_k, if_k, epair_k, efst_k, esnd_k, ederef_k, eassign_k, let_k}
+use Rattle.rows.specs.Kinds.{edit_k, enter_k, update_k, then_k, next_k, fail_k, and_k, or_k, xor_k, view_k, gate_k, Sort, plain_k, either_k, task_k, asks_of, number_of}
+use Rattle.rows.specs.Rows.{op_a, op_b, op_c, names, OfKind, FromKind, BelowKind, first_expression}
+use Rattle.rows.specs.Trees.{ReadsType, ReadsCell, r_cell}
+use Rattle.rows.specs.Trees.{ReadsExp, r_eunit, r_etruth, r_enumber, r_ebinder, r_eop, r_eif, r_epair, r_efst, r_esnd, r_ederef, r_eassign, r_elet}
+use Rattle.rows.specs.Trees.{ReadsCode, r_edit, r_enter, r_update, r_then, r_next, r_fail, r_and, r_or, r_xor, r_view, r_gate, r_if, r_let}
 use Rattle.rows.specs.ComputeTrees.{code_at}
 use Rattle.rows.proofs.TreesAgree.{code_is}
-use Rattle.rows.proofs.Exists.{Has, has-type, has-basic, has-cell, has-plain, has-task, Sorted, exists}
-use Rattle.rows.proofs.CodeRead.{type-none, cell-none, exp-none}
-use Rattle.rows.proofs.Places.{placeA, placeB, placeC, askAt, type-low}
+use Rattle.rows.proofs.Exists.{Has, has_type, has_basic, has_cell, has_plain, has_task, Sorted, exists}
+use Rattle.rows.proofs.CodeRead.{type_none, cell_none, exp_none}
+use Rattle.rows.proofs.Places.{place_a, place_b, place_c, ask_at, type_low}
 use Rattle.rows.proofs.Named.{NamedOnce}
-use Rattle.rows.proofs.TaskFoot.{code-high}
-use Rattle.rows.proofs.TreeSum.{sum_to, sumBelow, tree-sum}
+use Rattle.rows.proofs.TaskFoot.{code_high}
+use Rattle.rows.proofs.TreeSum.{sum_to, sum_below, tree_sum}
 
 -- what a code's parts add up to
 unfoldable pub parts : (Code → ℕ) → Code → ℕ
@@ -43,8 +43,8 @@ abbrev pub Adds : (Code → ℕ) → (Code → ℕ) → Type 0
 Adds F share = (c : Code) → F c ≡ share c + parts F c
 
 -- what a row names, by the number of its kind
-abbrev belowBy : ℕ → ℕ → ℕ → ℕ → ℕ
-belowBy w a b c = cond (names (askAt (asksOf w) placeA)) a 0 + cond (names (askAt (asksOf w) placeB)) b 0 + cond (names (askAt (asksOf w) placeC)) c 0
+abbrev below_by : ℕ → ℕ → ℕ → ℕ → ℕ
+below_by w a b c = cond (names (ask_at (asks_of w) place_a)) a 0 + cond (names (ask_at (asks_of w) place_b)) b 0 + cond (names (ask_at (asks_of w) place_c)) c 0
 
 -- 0 where there is no code
 unfoldable pub of : (Code → ℕ) → Option Code → ℕ
@@ -53,84 +53,84 @@ of F (some c) = F c
 
 module _ (F share : Code → ℕ) (m : Adds F share) (rs : List ℕ) (n : ℕ) where
   -- the total and the share of row i's code
-  unfoldable pub totalAt : ℕ → ℕ
-  totalAt i = of F (code_at rs n i)
+  unfoldable pub total_at : ℕ → ℕ
+  total_at i = of F (code_at rs n i)
 
-  unfoldable pub shareAt : ℕ → ℕ
-  shareAt i = of share (code_at rs n i)
+  unfoldable pub share_at : ℕ → ℕ
+  share_at i = of share (code_at rs n i)
 
-  pub code-total : {i : ℕ} {c : Code} → i < n → ReadsCode rs i c → (totalAt i ≡ F c) × (shareAt i ≡ share c)
-  unfolding totalAt shareAt of
-  code-total l d = (ap (of F) (code_is d n l), ap (of share) (code_is d n l))
+  pub code_total : {i : ℕ} {c : Code} → i < n → ReadsCode rs i c → (total_at i ≡ F c) × (share_at i ≡ share c)
+  unfolding total_at share_at of
+  code_total l d = (ap (of F) (code_is d n l), ap (of share) (code_is d n l))
 
-  pub type-total : {i : ℕ} {τ : Ty} → ReadsType rs i τ → (totalAt i ≡ 0) × (shareAt i ≡ 0)
-  unfolding totalAt shareAt of
-  type-total d = (ap (of F) (type-none n d), ap (of share) (type-none n d))
+  pub type_total : {i : ℕ} {τ : Ty} → ReadsType rs i τ → (total_at i ≡ 0) × (share_at i ≡ 0)
+  unfolding total_at share_at of
+  type_total d = (ap (of F) (type_none n d), ap (of share) (type_none n d))
 
-  pub cell-total : {i : ℕ} {τ : Ty} → ReadsCell rs i τ → (totalAt i ≡ 0) × (shareAt i ≡ 0)
-  unfolding totalAt shareAt of
-  cell-total d = (ap (of F) (cell-none n d), ap (of share) (cell-none n d))
+  pub cell_total : {i : ℕ} {τ : Ty} → ReadsCell rs i τ → (total_at i ≡ 0) × (share_at i ≡ 0)
+  unfolding total_at share_at of
+  cell_total d = (ap (of F) (cell_none n d), ap (of share) (cell_none n d))
 
-  pub exp-total : {i : ℕ} {a : Exp} → ReadsExp rs i a → (totalAt i ≡ 0) × (shareAt i ≡ 0)
-  unfolding totalAt shareAt of
-  exp-total d = (ap (of F) (exp-none n d), ap (of share) (exp-none n d))
+  pub exp_total : {i : ℕ} {a : Exp} → ReadsExp rs i a → (total_at i ≡ 0) × (share_at i ≡ 0)
+  unfolding total_at share_at of
+  exp_total d = (ap (of F) (exp_none n d), ap (of share) (exp_none n d))
 
   -- what each row makes of its share and of the rows that it names
-  row : (i : ℕ) (k : Kind) → OfKind rs i k → totalAt i ≡ shareAt i + belowBy (number_of k) (totalAt (op_a rs i)) (totalAt (op_b rs i)) (totalAt (op_c rs i))
-      → totalAt i ≡ shareAt i + sumBelow rs totalAt i
-  row i k e h = h ∙ sym (ap (λ x. shareAt i + x) (ap (λ w. belowBy w (totalAt (op_a rs i)) (totalAt (op_b rs i)) (totalAt (op_c rs i))) e))
+  row : (i : ℕ) (k : Kind) → OfKind rs i k → total_at i ≡ share_at i + below_by (number_of k) (total_at (op_a rs i)) (total_at (op_b rs i)) (total_at (op_c rs i))
+      → total_at i ≡ share_at i + sum_below rs total_at i
+  row i k e h = h ∙ sym (ap (λ x. share_at i + x) (ap (λ w. below_by w (total_at (op_a rs i)) (total_at (op_b rs i)) (total_at (op_c rs i))) e))
 
-  exp-row : {i : ℕ} {a : Exp} → totalAt i ≡ 0 → shareAt i ≡ 0 → ReadsExp rs i a → totalAt i ≡ shareAt i + sumBelow rs totalAt i
-  unfolding asksOf names
-  exp-row {i} z o (r-eunit k) = row i (plainK eunitK) k (omega arith)
-  exp-row {i} z o (r-etruth k) = row i (plainK etruthK) k (omega arith)
-  exp-row {i} z o (r-enumber k) = row i (plainK enumberK) k (omega arith)
-  exp-row {i} z o (r-ebinder k) = row i (plainK ebinderK) k (omega arith)
-  exp-row {i} z o (r-eop k x y d e) = row i (plainK eopK) k (omega (arith, (exp-total d).0, (exp-total e).0))
-  exp-row {i} z o (r-eif k x y w d e f) = row i (eitherK ifK) k (omega (arith, (exp-total d).0, (exp-total e).0, (exp-total f).0))
-  exp-row {i} z o (r-epair k x y d e) = row i (plainK epairK) k (omega (arith, (exp-total d).0, (exp-total e).0))
-  exp-row {i} z o (r-efst k x d) = row i (plainK efstK) k (omega (arith, (exp-total d).0))
-  exp-row {i} z o (r-esnd k x d) = row i (plainK esndK) k (omega (arith, (exp-total d).0))
-  exp-row {i} z o (r-ederef k x c) = row i (plainK ederefK) k (omega (arith, (cell-total c).0))
-  exp-row {i} z o (r-eassign k x y c d) = row i (plainK eassignK) k (omega (arith, (cell-total c).0, (exp-total d).0))
-  exp-row {i} z o (r-elet k x y d e) = row i (eitherK letK) k (omega (arith, (exp-total d).0, (exp-total e).0))
+  exp_row : {i : ℕ} {a : Exp} → total_at i ≡ 0 → share_at i ≡ 0 → ReadsExp rs i a → total_at i ≡ share_at i + sum_below rs total_at i
+  unfolding asks_of names
+  exp_row {i} z o (r_eunit k) = row i (plain_k eunit_k) k (omega arith)
+  exp_row {i} z o (r_etruth k) = row i (plain_k etruth_k) k (omega arith)
+  exp_row {i} z o (r_enumber k) = row i (plain_k enumber_k) k (omega arith)
+  exp_row {i} z o (r_ebinder k) = row i (plain_k ebinder_k) k (omega arith)
+  exp_row {i} z o (r_eop k x y d e) = row i (plain_k eop_k) k (omega (arith, (exp_total d).0, (exp_total e).0))
+  exp_row {i} z o (r_eif k x y w d e f) = row i (either_k if_k) k (omega (arith, (exp_total d).0, (exp_total e).0, (exp_total f).0))
+  exp_row {i} z o (r_epair k x y d e) = row i (plain_k epair_k) k (omega (arith, (exp_total d).0, (exp_total e).0))
+  exp_row {i} z o (r_efst k x d) = row i (plain_k efst_k) k (omega (arith, (exp_total d).0))
+  exp_row {i} z o (r_esnd k x d) = row i (plain_k esnd_k) k (omega (arith, (exp_total d).0))
+  exp_row {i} z o (r_ederef k x c) = row i (plain_k ederef_k) k (omega (arith, (cell_total c).0))
+  exp_row {i} z o (r_eassign k x y c d) = row i (plain_k eassign_k) k (omega (arith, (cell_total c).0, (exp_total d).0))
+  exp_row {i} z o (r_elet k x y d e) = row i (either_k let_k) k (omega (arith, (exp_total d).0, (exp_total e).0))
 
-  code_row : {i : ℕ} {c : Code} → i < n → totalAt i ≡ F c → shareAt i ≡ share c → F c ≡ share c + parts F c → ReadsCode rs i c → totalAt i ≡ shareAt i + sumBelow rs totalAt i
-  unfolding asksOf names parts
-  code_row {i} l z o h (r-edit k x d) = row i (taskK editK) k (omega (arith, (exp-total d).0))
-  code_row {i} l z o h (r-enter k x d) = row i (taskK enterK) k (omega (arith, (type-total d).0))
-  code_row {i} l z o h (r-update k x c) = row i (taskK updateK) k (omega (arith, (cell-total c).0))
-  code_row {i} l z o h (r-then k x y d e) = row i (taskK thenK) k (omega (arith, (code-total (omega arith) d).0, (code-total (omega arith) e).0))
-  code_row {i} l z o h (r-next k x y d e) = row i (taskK nextK) k (omega (arith, (code-total (omega arith) d).0, (code-total (omega arith) e).0))
-  code_row {i} l z o h (r-fail k x d) = row i (taskK failK) k (omega (arith, (type-total d).0))
-  code_row {i} l z o h (r_and k x y d e) = row i (taskK andK) k (omega (arith, (code-total (omega arith) d).0, (code-total (omega arith) e).0))
-  code_row {i} l z o h (r-or k x y d e) = row i (taskK orK) k (omega (arith, (code-total (omega arith) d).0, (code-total (omega arith) e).0))
-  code_row {i} l z o h (r-xor k x y d e) = row i (taskK xorK) k (omega (arith, (code-total (omega arith) d).0, (code-total (omega arith) e).0))
-  code_row {i} l z o h (r-view k x d) = row i (taskK viewK) k (omega (arith, (exp-total d).0))
-  code_row {i} l z o h (r-gate k x d) = row i (taskK gateK) k (omega (arith, (code-total (omega arith) d).0))
-  code_row {i} l z o h (r-if k x y w d e f) = row i (eitherK ifK) k (omega (arith, (exp-total d).0, (code-total (omega arith) e).0, (code-total (omega arith) f).0))
-  code_row {i} l z o h (r-let k x y d e) = row i (eitherK letK) k (omega (arith, (exp-total d).0, (code-total (omega arith) e).0))
+  code_row : {i : ℕ} {c : Code} → i < n → total_at i ≡ F c → share_at i ≡ share c → F c ≡ share c + parts F c → ReadsCode rs i c → total_at i ≡ share_at i + sum_below rs total_at i
+  unfolding asks_of names parts
+  code_row {i} l z o h (r_edit k x d) = row i (task_k edit_k) k (omega (arith, (exp_total d).0))
+  code_row {i} l z o h (r_enter k x d) = row i (task_k enter_k) k (omega (arith, (type_total d).0))
+  code_row {i} l z o h (r_update k x c) = row i (task_k update_k) k (omega (arith, (cell_total c).0))
+  code_row {i} l z o h (r_then k x y d e) = row i (task_k then_k) k (omega (arith, (code_total (omega arith) d).0, (code_total (omega arith) e).0))
+  code_row {i} l z o h (r_next k x y d e) = row i (task_k next_k) k (omega (arith, (code_total (omega arith) d).0, (code_total (omega arith) e).0))
+  code_row {i} l z o h (r_fail k x d) = row i (task_k fail_k) k (omega (arith, (type_total d).0))
+  code_row {i} l z o h (r_and k x y d e) = row i (task_k and_k) k (omega (arith, (code_total (omega arith) d).0, (code_total (omega arith) e).0))
+  code_row {i} l z o h (r_or k x y d e) = row i (task_k or_k) k (omega (arith, (code_total (omega arith) d).0, (code_total (omega arith) e).0))
+  code_row {i} l z o h (r_xor k x y d e) = row i (task_k xor_k) k (omega (arith, (code_total (omega arith) d).0, (code_total (omega arith) e).0))
+  code_row {i} l z o h (r_view k x d) = row i (task_k view_k) k (omega (arith, (exp_total d).0))
+  code_row {i} l z o h (r_gate k x d) = row i (task_k gate_k) k (omega (arith, (code_total (omega arith) d).0))
+  code_row {i} l z o h (r_if k x y w d e f) = row i (either_k if_k) k (omega (arith, (exp_total d).0, (code_total (omega arith) e).0, (code_total (omega arith) f).0))
+  code_row {i} l z o h (r_let k x y d e) = row i (either_k let_k) k (omega (arith, (exp_total d).0, (code_total (omega arith) e).0))
 
-  high-row : (i : ℕ) → i < n → FromKind rs i firstExpression → {s : Sort} → Has rs i s → totalAt i ≡ shareAt i + sumBelow rs totalAt i
-  high-row i l h (has-type d) = absurd (omega (arith, type-low d))
-  high-row i l h (has-basic b d) = absurd (omega (arith, type-low d))
-  high-row i l h (has-cell b (r-cell k x d)) = absurd (omega arith)
-  high-row i l h (has-plain d) = exp-row (exp-total d).0 (exp-total d).1 d
-  high-row i l h (has-task d) = code_row l (code-total l d).0 (code-total l d).1 (m _) d
+  high_row : (i : ℕ) → i < n → FromKind rs i first_expression → {s : Sort} → Has rs i s → total_at i ≡ share_at i + sum_below rs total_at i
+  high_row i l h (has_type d) = absurd (omega (arith, type_low d))
+  high_row i l h (has_basic b d) = absurd (omega (arith, type_low d))
+  high_row i l h (has_cell b (r_cell k x d)) = absurd (omega arith)
+  high_row i l h (has_plain d) = exp_row (exp_total d).0 (exp_total d).1 d
+  high_row i l h (has_task d) = code_row l (code_total l d).0 (code_total l d).1 (m _) d
 
-  low-row : (i : ℕ) → i < n → BelowKind rs i firstExpression → {s : Sort} → Has rs i s → (totalAt i ≡ 0) × (shareAt i ≡ 0)
-  low-row i l h (has-type d) = type-total d
-  low-row i l h (has-basic b d) = type-total d
-  low-row i l h (has-cell b d) = cell-total d
-  low-row i l h (has-plain d) = exp-total d
-  low-row i l h (has-task d) = absurd (omega (arith, code-high d))
+  low_row : (i : ℕ) → i < n → BelowKind rs i first_expression → {s : Sort} → Has rs i s → (total_at i ≡ 0) × (share_at i ≡ 0)
+  low_row i l h (has_type d) = type_total d
+  low_row i l h (has_basic b d) = type_total d
+  low_row i l h (has_cell b d) = cell_total d
+  low_row i l h (has_plain d) = exp_total d
+  low_row i l h (has_task d) = absurd (omega (arith, code_high d))
 
 -- the total of the last row's code is the sum of the rows' shares
-pub total-is : (F share : Code → ℕ) (m : Adds F share) (rs : List ℕ) (n : ℕ) {c : Code} → 1 ≤ n → Sorted rs n → NamedOnce rs n → ReadsCode rs (n - 1) c
-    → F c ≡ sum_to n (shareAt F share m rs n)
-total-is F share m rs zero l q t d = absurd (omega arith)
-total-is F share m rs (suc k) {c} l q t d =
+pub total_is : (F share : Code → ℕ) (m : Adds F share) (rs : List ℕ) (n : ℕ) {c : Code} → 1 ≤ n → Sorted rs n → NamedOnce rs n → ReadsCode rs (n - 1) c
+    → F c ≡ sum_to n (share_at F share m rs n)
+total_is F share m rs zero l q t d = absurd (omega arith)
+total_is F share m rs (suc k) {c} l q t d =
     let z : suc k - 1 ≡ k = omega arith in
-    sym (code-total F share m rs (suc k) (omega arith) (subst (λ i. ReadsCode rs i c) z d)).0
-    ∙ tree-sum rs k q t (totalAt F share m rs (suc k)) (shareAt F share m rs (suc k))
-    (λ i b h. high-row F share m rs (suc k) i b h (exists rs (suc k) q i b)) (λ i b h. low-row F share m rs (suc k) i b h (exists rs (suc k) q i b))
+    sym (code_total F share m rs (suc k) (omega arith) (subst (λ i. ReadsCode rs i c) z d)).0
+    ∙ tree_sum rs k q t (total_at F share m rs (suc k)) (share_at F share m rs (suc k))
+    (λ i b h. high_row F share m rs (suc k) i b h (exists rs (suc k) q i b)) (λ i b h. low_row F share m rs (suc k) i b h (exists rs (suc k) q i b))

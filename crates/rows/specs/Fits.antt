@@ -4,7 +4,7 @@
 use Rattle.std.specs.Prelude.{ℕ, suc, ◌<◌}
 use Rattle.tophat.specs.Syntax.{Exp, eunit, etruth, enumber, ebinder, eop, eif, epair, efst, esnd, ederef, eassign, elet}
 use Rattle.tophat.specs.Syntax.{Code, edit, enter, update, then, next, fail, and, or, xor, view, gate, if, let'}
-use Rattle.rows.specs.Enclosing.{maxBinders}
+use Rattle.rows.specs.Enclosing.{max_binders}
 
 abbrev pub FitsExp : ℕ → Exp → Type 0
 FitsExp n eunit = Unit {0}
@@ -18,14 +18,14 @@ FitsExp n (efst a) = FitsExp n a
 FitsExp n (esnd a) = FitsExp n a
 FitsExp n (ederef c) = Unit {0}
 FitsExp n (eassign c a) = FitsExp n a
-FitsExp n (elet a b) = FitsExp n a × (n < maxBinders) × FitsExp (suc n) b
+FitsExp n (elet a b) = FitsExp n a × (n < max_binders) × FitsExp (suc n) b
 
 abbrev pub FitsCode : ℕ → Code → Type 0
 FitsCode n (edit a) = FitsExp n a
 FitsCode n (enter τ) = Unit {0}
 FitsCode n (update c) = Unit {0}
-FitsCode n (then a b) = FitsCode n a × (n < maxBinders) × FitsCode (suc n) b
-FitsCode n (next a b) = FitsCode n a × (n < maxBinders) × FitsCode (suc n) b
+FitsCode n (then a b) = FitsCode n a × (n < max_binders) × FitsCode (suc n) b
+FitsCode n (next a b) = FitsCode n a × (n < max_binders) × FitsCode (suc n) b
 FitsCode n (fail τ) = Unit {0}
 FitsCode n (and a b) = FitsCode n a × FitsCode n b
 FitsCode n (or a b) = FitsCode n a × FitsCode n b
@@ -33,4 +33,4 @@ FitsCode n (xor a b) = FitsCode n a × FitsCode n b
 FitsCode n (view a) = FitsExp n a
 FitsCode n (gate r k b) = FitsCode n b
 FitsCode n (if e a b) = FitsExp n e × FitsCode n a × FitsCode n b
-FitsCode n (let' e b) = FitsExp n e × (n < maxBinders) × FitsCode (suc n) b
+FitsCode n (let' e b) = FitsExp n e × (n < max_binders) × FitsCode (suc n) b

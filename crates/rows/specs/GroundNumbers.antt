@@ -7,59 +7,59 @@ use Rattle.std.specs.Prelude.{ℕ}
 -- ---- grounds in the input
 
 -- sheet length not 45 times 1 to 256
-abbrev pub notSized : ℕ
-notSized = 1
+abbrev pub not_sized : ℕ
+not_sized = 1
 
 -- a field or byte 10 unreadable, or a wrong row number
-abbrev pub notRead : ℕ
-notRead = 2
+abbrev pub not_read : ℕ
+not_read = 2
 
 -- a kind, operator, truth, role, number of touches (CR 6) or unused operand not as listed
-abbrev pub notListed : ℕ
-notListed = 3
+abbrev pub not_listed : ℕ
+not_listed = 3
 
 -- an operand not a lower row, or not of the sort asked
-abbrev pub notSorted : ℕ
-notSorted = 4
+abbrev pub not_sorted : ℕ
+not_sorted = 4
 
 -- the naming rule broken, or the last row of a kind below 25 or 26 to 30
-abbrev pub notNamed : ℕ
-notNamed = 5
+abbrev pub not_named : ℕ
+not_named = 5
 
 -- a type row over 8 leaves (CR 4), or over 16 binders or marks
-abbrev pub notSmall : ℕ
-notSmall = 6
+abbrev pub not_small : ℕ
+not_small = 6
 
 -- no typing for the last row as a task
-abbrev pub notTyped : ℕ
-notTyped = 7
+abbrev pub not_typed : ℕ
+not_typed = 7
 
 -- event length, byte 10, field, role, path digit or action bad, or a leaf not 0 at actions 2 to 4; look's role (CR 6)
-abbrev pub eventNotRead : ℕ
-eventNotRead = 8
+abbrev pub event_not_read : ℕ
+event_not_read = 8
 
 -- no handling rule derives a step
-abbrev pub notHandled : ℕ
-notHandled = 9
+abbrev pub not_handled : ℕ
+not_handled = 9
 
 -- ---- grounds in the state
 
 -- rows that no accepted sheet loads to
-abbrev pub notAccepted : ℕ
-notAccepted = 20
+abbrev pub not_accepted : ℕ
+not_accepted = 20
 
 -- rows memory at load, state or value memory not of its exact length
-abbrev pub wrongMemory : ℕ
-wrongMemory = 21
+abbrev pub wrong_memory : ℕ
+wrong_memory = 21
 
 -- not the writing of a state
-abbrev pub notState : ℕ
-notState = 22
+abbrev pub not_state : ℕ
+not_state = 22
 
 -- normalising would change it
-abbrev pub notAtRest : ℕ
-notAtRest = 23
+abbrev pub not_at_rest : ℕ
+not_at_rest = 23
 
 -- list memory under 35 bytes an entry (CR 4)
-abbrev pub listTooShort : ℕ
-listTooShort = 24
+abbrev pub list_too_short : ℕ
+list_too_short = 24

@@ -4,15 +4,15 @@
 use Rattle.std.specs.Prelude.{List, ◌++◌, map, ℕ, ◌*◌, ◌-◌, ◌/◌, ℤ, length, replicate}
 use Rattle.std.specs.Int.{w32}
 use Rattle.std.proofs.Common.{of_z}
-use Rattle.rows.specs.Rows.{maxRows, rowWords}
+use Rattle.rows.specs.Rows.{max_rows, row_words}
 
 -- how many words the engine has for rows
-abbrev pub rowsSize : ℕ
-rowsSize = maxRows * rowWords
+abbrev pub rows_size : ℕ
+rows_size = max_rows * row_words
 
-abbrev pub ownRows : List ℤ → List ℕ
-ownRows ws = map (of_z w32) ws ++ replicate (rowsSize - length ws) 0
+abbrev pub own_rows : List ℤ → List ℕ
+own_rows ws = map (of_z w32) ws ++ replicate (rows_size - length ws) 0
 
 -- how many rows a memory has
-abbrev pub rowCount : List ℤ → ℕ
-rowCount ws = length ws / rowWords
+abbrev pub row_count : List ℤ → ℕ
+row_count ws = length ws / row_words

@@ -3,28 +3,28 @@
 -- Believed, but for `kind_at`, `FromKind`, `UpToKind`, `BelowKind` and, at the end, `LowWords`: for contracts and proofs only.
 use Rattle.std.specs.Prelude.{◌≡◌, ℕ, zero, suc, ◌+◌, ◌*◌, ◌<◌, ◌≤◌, Bool, true, false, not, ◌&&◌, ◌||◌, cond, List, [], ◌∷◌, ◌++◌, leb, ltb, eqb, get_or}
 use Rattle.std.proofs.Math.Option.{Option}
-use Rattle.tophat.specs.Roles.{isRole, maxTouches}
-use Rattle.rows.specs.Kinds.{Kind, cellK, typeK, truthK, plainK, eunitK, eopK, epairK, eassignK, eitherK, ifK, taskK, thenK, orK, viewK, kind_of, number_of}
-use Rattle.rows.specs.Kinds.{Ask, unused, operator, truth, anyWord, aRole, someTouches, a_type, aBasic, aCell, aPlain, aTask, aBranch, likeB}
-use Rattle.rows.specs.Kinds.{Sort, typeS, basicS, cell_s, plainS, taskS, noS, is, asB, Asks, asks, noAsks, asksOf}
+use Rattle.tophat.specs.Roles.{is_role, max_touches}
+use Rattle.rows.specs.Kinds.{Kind, cell_k, type_k, truth_k, plain_k, eunit_k, eop_k, epair_k, eassign_k, either_k, if_k, task_k, then_k, or_k, view_k, kind_of, number_of}
+use Rattle.rows.specs.Kinds.{Ask, unused, operator, truth, any_word, a_role, some_touches, a_type, a_basic, a_cell, a_plain, a_task, a_branch, like_b}
+use Rattle.rows.specs.Kinds.{Sort, type_s, basic_s, cell_s, plain_s, task_s, no_s, is, as_b, Asks, asks, no_asks, asks_of}
 
 -- 01: "1 to 256 lines"
-abbrev pub maxRows : ℕ
-maxRows = 256
+abbrev pub max_rows : ℕ
+max_rows = 256
 
 -- 01: "4 words a row (kind, A, B, C)"
-abbrev pub rowWords : ℕ
-rowWords = 4
+abbrev pub row_words : ℕ
+row_words = 4
 
 abbrev pub word : List ℕ → ℕ → ℕ → ℕ
-word rs i k = get_or rs (i * rowWords + k) 0
+word rs i k = get_or rs (i * row_words + k) 0
 
 -- the kind of row i, and what it asks
 abbrev pub kind_at : List ℕ → ℕ → Option Kind
 kind_at rs i = kind_of (word rs i 0)
 
-abbrev pub asksAt : List ℕ → ℕ → Asks
-asksAt rs i = asksOf (word rs i 0)
+abbrev pub asks_at : List ℕ → ℕ → Asks
+asks_at rs i = asks_of (word rs i 0)
 
 -- row i is of kind k, of a kind from k on, of a kind up to k, of a kind below k: by number, as 01 orders kinds
 abbrev pub OfKind : List ℕ → ℕ → Kind → Type 0
@@ -40,18 +40,18 @@ abbrev pub BelowKind : List ℕ → ℕ → Kind → Type 0
 BelowKind rs i k = word rs i 0 < number_of k
 
 -- the same as tests
-abbrev pub isKind : List ℕ → ℕ → Kind → Bool
-isKind rs i k = eqb (word rs i 0) (number_of k)
+abbrev pub is_kind : List ℕ → ℕ → Kind → Bool
+is_kind rs i k = eqb (word rs i 0) (number_of k)
 
-abbrev pub fromKind : List ℕ → ℕ → Kind → Bool
-fromKind rs i k = leb (number_of k) (word rs i 0)
+abbrev pub from_kind : List ℕ → ℕ → Kind → Bool
+from_kind rs i k = leb (number_of k) (word rs i 0)
 
-abbrev pub belowKind : List ℕ → ℕ → Kind → Bool
-belowKind rs i k = ltb (word rs i 0) (number_of k)
+abbrev pub below_kind : List ℕ → ℕ → Kind → Bool
+below_kind rs i k = ltb (word rs i 0) (number_of k)
 
 -- 01's "kind 20 or more", expressions and tasks, begins here
-abbrev pub firstExpression : Kind
-firstExpression = plainK eunitK
+abbrev pub first_expression : Kind
+first_expression = plain_k eunit_k
 
 abbrev pub op_a : List ℕ → ℕ → ℕ
 op_a rs i = word rs i 1
@@ -69,81 +69,81 @@ every (suc n) p = every n p && p n
 
 -- ---- ground 3: a kind, operator, truth, role, number of touches or unused operand not as listed
 
-unfoldable pub listedAs : Ask → ℕ → Bool
-listedAs unused w = eqb w 0
-listedAs operator w = leb 1 w && leb w 8
-listedAs truth w = leb w 1
-listedAs anyWord w = true
-listedAs aRole w = isRole w
-listedAs someTouches w = leb w maxTouches
-listedAs a_type w = true
-listedAs aBasic w = true
-listedAs aCell w = true
-listedAs aPlain w = true
-listedAs aTask w = true
-listedAs aBranch w = true
-listedAs likeB w = true
+unfoldable pub listed_as : Ask → ℕ → Bool
+listed_as unused w = eqb w 0
+listed_as operator w = leb 1 w && leb w 8
+listed_as truth w = leb w 1
+listed_as any_word w = true
+listed_as a_role w = is_role w
+listed_as some_touches w = leb w max_touches
+listed_as a_type w = true
+listed_as a_basic w = true
+listed_as a_cell w = true
+listed_as a_plain w = true
+listed_as a_task w = true
+listed_as a_branch w = true
+listed_as like_b w = true
 
 unfoldable pub listed : Asks → ℕ → ℕ → ℕ → Bool
-listed (asks p q r o x) a b c = listedAs p a && (listedAs q b && listedAs r c)
-listed noAsks a b c = false
+listed (asks p q r o x) a b c = listed_as p a && (listed_as q b && listed_as r c)
+listed no_asks a b c = false
 
 -- 01: "in a cell whose A is a lower row of kind 2"
-unfoldable pub truthCell : List ℕ → ℕ → Bool
-truthCell rs i = cond (isKind rs i cellK && (ltb (op_a rs i) i && isKind rs (op_a rs i) (typeK truthK))) (leb (op_b rs i) 1) true
+unfoldable pub truth_cell : List ℕ → ℕ → Bool
+truth_cell rs i = cond (is_kind rs i cell_k && (ltb (op_a rs i) i && is_kind rs (op_a rs i) (type_k truth_k))) (leb (op_b rs i) 1) true
 
-unfoldable pub rowListed : List ℕ → ℕ → Bool
-rowListed rs i = listed (asksAt rs i) (op_a rs i) (op_b rs i) (op_c rs i) && truthCell rs i
+unfoldable pub row_listed : List ℕ → ℕ → Bool
+row_listed rs i = listed (asks_at rs i) (op_a rs i) (op_b rs i) (op_c rs i) && truth_cell rs i
 
 -- ---- ground 4: an operand not a lower row, or not of the sort asked
 
-unfoldable pub sortBy : Asks → Sort → Sort
-sortBy (asks p q r (is s) x) b = s
-sortBy (asks p q r asB x) b = b
-sortBy noAsks b = noS
+unfoldable pub sort_by : Asks → Sort → Sort
+sort_by (asks p q r (is s) x) b = s
+sort_by (asks p q r as_b x) b = b
+sort_by no_asks b = no_s
 
 -- the sorts of the rows below n, the first row first
 unfoldable pub sorts : List ℕ → ℕ → List Sort
 sorts rs zero = []
-sorts rs (suc i) = let l = sorts rs i in l ++ sortBy (asksAt rs i) (get_or l (op_b rs i) noS) ∷ []
+sorts rs (suc i) = let l = sorts rs i in l ++ sort_by (asks_at rs i) (get_or l (op_b rs i) no_s) ∷ []
 
 -- the sort of row w, where it is lower than row i
-abbrev pub sortBelow : List ℕ → ℕ → ℕ → Sort
-sortBelow rs i w = get_or (sorts rs i) w noS
+abbrev pub sort_below : List ℕ → ℕ → ℕ → Sort
+sort_below rs i w = get_or (sorts rs i) w no_s
 
-unfoldable pub sortNumber : Sort → ℕ
-sortNumber noS = 0
-sortNumber typeS = 1
-sortNumber basicS = 2
-sortNumber cell_s = 3
-sortNumber plainS = 4
-sortNumber taskS = 5
+unfoldable pub sort_number : Sort → ℕ
+sort_number no_s = 0
+sort_number type_s = 1
+sort_number basic_s = 2
+sort_number cell_s = 3
+sort_number plain_s = 4
+sort_number task_s = 5
 
-abbrev pub sameSort : Sort → Sort → Bool
-sameSort s t = eqb (sortNumber s) (sortNumber t)
+abbrev pub same_sort : Sort → Sort → Bool
+same_sort s t = eqb (sort_number s) (sort_number t)
 
 -- an operand's sort is the one asked, where B's sort is b
-unfoldable pub sortedAs : Ask → Sort → Sort → Bool
-sortedAs unused s b = true
-sortedAs operator s b = true
-sortedAs truth s b = true
-sortedAs anyWord s b = true
-sortedAs aRole s b = true
-sortedAs someTouches s b = true
-sortedAs a_type s b = sameSort s typeS || sameSort s basicS
-sortedAs aBasic s b = sameSort s basicS
-sortedAs aCell s b = sameSort s cell_s
-sortedAs aPlain s b = sameSort s plainS
-sortedAs aTask s b = sameSort s taskS
-sortedAs aBranch s b = sameSort s plainS || sameSort s taskS
-sortedAs likeB s b = sameSort s b
+unfoldable pub sorted_as : Ask → Sort → Sort → Bool
+sorted_as unused s b = true
+sorted_as operator s b = true
+sorted_as truth s b = true
+sorted_as any_word s b = true
+sorted_as a_role s b = true
+sorted_as some_touches s b = true
+sorted_as a_type s b = same_sort s type_s || same_sort s basic_s
+sorted_as a_basic s b = same_sort s basic_s
+sorted_as a_cell s b = same_sort s cell_s
+sorted_as a_plain s b = same_sort s plain_s
+sorted_as a_task s b = same_sort s task_s
+sorted_as a_branch s b = same_sort s plain_s || same_sort s task_s
+sorted_as like_b s b = same_sort s b
 
 unfoldable pub sorted : Asks → Sort → Sort → Sort → Bool
-sorted (asks p q r o x) a b c = sortedAs p a b && (sortedAs q b b && sortedAs r c b)
-sorted noAsks a b c = false
+sorted (asks p q r o x) a b c = sorted_as p a b && (sorted_as q b b && sorted_as r c b)
+sorted no_asks a b c = false
 
-unfoldable pub rowSorted : List ℕ → ℕ → Bool
-rowSorted rs i = sorted (asksAt rs i) (sortBelow rs i (op_a rs i)) (sortBelow rs i (op_b rs i)) (sortBelow rs i (op_c rs i))
+unfoldable pub row_sorted : List ℕ → ℕ → Bool
+row_sorted rs i = sorted (asks_at rs i) (sort_below rs i (op_a rs i)) (sort_below rs i (op_b rs i)) (sort_below rs i (op_c rs i))
 
 -- ---- ground 5: the naming rule broken, or the last row of a kind below 25 or 26 to 30
 
@@ -152,56 +152,56 @@ unfoldable pub names : Ask → Bool
 names unused = false
 names operator = false
 names truth = false
-names anyWord = false
-names aRole = false
-names someTouches = false
+names any_word = false
+names a_role = false
+names some_touches = false
 names a_type = true
-names aBasic = true
-names aCell = true
-names aPlain = true
-names aTask = true
-names aBranch = true
-names likeB = true
+names a_basic = true
+names a_cell = true
+names a_plain = true
+names a_task = true
+names a_branch = true
+names like_b = true
 
 abbrev pub count : Bool → ℕ
 count b = cond b 1 0
 
 -- the operands, of three, that name row i
-unfoldable pub namesBy : Asks → ℕ → ℕ → ℕ → ℕ → ℕ
-namesBy (asks p q r o x) a b c i = count (names p && eqb a i) + count (names q && eqb b i) + count (names r && eqb c i)
-namesBy noAsks a b c i = 0
+unfoldable pub names_by : Asks → ℕ → ℕ → ℕ → ℕ → ℕ
+names_by (asks p q r o x) a b c i = count (names p && eqb a i) + count (names q && eqb b i) + count (names r && eqb c i)
+names_by no_asks a b c i = 0
 
 -- the operands of row j that name row i, where row j is of kind 20 or more
-unfoldable pub namesIn : List ℕ → ℕ → ℕ → ℕ
-namesIn rs i j = cond (fromKind rs j firstExpression) (namesBy (asksAt rs j) (op_a rs j) (op_b rs j) (op_c rs j) i) 0
+unfoldable pub names_in : List ℕ → ℕ → ℕ → ℕ
+names_in rs i j = cond (from_kind rs j first_expression) (names_by (asks_at rs j) (op_a rs j) (op_b rs j) (op_c rs j) i) 0
 
 -- those of the rows below n
 unfoldable pub namings : List ℕ → ℕ → ℕ → ℕ
 namings rs i zero = 0
-namings rs i (suc j) = namings rs i j + namesIn rs i j
+namings rs i (suc j) = namings rs i j + names_in rs i j
 
 -- 01: "Every row of kind 20 or more but the last is named exactly once, by an operand of a row of kind 20 or more"
-unfoldable pub namedOnce : List ℕ → ℕ → ℕ → Bool
-namedOnce rs n i = belowKind rs i firstExpression || (eqb (suc i) n || eqb (namings rs i n) 1)
+unfoldable pub named_once : List ℕ → ℕ → ℕ → Bool
+named_once rs n i = below_kind rs i first_expression || (eqb (suc i) n || eqb (namings rs i n) 1)
 
 -- not "of a kind below 25 or 26 to 30"
-abbrev pub fitsLast : ℕ → Bool
-fitsLast w = leb (number_of (eitherK ifK)) w && not (leb (number_of (plainK epairK)) w && leb w (number_of (plainK eassignK)))
+abbrev pub fits_last : ℕ → Bool
+fits_last w = leb (number_of (either_k if_k)) w && not (leb (number_of (plain_k epair_k)) w && leb w (number_of (plain_k eassign_k)))
 
-unfoldable pub lastFits : List ℕ → ℕ → Bool
-lastFits rs i = fitsLast (word rs i 0)
+unfoldable pub last_fits : List ℕ → ℕ → Bool
+last_fits rs i = fits_last (word rs i 0)
 
 -- ---- what bounds the strides of a call
 
 -- the rows of kind 43 and 47 below n
 unfoldable pub movers : List ℕ → ℕ → ℕ
 movers rs zero = 0
-movers rs (suc i) = movers rs i + count (isKind rs i (taskK thenK) || isKind rs i (taskK orK))
+movers rs (suc i) = movers rs i + count (is_kind rs i (task_k then_k) || is_kind rs i (task_k or_k))
 
 -- ---- operands that code may follow before it knows what they are
 
 -- every operand word of a row of kind 25 to 49 is below its row, whether it names a row or is unused; of kind 24, B and C are, of kind 50 B
 pub record LowWords (rs : List ℕ) (i : ℕ) : Type 0 where
-  pub lowA : FromKind rs i (eitherK ifK) → UpToKind rs i (taskK viewK) → op_a rs i < i
-  pub lowB : FromKind rs i (plainK eopK) → op_b rs i < i
-  pub lowC : FromKind rs i (plainK eopK) → UpToKind rs i (taskK viewK) → op_c rs i < i
+  pub low_a : FromKind rs i (either_k if_k) → UpToKind rs i (task_k view_k) → op_a rs i < i
+  pub low_b : FromKind rs i (plain_k eop_k) → op_b rs i < i
+  pub low_c : FromKind rs i (plain_k eop_k) → UpToKind rs i (task_k view_k) → op_c rs i < i

@@ -1,8 +1,8 @@
 // Rows of words: how a word of a row is read, and the numbers that 01 gives to rows, each under one name: sizes here, kinds in
 // `kinds`, grounds in `ground_numbers`.
 ghost use Rattle.std.specs.Prelude.{◌≡◌, ◌*◌, ◌<◌, length};
-ghost use Rattle.tophat.specs.Roles.{isRole};
-ghost use Rattle.rows.specs.Rows.{maxRows, rowWords, word};
+ghost use Rattle.tophat.specs.Roles.{is_role};
+ghost use Rattle.rows.specs.Rows.{max_rows, row_words, word};
 
 use decimal::path::PATH_COLUMNS;
 use tophat::MAX_ROLE;
@@ -24,7 +24,7 @@ pub const MAX_MARKS: usize = PATH_COLUMNS;
 
 // Word k of a row: its kind and operands A, B, C.
 pub fn get(rows: &[u32; ROWS_WORDS], row: usize, k: usize) -> u32
-    requires { (row < maxRows) × (k < rowWords) }
+    requires { (row < max_rows) × (k < row_words) }
     ensures { result ≡ word rows.now row k }
 {
     rows[row * ROW_WORDS + k]
@@ -38,7 +38,7 @@ fn wide(x: u32) -> usize
 
 // An operand that names a row, a binder or a cell.
 pub fn operand(rows: &[u32; ROWS_WORDS], row: usize, k: usize) -> usize
-    requires { (row < maxRows) × (k < rowWords) }
+    requires { (row < max_rows) × (k < row_words) }
     ensures { result ≡ word rows.now row k }
 {
     wide(rows[row * ROW_WORDS + k])
@@ -46,7 +46,7 @@ pub fn operand(rows: &[u32; ROWS_WORDS], row: usize, k: usize) -> usize
 
 // CR 6: a role is 1 to 8.
 pub fn is_role(w: u32) -> bool
-    ensures { result ≡ isRole w }
+    ensures { result ≡ is_role w }
 {
     if w == 0 {
         return false;
@@ -56,7 +56,7 @@ pub fn is_role(w: u32) -> bool
 
 // The kind of a row; past the last row 0, which is no kind.
 pub fn kind(rows: &[u32], row: usize) -> u32
-    requires { length rows.now ≡ maxRows * rowWords }
+    requires { length rows.now ≡ max_rows * row_words }
     ensures { result ≡ word rows.now row 0 }
 {
     if row < MAX_ROWS {

@@ -1,12 +1,12 @@
 // What the rows of a state say of tasks: which row a row hands on to, the value of a task, and the evaluation of a code to its
 // task. Rests on crate eval for expressions, on crate state for the words and for what these functions ensure.
 ghost use Rattle.std.specs.Prelude.{◌≡◌, ◌<◌, ◌≤◌};
-ghost use Rattle.rows.specs.Rows.{maxRows, word};
-ghost use Rattle.rows.specs.Enclosing.{maxBinders};
+ghost use Rattle.rows.specs.Rows.{max_rows, word};
+ghost use Rattle.rows.specs.Enclosing.{max_binders};
 ghost use Rattle.state.specs.Layout.{at};
-ghost use Rattle.state.specs.Contracts.{Fine, ValueOk, EvaluateOk};
+ghost use Rattle.state.specs.Ensured.{Fine, ValueOk, EvaluateOk};
 ghost use Rattle.running.specs.Hands.{Handed, Bound, Under};
-ghost use Rattle.value.specs.Found.{bothFound};
+ghost use Rattle.value.specs.Found.{both_found};
 
 use eval::eval;
 use rows::kinds::GATE;
@@ -18,7 +18,7 @@ use value::{Found, is_true, none, pair, some};
 
 // The operand that names the row which the row hands on to, or 0.
 pub fn handed_on(rows: &[u32; ROWS_WORDS], state: &[u32; STATE_SIZE], row: usize) -> usize
-    requires { row < maxRows }
+    requires { row < max_rows }
     ensures { Handed (word rows.now row 0) (at state.now row 0) result }
 {
     let kind = get(rows, row, 0);
@@ -43,7 +43,7 @@ pub fn handed_on(rows: &[u32; ROWS_WORDS], state: &[u32; STATE_SIZE], row: usize
 
 // One more binder, whose value the row holds; the depth after it.
 fn bind(state: &[u32; STATE_SIZE], row: usize, env: &mut [u32; ENV_WORDS], depth: usize) -> usize
-    requires { (row < maxRows) × (depth ≤ maxBinders) }
+    requires { (row < max_rows) × (depth ≤ max_binders) }
     ensures { Bound state.now row env.old env.new depth result }
 {
     if MAX_BINDERS <= depth {
@@ -61,7 +61,7 @@ pub fn enclose(
     env: &mut [u32; ENV_WORDS],
     depth: usize,
 ) -> usize
-    requires { (row < maxRows) × (depth ≤ maxBinders) }
+    requires { (row < max_rows) × (depth ≤ max_binders) }
     ensures { Under state.now row (word rows.now row 0) env.old env.new depth result }
 {
     let kind = get(rows, row, 0);
@@ -74,7 +74,7 @@ pub fn enclose(
 
 // The pair of two values, where both are there.
 fn both(x: Found, y: Found) -> Found
-    ensures { result ≡ bothFound x y }
+    ensures { result ≡ both_found x y }
 {
     if x.has {
         if y.has {

@@ -4,13 +4,13 @@ use mathlib.Core.Path.{◌≡◌, refl}
 use mathlib.Core.Bool.{true}
 use mathlib.Core.List.{List, [], ◌∷◌, map}
 use Prim.Native.String.{String}
-use Rattle.screens.specs.Counts.{countIn, countSaid}
+use Rattle.screens.specs.Counts.{count_in, count_said}
 use Rattle.screens.proofs.Sessions.{text, agree}
 
 -- P1 to P4 with every unused operand blank; first a blank leaf at the editor, refused, then 01's touches with a blank path and blank unused
 -- leaves: 01's screens
-abbrev p1to4-sheet : List String
-p1to4-sheet =
+abbrev p1to4_sheet : List String
+p1to4_sheet =
     "   0   3                                    " ∷
     "   1  41           0                        " ∷
     "   2  23           0                        " ∷
@@ -25,16 +25,16 @@ p1to4-sheet =
     "  11  43           1          10            " ∷
     []
 
-abbrev p1to4-touches : List String
-p1to4-touches =
+abbrev p1to4_touches : List String
+p1to4_touches =
     " 1                 1                                                                                                " ∷
     " 1                 1          12                                                                                    " ∷
     " 1                 1           4           0                       0                       0                       0" ∷
     " 1                 2                                                                                                " ∷
     []
 
-abbrev p1to4-screens : List String
-p1to4-screens =
+abbrev p1to4_screens : List String
+p1to4_screens =
     "   0   1 0 0           0           0           0           0           0           0           0           0   1" ∷
     "               0 1 3 0 0 0 0 0 0 0" ∷
     "   9   0 0 0           0           0           0           0           0           0           0           0   1" ∷
@@ -49,8 +49,8 @@ p1to4-screens =
 
 -- A unit, and a number with a truth; then Continue. A unit left blank is refused, and so is the truth; a blank action cannot be read, nor a
 -- leaf that is not 0 at Continue; with blanks and zeros Continue is taken
-abbrev parts-sheet : List String
-parts-sheet =
+abbrev parts_sheet : List String
+parts_sheet =
     "   0   1                                    " ∷
     "   1  41           0                        " ∷
     "   2   3                                    " ∷
@@ -63,8 +63,8 @@ parts-sheet =
     "   9  44           6           8            " ∷
     []
 
-abbrev parts-touches : List String
-parts-touches =
+abbrev parts_touches : List String
+parts_touches =
     " 1               1 1                       0           0           0           0           0           0           0" ∷
     " 1               1 1           0                                                                                    " ∷
     " 1               2 1           5                       0           0           0           0           0           0" ∷
@@ -74,8 +74,8 @@ parts-touches =
     " 1                 2           0                                   0                       0                       0" ∷
     []
 
-abbrev parts-screens : List String
-parts-screens =
+abbrev parts_screens : List String
+parts_screens =
     "   0   1 0 0           0           0           0           0           0           0           0           0   2" ∷
     "               1 1 1 0 0 0 0 0 0 0" ∷
     "               2 1 3 2 0 0 0 0 0 0" ∷
@@ -105,26 +105,26 @@ parts-screens =
     []
 
 -- A used operand blank, though its 0 would be right
-abbrev used-sheet : List String
-used-sheet =
+abbrev used_sheet : List String
+used_sheet =
     "   0   3                                    " ∷
     "   1  41                                    " ∷
     []
 
-abbrev used-screens : List String
-used-screens =
+abbrev used_screens : List String
+used_screens =
     "   2   0 0 0           0           0           0           0           0           0           0           0   0" ∷
     []
 
-all-agree : agree (
-    (p1to4-sheet, p1to4-touches, p1to4-screens) ∷
-    (parts-sheet, parts-touches, parts-screens) ∷
-    (used-sheet, [], used-screens) ∷
+all_agree : agree (
+    (p1to4_sheet, p1to4_touches, p1to4_screens) ∷
+    (parts_sheet, parts_touches, parts_screens) ∷
+    (used_sheet, [], used_screens) ∷
     []) ≡ true
 unfolding agree
-all-agree = refl
+all_agree = refl
 
 -- row counts: 1 and 256; 257, 0, below 0, blank, a leading zero, and one byte short are none (01, "A session in full")
-counts-said : map (λ s. countIn (text (s ∷ []))) ("   1" ∷ " 256" ∷ " 257" ∷ "   0" ∷ "  -1" ∷ "    " ∷ "  01" ∷ "  1" ∷ []) ≡ 1 ∷ 256 ∷ 0 ∷ 0 ∷ 0 ∷ 0 ∷ 0 ∷ 0 ∷ []
-unfolding countIn countSaid text agree
-counts-said = refl
+counts_said : map (λ s. count_in (text (s ∷ []))) ("   1" ∷ " 256" ∷ " 257" ∷ "   0" ∷ "  -1" ∷ "    " ∷ "  01" ∷ "  1" ∷ []) ≡ 1 ∷ 256 ∷ 0 ∷ 0 ∷ 0 ∷ 0 ∷ 0 ∷ 0 ∷ []
+unfolding count_in count_said text agree
+counts_said = refl

@@ -12,62 +12,62 @@ use lib.IntN.{ℤ}
 use lib.ListN.{length}
 use Rattle.decimal.specs.Path.{Path}
 use Rattle.tophat.specs.Syntax.{Ty, Code, TaskOf, Store}
-use Rattle.tophat.specs.Roles.{otherRole, noTouch, ofRole, touchesLeft, verdict}
+use Rattle.tophat.specs.Roles.{other_role, no_touch, of_role, touches_left, verdict}
 use Rattle.tophat.specs.Handling.{Action}
-use Rattle.tophat.proofs.ComputeEvaluation.{overflowsTask}
+use Rattle.tophat.proofs.ComputeEvaluation.{overflows_task}
 use Rattle.tophat.proofs.ComputeNormalising.{stride}
 use Rattle.tophat.proofs.ComputeHandling.{Taken}
-use Rattle.formats.specs.Lines.{lineBytes}
-use Rattle.formats.specs.Touches.{eventOf}
-use Rattle.rows.specs.GroundNumbers.{notState}
-use Rattle.rows.specs.Lent.{ownRows, rowCount}
-use Rattle.rows.specs.Ground.{RowsGround, rows-3, rows-4, rows-5, rows-6, rows-7, rows-0}
-use Rattle.rows.proofs.Moves.{movers-few}
+use Rattle.formats.specs.Lines.{line_bytes}
+use Rattle.formats.specs.Touches.{event_of}
+use Rattle.rows.specs.GroundNumbers.{not_state}
+use Rattle.rows.specs.Lent.{own_rows, row_count}
+use Rattle.rows.specs.Ground.{RowsGround, rows_3, rows_4, rows_5, rows_6, rows_7, rows_0}
+use Rattle.rows.proofs.Moves.{movers_few}
 use Rattle.sheet.specs.Sheet.{loaded}
-use Rattle.sheet.specs.Accepted.{acceptsRows}
-use Rattle.sheet.proofs.AcceptedRows.{passed-of}
-use Rattle.state.specs.Layout.{stateWords, encodeFailed}
+use Rattle.sheet.specs.Accepted.{accepts_rows}
+use Rattle.sheet.proofs.AcceptedRows.{passed_of}
+use Rattle.state.specs.Layout.{state_words, encode_failed}
 use Rattle.state.specs.Lent.{own_of}
 use Rattle.state.specs.Reading.{same}
 use Rattle.call_definitions.specs.Memory.{CallAnswer, refusal}
-use Rattle.call_definitions.specs.States.{FlowState, failedState}
-use Rattle.call_definitions.specs.Answers.{LoadAnswers, load-1, load-21, load-2, load-rows, load-0}
+use Rattle.call_definitions.specs.States.{FlowState, failed_state}
+use Rattle.call_definitions.specs.Answers.{LoadAnswers, load_1, load_21, load_2, load_rows, load_0}
 use Rattle.call_definitions.specs.Calls as calls
 use Rattle.call_definitions.specs.Touches.{Bounded}
-use Rattle.call_definitions.proofs.LoadAnswered.{load-derived}
+use Rattle.call_definitions.proofs.LoadAnswered.{load_derived}
 use Rattle.flow.specs.declared.answer.Answer.{Answer}
 use Rattle.flow.specs.Starts.{Answered}
-use Rattle.screens.specs.Heads.{fourDigits}
-use Rattle.screens.specs.Screens.{loadedCounted}
+use Rattle.screens.specs.Heads.{four_digits}
+use Rattle.screens.specs.Screens.{loaded_counted}
 
 -- ---- load
 
-rows_few : {rs : List ℕ} {n g : ℕ} → RowsGround rs n g → g < fourDigits
-rows_few (rows-3 a) = omega arith
-rows_few (rows-4 a b) = omega arith
-rows_few (rows-5 a b c) = omega arith
-rows_few (rows-6 f k) = omega arith
-rows_few (rows-7 f k u) = omega arith
-rows_few (rows-0 f k i) = omega arith
+rows_few : {rs : List ℕ} {n g : ℕ} → RowsGround rs n g → g < four_digits
+rows_few (rows_3 a) = omega arith
+rows_few (rows_4 a b) = omega arith
+rows_few (rows_5 a b c) = omega arith
+rows_few (rows_6 f k) = omega arith
+rows_few (rows_7 f k u) = omega arith
+rows_few (rows_0 f k i) = omega arith
 
-answers-few : {text : List ℕ} {memory rows : List ℤ} {g : ℕ} → LoadAnswers text memory g rows → g < fourDigits
-answers-few (load-1 n) = omega arith
-answers-few (load-21 l n) = omega arith
-answers-few (load-2 l m n) = omega arith
-answers-few (load-rows r d) = rows_few d
-answers-few (load-0 r f k i) = omega arith
+answers_few : {text : List ℕ} {memory rows : List ℤ} {g : ℕ} → LoadAnswers text memory g rows → g < four_digits
+answers_few (load_1 n) = omega arith
+answers_few (load_21 l n) = omega arith
+answers_few (load_2 l m n) = omega arith
+answers_few (load_rows r d) = rows_few d
+answers_few (load_0 r f k i) = omega arith
 
-load-few : (text : List ℕ) (rows : List ℤ) → (loaded text rows).0 < fourDigits
-load-few text rows = answers-few (load-derived text rows)
+load_few : (text : List ℕ) (rows : List ℤ) → (loaded text rows).0 < four_digits
+load_few text rows = answers_few (load_derived text rows)
 
-pub counted-few : (n : ℕ) (text : List ℕ) (rows : List ℤ) → (loadedCounted n text rows).0 < fourDigits
-unfolding loadedCounted
-counted-few n text rows = cases (eqb (length text) (n * lineBytes)) (λ e. rw e (load-few text rows)) (λ e. rw e (omega arith))
+pub counted_few : (n : ℕ) (text : List ℕ) (rows : List ℤ) → (loaded_counted n text rows).0 < four_digits
+unfolding loaded_counted
+counted_few n text rows = cases (eqb (length text) (n * line_bytes)) (λ e. rw e (load_few text rows)) (λ e. rw e (omega arith))
 
 -- ---- strides
 
-strides-few : (rows : List ℤ) (n : ℕ) → acceptsRows rows ≡ true → Bounded rows n → n < fourDigits
-strides-few rows n h b = let m = movers-few (ownRows rows) (rowCount rows) in let k = (passed-of rows h).few in omega (arith, k, b, m)
+strides_few : (rows : List ℤ) (n : ℕ) → accepts_rows rows ≡ true → Bounded rows n → n < four_digits
+strides_few rows n h b = let m = movers_few (own_rows rows) (row_count rows) in let k = (passed_of rows h).few in omega (arith, k, b, m)
 
 -- ---- start
 
@@ -76,86 +76,86 @@ either P true x y p q = p
 either P false x y p q = q
 
 abbrev Low : CallAnswer → Type 0
-Low a = a.number < fourDigits
+Low a = a.number < four_digits
 
-started-low : (rows ws : List ℤ) (o : Option Code) → Low (calls.startWith rows ws o)
+started_low : (rows ws : List ℤ) (o : Option Code) → Low (calls.startWith rows ws o)
 unfolding calls.startWith
-started-low rows ws none = omega arith
-started-low rows ws (some c) = either Low (overflowsTask c [] (calls.first_of rows)) _ _ (omega arith) (omega arith)
+started_low rows ws none = omega arith
+started_low rows ws (some c) = either Low (overflows_task c [] (calls.first_of rows)) _ _ (omega arith) (omega arith)
 
-start-low : (rows ws : List ℤ) → Low (calls.startCall rows ws)
+start_low : (rows ws : List ℤ) → Low (calls.startCall rows ws)
 unfolding calls.startCall
-start-low rows ws = either Low (acceptsRows rows) _ _ (either Low (eqb (length ws) (rowCount rows * stateWords)) _ _ (started-low rows ws (calls.code_of rows)) (omega arith)) (omega arith)
+start_low rows ws = either Low (accepts_rows rows) _ _ (either Low (eqb (length ws) (row_count rows * state_words)) _ _ (started_low rows ws (calls.code_of rows)) (omega arith)) (omega arith)
 
-pub start-few : (rows ws : List ℤ) (a : Answer) (ws₁ : List ℤ) → Answered (calls.startCall rows ws) a ws₁ → Bounded rows a.strides → (a.number < fourDigits) × (a.strides < fourDigits)
+pub start_few : (rows ws : List ℤ) (a : Answer) (ws₁ : List ℤ) → Answered (calls.startCall rows ws) a ws₁ → Bounded rows a.strides → (a.number < four_digits) × (a.strides < four_digits)
 unfolding calls.startCall
-start-few rows ws a ws₁ q b = (
-  subst (λ n. n < fourDigits) (sym q.0) (start-low rows ws),
-  cases (acceptsRows rows) (λ e. strides-few rows a.strides e b) (λ e. let z : a.strides ≡ 0 = rw e at q.1 in omega (arith, z)),
+start_few rows ws a ws₁ q b = (
+  subst (λ n. n < four_digits) (sym q.0) (start_low rows ws),
+  cases (accepts_rows rows) (λ e. strides_few rows a.strides e b) (λ e. let z : a.strides ≡ 0 = rw e at q.1 in omega (arith, z)),
 )
 
 -- ---- handle
 
 abbrev LowGround : calls.Opened → Type 0
-LowGround (calls.refusedBy g) = g < fourDigits
+LowGround (calls.refusedBy g) = g < four_digits
 LowGround (calls.rest_of z) = Unit {0}
 
-rest-low : (c : Code) (t : TaskOf c) (s : Store) → LowGround (calls.atRest c t s)
+rest_low : (c : Code) (t : TaskOf c) (s : Store) → LowGround (calls.atRest c t s)
 unfolding calls.atRest
-rest-low c t s = either LowGround (stride c [] s t).2 _ _ (omega arith) tt
+rest_low c t s = either LowGround (stride c [] s t).2 _ _ (omega arith) tt
 
-failed-low : (rows ws : List ℤ) (c : Code) (o : Option Ty) → LowGround (calls.failedAs rows ws c o)
+failed_low : (rows ws : List ℤ) (c : Code) (o : Option Ty) → LowGround (calls.failedAs rows ws c o)
 unfolding calls.failedAs
-failed-low rows ws c none = omega arith
-failed-low rows ws c (some τ) =
-    let held = overflowsTask c [] (calls.first_of rows) && same (encodeFailed (ownRows rows) (rowCount rows) (calls.first_of rows)) (own_of (rowCount rows) ws) in
-    either LowGround held (calls.rest_of (failedState τ (calls.first_of rows))) (calls.refusedBy notState) tt (omega arith)
+failed_low rows ws c none = omega arith
+failed_low rows ws c (some τ) =
+    let held = overflows_task c [] (calls.first_of rows) && same (encode_failed (own_rows rows) (row_count rows) (calls.first_of rows)) (own_of (row_count rows) ws) in
+    either LowGround held (calls.rest_of (failed_state τ (calls.first_of rows))) (calls.refusedBy not_state) tt (omega arith)
 
-decoded-low : (rows ws : List ℤ) (c : Code) (o : Option (TaskOf c × Store)) → LowGround (calls.decoded rows ws c o)
+decoded_low : (rows ws : List ℤ) (c : Code) (o : Option (TaskOf c × Store)) → LowGround (calls.decoded rows ws c o)
 unfolding calls.decoded
-decoded-low rows ws c none = failed-low rows ws c _
-decoded-low rows ws c (some r) = rest-low c r.0 r.1
+decoded_low rows ws c none = failed_low rows ws c _
+decoded_low rows ws c (some r) = rest_low c r.0 r.1
 
 read_low : (rows ws : List ℤ) (o : Option Code) → LowGround (calls.readWith rows ws o)
 unfolding calls.readWith
 read_low rows ws none = omega arith
-read_low rows ws (some c) = decoded-low rows ws c _
+read_low rows ws (some c) = decoded_low rows ws c _
 
-opened-low : (rows ws : List ℤ) (fits : Bool) → LowGround (calls.opened rows ws fits)
+opened_low : (rows ws : List ℤ) (fits : Bool) → LowGround (calls.opened rows ws fits)
 unfolding calls.opened
-opened-low rows ws fits =
-    either LowGround (acceptsRows rows) _ _
-    (either LowGround (eqb (length ws) (rowCount rows * stateWords) && fits) _ _ (read_low rows ws (calls.code_of rows)) (omega arith)) (omega arith)
+opened_low rows ws fits =
+    either LowGround (accepts_rows rows) _ _
+    (either LowGround (eqb (length ws) (row_count rows * state_words) && fits) _ _ (read_low rows ws (calls.code_of rows)) (omega arith)) (omega arith)
 
-handled-low : (rows ws : List ℤ) (c : Code) (role : ℕ) (o : Option (Taken (TaskOf c))) → Low (calls.handled rows ws c role o)
+handled_low : (rows ws : List ℤ) (c : Code) (role : ℕ) (o : Option (Taken (TaskOf c))) → Low (calls.handled rows ws c role o)
 unfolding calls.handled calls.settled verdict
-handled-low rows ws c role none = omega arith
-handled-low rows ws c role (some r) = by (ofRole role r.2) (touchesLeft r.2)
+handled_low rows ws c role none = omega arith
+handled_low rows ws c role (some r) = by (of_role role r.2) (touches_left r.2)
   where
-    by : (a b : Bool) → let v = cond a (cond b 0 noTouch) otherRole in Low (cond (eqb v 0) (calls.settled rows c r.0 r.1) (refusal v ws))
+    by : (a b : Bool) → let v = cond a (cond b 0 no_touch) other_role in Low (cond (eqb v 0) (calls.settled rows c r.0 r.1) (refusal v ws))
     by true true = omega arith
     by true false = omega arith
     by false b = omega arith
 
-read-event-low : (rows ws : List ℤ) (z : FlowState) (o : Option (ℕ × Path × Action)) → Low (calls.handleRead rows ws z o)
+read_event_low : (rows ws : List ℤ) (z : FlowState) (o : Option (ℕ × Path × Action)) → Low (calls.handleRead rows ws z o)
 unfolding calls.handleRead
-read-event-low rows ws z none = omega arith
-read-event-low rows ws z (some e) = handled-low rows ws z.code e.0 _
+read_event_low rows ws z none = omega arith
+read_event_low rows ws z (some e) = handled_low rows ws z.code e.0 _
 
-handle-in-low : (rows ws : List ℤ) (e : Option (ℕ × Path × Action)) (o : calls.Opened) → LowGround o → Low (calls.handleIn rows ws e o)
+handle_in_low : (rows ws : List ℤ) (e : Option (ℕ × Path × Action)) (o : calls.Opened) → LowGround o → Low (calls.handleIn rows ws e o)
 unfolding calls.handleIn
-handle-in-low rows ws e (calls.refusedBy g) l = l
-handle-in-low rows ws e (calls.rest_of z) l = read-event-low rows ws z e
+handle_in_low rows ws e (calls.refusedBy g) l = l
+handle_in_low rows ws e (calls.rest_of z) l = read_event_low rows ws z e
 
 -- rows that are not accepted count no stride
-shut-strides : (rows ws : List ℤ) (event : List ℕ) → acceptsRows rows ≡ false → (calls.handleCall rows ws event).strides ≡ 0
+shut_strides : (rows ws : List ℤ) (event : List ℕ) → accepts_rows rows ≡ false → (calls.handleCall rows ws event).strides ≡ 0
 unfolding calls.handleCall calls.opened calls.handleIn
-shut-strides rows ws event e = rw e
+shut_strides rows ws event e = rw e
 
-pub handle-few : (rows ws : List ℤ) (event : List ℕ) (a : Answer) (ws₁ : List ℤ) → Answered (calls.handleCall rows ws event) a ws₁ → Bounded rows a.strides
-    → (a.number < fourDigits) × (a.strides < fourDigits)
+pub handle_few : (rows ws : List ℤ) (event : List ℕ) (a : Answer) (ws₁ : List ℤ) → Answered (calls.handleCall rows ws event) a ws₁ → Bounded rows a.strides
+    → (a.number < four_digits) × (a.strides < four_digits)
 unfolding calls.handleCall
-handle-few rows ws event a ws₁ q b = (
-  subst (λ n. n < fourDigits) (sym q.0) (handle-in-low rows ws (eventOf event) (calls.opened rows ws true) (opened-low rows ws true)),
-  cases (acceptsRows rows) (λ e. strides-few rows a.strides e b) (λ e. let z = q.1 ∙ shut-strides rows ws event e in omega (arith, z)),
+handle_few rows ws event a ws₁ q b = (
+  subst (λ n. n < four_digits) (sym q.0) (handle_in_low rows ws (event_of event) (calls.opened rows ws true) (opened_low rows ws true)),
+  cases (accepts_rows rows) (λ e. strides_few rows a.strides e b) (λ e. let z = q.1 ∙ shut_strides rows ws event e in omega (arith, z)),
 )

@@ -7,14 +7,14 @@ use Prim.Native.Nat.{◌+◌, ◌*◌}
 use Prim.Native.String.{String}
 use lib.IntN.{pos}
 use lib.ListN.{get_or, replicate}
-use Rattle.state.specs.Layout.{stateWords}
+use Rattle.state.specs.Layout.{state_words}
 use Rattle.screens.proofs.Sessions.{started, agree}
 
 -- ---- the cases
 
 -- P1 to P4: the session that 01 prints
-abbrev p1to4-sheet : List String
-p1to4-sheet =
+abbrev p1to4_sheet : List String
+p1to4_sheet =
     "   0   3           0           0           0" ∷
     "   1  41           0           0           0" ∷
     "   2  23           0           0           0" ∷
@@ -29,15 +29,15 @@ p1to4-sheet =
     "  11  43           1          10           0" ∷
     []
 
-abbrev p1to4-touches : List String
-p1to4-touches =
+abbrev p1to4_touches : List String
+p1to4_touches =
     " 1               0 1          12           0           0           0           0           0           0           0" ∷
     " 1               0 1           4           0           0           0           0           0           0           0" ∷
     " 1               0 2           0           0           0           0           0           0           0           0" ∷
     []
 
-abbrev p1to4-screens : List String
-p1to4-screens =
+abbrev p1to4_screens : List String
+p1to4_screens =
     "   0   1 0 0           0           0           0           0           0           0           0           0   1" ∷
     "               0 1 3 0 0 0 0 0 0 0" ∷
     "   0   1 0 0           0           0           0           0           0           0           0           0   1" ∷
@@ -49,8 +49,8 @@ p1to4-screens =
     []
 
 -- P5: "choice 47 of filled 1 and 2: 1 alone"
-abbrev p5-sheet : List String
-p5-sheet =
+abbrev p5_sheet : List String
+p5_sheet =
     "   0  22           1           0           0" ∷
     "   1  40           0           0           0" ∷
     "   2  22           2           0           0" ∷
@@ -58,15 +58,15 @@ p5-sheet =
     "   4  47           1           3           0" ∷
     []
 
-abbrev p5-screens : List String
-p5-screens =
+abbrev p5_screens : List String
+p5_screens =
     "   0   2 0 1           1           0           0           0           0           0           0           0   1" ∷
     "               0 1 3 0 0 0 0 0 0 0" ∷
     []
 
 -- P6: "of empty and filled 2: 2 alone"
-abbrev p6-sheet : List String
-p6-sheet =
+abbrev p6_sheet : List String
+p6_sheet =
     "   0   3           0           0           0" ∷
     "   1  41           0           0           0" ∷
     "   2  22           2           0           0" ∷
@@ -74,29 +74,29 @@ p6-sheet =
     "   4  47           1           3           0" ∷
     []
 
-abbrev p6-screens : List String
-p6-screens =
+abbrev p6_screens : List String
+p6_screens =
     "   0   2 0 1           2           0           0           0           0           0           0           0   1" ∷
     "               0 1 3 0 0 0 0 0 0 0" ∷
     []
 
 -- P7: "both of two fails: failing, no entries"
-abbrev p7-sheet : List String
-p7-sheet =
+abbrev p7_sheet : List String
+p7_sheet =
     "   0   3           0           0           0" ∷
     "   1  45           0           0           0" ∷
     "   2  45           0           0           0" ∷
     "   3  46           1           2           0" ∷
     []
 
-abbrev p7-screens : List String
-p7-screens =
+abbrev p7_screens : List String
+p7_screens =
     "   0   1 1 0           0           0           0           0           0           0           0           0   0" ∷
     []
 
 -- P8: "choice 48 of filled and fail: Left only"
-abbrev p8-sheet : List String
-p8-sheet =
+abbrev p8_sheet : List String
+p8_sheet =
     "   0   3           0           0           0" ∷
     "   1  22           1           0           0" ∷
     "   2  40           1           0           0" ∷
@@ -104,15 +104,15 @@ p8-sheet =
     "   4  48           2           3           0" ∷
     []
 
-abbrev p8-screens : List String
-p8-screens =
+abbrev p8_screens : List String
+p8_screens =
     "   0   1 0 0           0           0           0           0           0           0           0           0   1" ∷
     "               0 3 0 0 0 0 0 0 0 0" ∷
     []
 
 -- P9: "filled 1, Continue to fail: one entry, the editor's"
-abbrev p9-sheet : List String
-p9-sheet =
+abbrev p9_sheet : List String
+p9_sheet =
     "   0   3           0           0           0" ∷
     "   1  22           1           0           0" ∷
     "   2  40           1           0           0" ∷
@@ -120,15 +120,15 @@ p9-sheet =
     "   4  44           2           3           0" ∷
     []
 
-abbrev p9-screens : List String
-p9-screens =
+abbrev p9_screens : List String
+p9_screens =
     "   0   1 0 0           0           0           0           0           0           0           0           0   1" ∷
     "               0 1 3 0 0 0 0 0 0 0" ∷
     []
 
 -- P10: "cell 7; filled 1, internal step that writes 3 and fails: cell 7"
-abbrev p10-sheet : List String
-p10-sheet =
+abbrev p10_sheet : List String
+p10_sheet =
     "   0   3           0           0           0" ∷
     "   1  10           0           7           0" ∷
     "   2  22           1           0           0" ∷
@@ -140,15 +140,15 @@ p10-sheet =
     "   8  43           3           7           0" ∷
     []
 
-abbrev p10-screens : List String
-p10-screens =
+abbrev p10_screens : List String
+p10_screens =
     "   0   1 0 0           0           0           0           0           0           0           0           0   1" ∷
     "               0 1 3 0 0 0 0 0 0 0" ∷
     []
 
 -- P11: "cell 0; both of (shared, step to filled 1 if the value is 1, else fail) and (filled 1, step that writes 1, then filled 0): value (1, 0), 3 strides"
-abbrev p11-sheet : List String
-p11-sheet =
+abbrev p11_sheet : List String
+p11_sheet =
     "   0   3           0           0           0" ∷
     "   1  10           0           0           0" ∷
     "   2  42           1           0           0" ∷
@@ -171,35 +171,35 @@ p11-sheet =
     "  19  46          10          18           0" ∷
     []
 
-abbrev p11-screens : List String
-p11-screens =
+abbrev p11_screens : List String
+p11_screens =
     "   0   3 0 1           1           0           0           0           0           0           0           0   2" ∷
     "               1 1 3 0 0 0 0 0 0 0" ∷
     "               2 1 3 0 0 0 0 0 0 0" ∷
     []
 
 -- P12 (CR 3): "a filled editor of that sum, which fails"; here it is given a value
-abbrev p12-sheet : List String
-p12-sheet =
+abbrev p12_sheet : List String
+p12_sheet =
     "   0  22  2147483647           0           0" ∷
     "   1  22           1           0           0" ∷
     "   2  24           1           0           1" ∷
     "   3  40           2           0           0" ∷
     []
 
-abbrev p12-touches : List String
-p12-touches = " 1               0 1           5           0           0           0           0           0           0           0" ∷ []
+abbrev p12_touches : List String
+p12_touches = " 1               0 1           5           0           0           0           0           0           0           0" ∷ []
 
-abbrev p12-screens : List String
-p12-screens =
+abbrev p12_screens : List String
+p12_screens =
     "   0   1 1 0           0           0           0           0           0           0           0           0   0" ∷
     "   9   0 1 0           0           0           0           0           0           0           0           0   0" ∷
     []
 
 -- One session more: a truth, a number and a unit editor, paths of one and of two marks, a pair value of truth and number, and
 -- Continue, Left and Right each shown and taken, and each refused where it is not shown
-abbrev every-sheet : List String
-every-sheet =
+abbrev every_sheet : List String
+every_sheet =
     "   0   1           0           0           0" ∷
     "   1   2           0           0           0" ∷
     "   2   3           0           0           0" ∷
@@ -217,8 +217,8 @@ every-sheet =
     "  14  46           5          13           0" ∷
     []
 
-abbrev every-touches : List String
-every-touches =
+abbrev every_touches : List String
+every_touches =
     " 1               2 2           0           0           0           0           0           0           0           0" ∷
     " 1               2 1           0           0           0           0           0           0           0           0" ∷
     " 1              11 1           2           0           0           0           0           0           0           0" ∷
@@ -232,8 +232,8 @@ every-touches =
     " 1               2 4           0           0           0           0           0           0           0           0" ∷
     []
 
-abbrev every-screens : List String
-every-screens =
+abbrev every_screens : List String
+every_screens =
     "   0   1 0 0           0           0           0           0           0           0           0           0   3" ∷
     "              11 1 2 0 0 0 0 0 0 0" ∷
     "              12 1 3 0 0 0 0 0 0 0" ∷
@@ -289,27 +289,27 @@ every-screens =
     "               2 1 1 0 0 0 0 0 0 0" ∷
     []
 
-all-agree : agree (
-    (p1to4-sheet, p1to4-touches, p1to4-screens) ∷
-    (p5-sheet, [], p5-screens) ∷
-    (p6-sheet, [], p6-screens) ∷
-    (p7-sheet, [], p7-screens) ∷
-    (p8-sheet, [], p8-screens) ∷
-    (p9-sheet, [], p9-screens) ∷
-    (p10-sheet, [], p10-screens) ∷
-    (p11-sheet, [], p11-screens) ∷
-    (p12-sheet, p12-touches, p12-screens) ∷
-    (every-sheet, every-touches, every-screens) ∷
+all_agree : agree (
+    (p1to4_sheet, p1to4_touches, p1to4_screens) ∷
+    (p5_sheet, [], p5_screens) ∷
+    (p6_sheet, [], p6_screens) ∷
+    (p7_sheet, [], p7_screens) ∷
+    (p8_sheet, [], p8_screens) ∷
+    (p9_sheet, [], p9_screens) ∷
+    (p10_sheet, [], p10_screens) ∷
+    (p11_sheet, [], p11_screens) ∷
+    (p12_sheet, p12_touches, p12_screens) ∷
+    (every_sheet, every_touches, every_screens) ∷
     []) ≡ true
 unfolding agree
-all-agree = refl
+all_agree = refl
 
 -- P10's cell is row 1: its content is word 2 of the row
-p10-cell : get_or (started p10-sheet) (1 * stateWords + 2) (pos 0) ≡ pos 7
+p10_cell : get_or (started p10_sheet) (1 * state_words + 2) (pos 0) ≡ pos 7
 unfolding started
-p10-cell = refl
+p10_cell = refl
 
 -- P12's last row is row 3: its tag is 4, and no other word of the state is one
-p12-failed : started p12-sheet ≡ replicate (3 * stateWords) (pos 0) ++ pos 4 ∷ replicate 15 (pos 0)
+p12_failed : started p12_sheet ≡ replicate (3 * state_words) (pos 0) ++ pos 4 ∷ replicate 15 (pos 0)
 unfolding started
-p12-failed = refl
+p12_failed = refl

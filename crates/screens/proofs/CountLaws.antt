@@ -13,27 +13,27 @@ use mir.Syntax.{w32}
 use mir.Val.{to_z}
 use mir.Facts.{to_z_pos, to_z-neg}
 use Rattle.word.specs.Word.{words, half}
-use Rattle.decimal.specs.Field.{Field, number, blank, unreadable, rowColumns, readsAt, reading}
+use Rattle.decimal.specs.Field.{Field, number, blank, unreadable, row_columns, reads_at, reading}
 use Rattle.decimal.specs.declared.field.Reading.{Reading}
 use Rattle.decimal.specs.declared.field.Reading.TheVariants.{Number, Blank, Unreadable}
-use Rattle.decimal.proofs.Answers.{number_read, blank-said, nothing_said}
-use Rattle.rows.specs.Rows.{maxRows}
-use Rattle.screens.specs.Counts.{countBytes, countSaid, countIn}
+use Rattle.decimal.proofs.Answers.{number_read, blank_said, nothing_said}
+use Rattle.rows.specs.Rows.{max_rows}
+use Rattle.screens.specs.Counts.{count_bytes, count_said, count_in}
 
 -- ---- the number that bits say
 
-pub few-some : (n : ℕ) → n ≤ maxRows → n ≡ countSaid (number (to_z w32 n))
-unfolding countSaid
-few-some n h = rw (to_z_pos w32 {n = n} (omega arith), le-leb n maxRows h)
+pub few_some : (n : ℕ) → n ≤ max_rows → n ≡ count_said (number (to_z w32 n))
+unfolding count_said
+few_some n h = rw (to_z_pos w32 {n = n} (omega arith), le-leb n max_rows h)
 
 negative : (n : ℕ) → half ≤ n → n < words → to_z w32 n ≡ negsuc (words - 1 - n)
 negative n h g = subst (λ m. to_z w32 m ≡ negsuc (words - 1 - n)) {x = words - suc (words - 1 - n)} {y = n} (omega arith) (to_z-neg w32 (words - 1 - n) (omega arith))
 
-pub few-none : (n : ℕ) → n < words → maxRows < n → 0 ≡ countSaid (number (to_z w32 n))
-unfolding countSaid
-few-none n g h = cases (leb half n)
+pub few_none : (n : ℕ) → n < words → max_rows < n → 0 ≡ count_said (number (to_z w32 n))
+unfolding count_said
+few_none n g h = cases (leb half n)
     (λ e. rw (negative n (leb-true half n e) g))
-    (λ e. rw (to_z_pos w32 {n = n} (below e), lt-leb n maxRows h))
+    (λ e. rw (to_z_pos w32 {n = n} (below e), lt-leb n max_rows h))
   where
     below : leb half n ≡ false → n < half
     below e = borrow.Author.Tests.leb-false half n e
@@ -41,41 +41,41 @@ few-none n g h = cases (leb half n)
 -- ---- the bytes
 
 module _ (s : List ℕ) where
-  pub no-count : (length s ≡ countBytes → ⊥) → 0 ≡ countIn s
-  unfolding countIn
-  no-count h = rw (ne_eqb (length s) countBytes h)
+  pub no_count : (length s ≡ count_bytes → ⊥) → 0 ≡ count_in s
+  unfolding count_in
+  no_count h = rw (ne_eqb (length s) count_bytes h)
 
-  pub no_end : length s ≡ countBytes → (get_or s rowColumns 0 ≡ 10 → ⊥) → 0 ≡ countIn s
-  unfolding countIn
-  no_end l h = rw (eq-eqb (length s) countBytes l, ne_eqb (get_or s rowColumns 0) 10 h)
+  pub no_end : length s ≡ count_bytes → (get_or s row_columns 0 ≡ 10 → ⊥) → 0 ≡ count_in s
+  unfolding count_in
+  no_end l h = rw (eq-eqb (length s) count_bytes l, ne_eqb (get_or s row_columns 0) 10 h)
 
-  module _ (l : length s ≡ countBytes) (b : get_or s rowColumns 0 ≡ 10) where
-    said : countSaid (readsAt s 0 rowColumns) ≡ countIn s
-    unfolding countIn
-    said = rw (eq-eqb (length s) countBytes l, eq-eqb (get_or s rowColumns 0) 10 b)
+  module _ (l : length s ≡ count_bytes) (b : get_or s row_columns 0 ≡ 10) where
+    said : count_said (reads_at s 0 row_columns) ≡ count_in s
+    unfolding count_in
+    said = rw (eq-eqb (length s) count_bytes l, eq-eqb (get_or s row_columns 0) 10 b)
 
-    module _ (r : Reading) (e : r ≡ reading (readsAt s 0 rowColumns)) where
-      pub count-number : (n m : ℕ) → r ≡ Number n → m ≡ countSaid (number (to_z w32 n)) → m ≡ countIn s
-      count-number n m h g = g ∙ ap countSaid (sym (number_read s 0 rowColumns n (sym h ∙ e)).is) ∙ said
+    module _ (r : Reading) (e : r ≡ reading (reads_at s 0 row_columns)) where
+      pub count_number : (n m : ℕ) → r ≡ Number n → m ≡ count_said (number (to_z w32 n)) → m ≡ count_in s
+      count_number n m h g = g ∙ ap count_said (sym (number_read s 0 row_columns n (sym h ∙ e)).is) ∙ said
 
-      pub count-blank : r ≡ Blank → 0 ≡ countIn s
-      unfolding countSaid
-      count-blank h = ap countSaid (sym (blank-said (readsAt s 0 rowColumns) (sym h ∙ e))) ∙ said
+      pub count_blank : r ≡ Blank → 0 ≡ count_in s
+      unfolding count_said
+      count_blank h = ap count_said (sym (blank_said (reads_at s 0 row_columns) (sym h ∙ e))) ∙ said
 
-      pub count-unread : r ≡ Unreadable → 0 ≡ countIn s
-      unfolding countSaid
-      count-unread h = ap countSaid (sym (nothing_said (readsAt s 0 rowColumns) (sym h ∙ e))) ∙ said
+      pub count_unread : r ≡ Unreadable → 0 ≡ count_in s
+      unfolding count_said
+      count_unread h = ap count_said (sym (nothing_said (reads_at s 0 row_columns) (sym h ∙ e))) ∙ said
 
 -- a count is at most 256
-said-few : (f : Field) → countSaid f ≤ maxRows
-unfolding countSaid
-said-few (number (pos n)) = cases (leb n maxRows) (λ e. rw e (leb-true n maxRows e)) (λ e. rw e (omega arith))
-said-few (number (negsuc n)) = omega arith
-said-few blank = omega arith
-said-few unreadable = omega arith
+said_few : (f : Field) → count_said f ≤ max_rows
+unfolding count_said
+said_few (number (pos n)) = cases (leb n max_rows) (λ e. rw e (leb-true n max_rows e)) (λ e. rw e (omega arith))
+said_few (number (negsuc n)) = omega arith
+said_few blank = omega arith
+said_few unreadable = omega arith
 
-pub count-few : (s : List ℕ) → countIn s ≤ maxRows
-unfolding countIn
-count-few s = cases (eqb (length s) countBytes)
-    (λ e. cases (eqb (get_or s rowColumns 0) 10) (λ g. rw (e, g) (said-few (readsAt s 0 rowColumns))) (λ g. rw (e, g) (omega arith)))
+pub count_few : (s : List ℕ) → count_in s ≤ max_rows
+unfolding count_in
+count_few s = cases (eqb (length s) count_bytes)
+    (λ e. cases (eqb (get_or s row_columns 0) 10) (λ g. rw (e, g) (said_few (reads_at s 0 row_columns))) (λ g. rw (e, g) (omega arith)))
     (λ e. rw e (omega arith))

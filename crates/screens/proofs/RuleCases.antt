@@ -8,8 +8,8 @@ use Prim.Native.String.{String}
 use Rattle.screens.proofs.Sessions.{agree}
 
 -- Continue evaluates B and the call counts its strides: 2, not 1
-abbrev continue-counts-sheet : List String
-continue-counts-sheet =
+abbrev continue_counts_sheet : List String
+continue_counts_sheet =
     "   0  22           1           0           0" ∷
     "   1  40           0           0           0" ∷
     "   2  22           2           0           0" ∷
@@ -20,13 +20,13 @@ continue-counts-sheet =
     "   7  44           1           6           0" ∷
     []
 
-abbrev continue-counts-touches : List String
-continue-counts-touches =
+abbrev continue_counts_touches : List String
+continue_counts_touches =
     " 1               0 2           0           0           0           0           0           0           0           0" ∷
     []
 
-abbrev continue-counts-screens : List String
-continue-counts-screens =
+abbrev continue_counts_screens : List String
+continue_counts_screens =
     "   0   1 0 0           0           0           0           0           0           0           0           0   2" ∷
     "               0 1 3 0 0 0 0 0 0 0" ∷
     "               0 2 0 0 0 0 0 0 0 0" ∷
@@ -35,8 +35,8 @@ continue-counts-screens =
     []
 
 -- Left gives the branch normalised, whose strides are not counted: 1, not 2
-abbrev left-counts-sheet : List String
-left-counts-sheet =
+abbrev left_counts_sheet : List String
+left_counts_sheet =
     "   0  22           1           0           0" ∷
     "   1  40           0           0           0" ∷
     "   2  22           2           0           0" ∷
@@ -47,13 +47,13 @@ left-counts-sheet =
     "   7  48           4           6           0" ∷
     []
 
-abbrev left-counts-touches : List String
-left-counts-touches =
+abbrev left_counts_touches : List String
+left_counts_touches =
     " 1               0 3           0           0           0           0           0           0           0           0" ∷
     []
 
-abbrev left-counts-screens : List String
-left-counts-screens =
+abbrev left_counts_screens : List String
+left_counts_screens =
     "   0   1 0 0           0           0           0           0           0           0           0           0   2" ∷
     "               0 3 0 0 0 0 0 0 0 0" ∷
     "               0 4 0 0 0 0 0 0 0 0" ∷
@@ -62,8 +62,8 @@ left-counts-screens =
     []
 
 -- 43 over 43 goes on in one stride: 2 at start
-abbrev step-counts-sheet : List String
-step-counts-sheet =
+abbrev step_counts_sheet : List String
+step_counts_sheet =
     "   0  22           1           0           0" ∷
     "   1  40           0           0           0" ∷
     "   2  22           2           0           0" ∷
@@ -74,15 +74,15 @@ step-counts-sheet =
     "   7  43           4           6           0" ∷
     []
 
-abbrev step-counts-screens : List String
-step-counts-screens =
+abbrev step_counts_screens : List String
+step_counts_screens =
     "   0   2 0 1           3           0           0           0           0           0           0           0   1" ∷
     "               0 1 3 0 0 0 0 0 0 0" ∷
     []
 
 -- 44 strides its A: 2 at start, and Continue is lit
-abbrev waits-counts-sheet : List String
-waits-counts-sheet =
+abbrev waits_counts_sheet : List String
+waits_counts_sheet =
     "   0  22           1           0           0" ∷
     "   1  40           0           0           0" ∷
     "   2  22           2           0           0" ∷
@@ -93,13 +93,13 @@ waits-counts-sheet =
     "   7  44           4           6           0" ∷
     []
 
-abbrev waits-counts-touches : List String
-waits-counts-touches =
+abbrev waits_counts_touches : List String
+waits_counts_touches =
     " 1               0 2           0           0           0           0           0           0           0           0" ∷
     []
 
-abbrev waits-counts-screens : List String
-waits-counts-screens =
+abbrev waits_counts_screens : List String
+waits_counts_screens =
     "   0   2 0 0           0           0           0           0           0           0           0           0   2" ∷
     "               0 1 3 0 0 0 0 0 0 0" ∷
     "               0 2 0 0 0 0 0 0 0 0" ∷
@@ -108,8 +108,8 @@ waits-counts-screens =
     []
 
 -- 1 < 1, 1 < 2; 1 and 0; 1 or 0; 5 - 3; 1 <= 1
-abbrev operators-sheet : List String
-operators-sheet =
+abbrev operators_sheet : List String
+operators_sheet =
     "   0  22           1           0           0" ∷
     "   1  22           1           0           0" ∷
     "   2  24           4           0           1" ∷
@@ -136,15 +136,15 @@ operators-sheet =
     "  23  40          22           0           0" ∷
     []
 
-abbrev operators-screens : List String
-operators-screens =
+abbrev operators_screens : List String
+operators_screens =
     "   0   1 0 1           0           1           0           1           2           1           0           0   1" ∷
     "               0 1 2 2 2 2 3 2 0 0" ∷
     []
 
 -- a condition beyond the range, a half not used and the second side of or fail their branch; a side not taken does not
-abbrev range-1-sheet : List String
-range-1-sheet =
+abbrev range_1_sheet : List String
+range_1_sheet =
     "   0  22  2147483647           0           0" ∷
     "   1  22           1           0           0" ∷
     "   2  24           1           0           1" ∷
@@ -184,15 +184,15 @@ range-1-sheet =
     "  36  46          16          35           0" ∷
     []
 
-abbrev range-1-screens : List String
-range-1-screens =
+abbrev range_1_screens : List String
+range_1_screens =
     "   0   1 0 0           0           0           0           0           0           0           0           0   1" ∷
     "               2 4 0 0 0 0 0 0 0 0" ∷
     []
 
 -- a 48 whose branches both leave the range fails; an intermediate sum counts; a binding not used counts
-abbrev range-2-sheet : List String
-range-2-sheet =
+abbrev range_2_sheet : List String
+range_2_sheet =
     "   0  22  2147483647           0           0" ∷
     "   1  22           1           0           0" ∷
     "   2  24           1           0           1" ∷
@@ -216,14 +216,14 @@ range-2-sheet =
     "  20  46          10          19           0" ∷
     []
 
-abbrev range-2-screens : List String
-range-2-screens =
+abbrev range_2_screens : List String
+range_2_screens =
     "   0   1 1 0           0           0           0           0           0           0           0           0   0" ∷
     []
 
 -- a step inside a branch that would leave the range waits, and the branch lives
-abbrev range-3-sheet : List String
-range-3-sheet =
+abbrev range_3_sheet : List String
+range_3_sheet =
     "   0  22           1           0           0" ∷
     "   1  40           0           0           0" ∷
     "   2  22  2147483647           0           0" ∷
@@ -236,13 +236,13 @@ range-3-sheet =
     "   9  48           6           8           0" ∷
     []
 
-abbrev range-3-touches : List String
-range-3-touches =
+abbrev range_3_touches : List String
+range_3_touches =
     " 1               0 3           0           0           0           0           0           0           0           0" ∷
     []
 
-abbrev range-3-screens : List String
-range-3-screens =
+abbrev range_3_screens : List String
+range_3_screens =
     "   0   1 0 0           0           0           0           0           0           0           0           0   1" ∷
     "               0 3 0 0 0 0 0 0 0 0" ∷
     "   0   1 0 0           0           0           0           0           0           0           0           0   1" ∷
@@ -250,8 +250,8 @@ range-3-screens =
     []
 
 -- A of a step beyond the range fails the whole last row: no entry of the other part
-abbrev range-4-sheet : List String
-range-4-sheet =
+abbrev range_4_sheet : List String
+range_4_sheet =
     "   0  22  2147483647           0           0" ∷
     "   1  22           1           0           0" ∷
     "   2  24           1           0           1" ∷
@@ -264,14 +264,14 @@ range-4-sheet =
     "   9  46           6           8           0" ∷
     []
 
-abbrev range-4-screens : List String
-range-4-screens =
+abbrev range_4_screens : List String
+range_4_screens =
     "   0   1 1 0           0           0           0           0           0           0           0           0   0" ∷
     []
 
 -- cell 7; a shown value stays when the cell changes; a 47 takes one
-abbrev shown-sheet : List String
-shown-sheet =
+abbrev shown_sheet : List String
+shown_sheet =
     "   0   3           0           0           0" ∷
     "   1  10           0           7           0" ∷
     "   2  29           1           0           0" ∷
@@ -286,30 +286,30 @@ shown-sheet =
     "  11  46           3          10           0" ∷
     []
 
-abbrev shown-touches : List String
-shown-touches =
+abbrev shown_touches : List String
+shown_touches =
     " 1              21 1           3           0           0           0           0           0           0           0" ∷
     []
 
-abbrev shown-screens : List String
-shown-screens =
+abbrev shown_screens : List String
+shown_screens =
     "   0   2 0 1           7           7           5           0           0           0           0           0   1" ∷
     "              21 1 3 0 0 0 0 0 0 0" ∷
     "   0   1 0 1           7           3           5           0           0           0           0           0   1" ∷
     "              21 1 3 0 0 0 0 0 0 0" ∷
     []
 
-all-agree : agree (
-    (continue-counts-sheet, continue-counts-touches, continue-counts-screens) ∷
-    (left-counts-sheet, left-counts-touches, left-counts-screens) ∷
-    (step-counts-sheet, [], step-counts-screens) ∷
-    (waits-counts-sheet, waits-counts-touches, waits-counts-screens) ∷
-    (operators-sheet, [], operators-screens) ∷
-    (range-1-sheet, [], range-1-screens) ∷
-    (range-2-sheet, [], range-2-screens) ∷
-    (range-3-sheet, range-3-touches, range-3-screens) ∷
-    (range-4-sheet, [], range-4-screens) ∷
-    (shown-sheet, shown-touches, shown-screens) ∷
+all_agree : agree (
+    (continue_counts_sheet, continue_counts_touches, continue_counts_screens) ∷
+    (left_counts_sheet, left_counts_touches, left_counts_screens) ∷
+    (step_counts_sheet, [], step_counts_screens) ∷
+    (waits_counts_sheet, waits_counts_touches, waits_counts_screens) ∷
+    (operators_sheet, [], operators_screens) ∷
+    (range_1_sheet, [], range_1_screens) ∷
+    (range_2_sheet, [], range_2_screens) ∷
+    (range_3_sheet, range_3_touches, range_3_screens) ∷
+    (range_4_sheet, [], range_4_screens) ∷
+    (shown_sheet, shown_touches, shown_screens) ∷
     []) ≡ true
 unfolding agree
-all-agree = refl
+all_agree = refl

@@ -49,20 +49,20 @@ use Rattle.call_definitions.specs.Memory as memories
 use Rattle.call_definitions.specs.Calls as calls
 use Rattle.screens.specs.Heads as heads
 use Rattle.screens.specs.Screens as screens
-use Rattle.rows.specs.Rows.{rowWords}
-use Rattle.state.specs.Layout.{stateWords}
-use Rattle.screens.specs.Screens.{Begins, roleOf, begins, touched}
+use Rattle.rows.specs.Rows.{row_words}
+use Rattle.state.specs.Layout.{state_words}
+use Rattle.screens.specs.Screens.{Begins, role_of, begins, touched}
 
 -- the bytes of a text, and of lines
-unfoldable pub bytesFrom : ℕ → ℕ → String → List ℕ
-bytesFrom zero at s = []
-bytesFrom (suc n) at s = code (char_at s at) ∷ bytesFrom n (suc at) s
+unfoldable pub bytes_from : ℕ → ℕ → String → List ℕ
+bytes_from zero at s = []
+bytes_from (suc n) at s = code (char_at s at) ∷ bytes_from n (suc at) s
 
 abbrev pub bytes : String → List ℕ
-bytes s = bytesFrom (len s) 0 s
+bytes s = bytes_from (len s) 0 s
 
 unfoldable pub text : List String → List ℕ
-unfolding bytesFrom
+unfolding bytes_from
 text [] = []
 text (l ∷ ls) = bytes l ++ 10 ∷ text ls
 
@@ -75,7 +75,7 @@ touches rows ws [] = []
 touches rows ws (e ∷ es) = let t = touched rows ws (text (e ∷ [])) memory in t.1.text ++ touches rows t.0 es
 
 abbrev pub beginning : List String → Begins
-beginning sheet = let n = length sheet in begins n (text sheet) (replicate (n * rowWords) (pos 7)) (replicate (n * stateWords) (pos 7)) memory
+beginning sheet = let n = length sheet in begins n (text sheet) (replicate (n * row_words) (pos 7)) (replicate (n * state_words) (pos 7)) memory
 
 -- the bytes that a session prints
 unfoldable pub session : List String → List String → List ℕ
@@ -115,10 +115,10 @@ unfolding session text
 started sheet = (beginning sheet).state
 
 -- the roles that it looks in after each touch
-unfoldable pub looksIn : List String → List ℕ
+unfoldable pub looks_in : List String → List ℕ
 unfolding session text
-looksIn [] = []
-looksIn (e ∷ es) = roleOf (text (e ∷ [])) ∷ looksIn es
+looks_in [] = []
+looks_in (e ∷ es) = role_of (text (e ∷ [])) ∷ looks_in es
 
 unfoldable pub same : List ℕ → List ℕ → Bool
 same [] [] = true

@@ -7,8 +7,8 @@ use Prim.Native.String.{String}
 use Rattle.screens.proofs.Sessions.{agree}
 
 -- Both of a shown 5 and a fail: no entry, and not failing; a value at the shown part is refused
-abbrev quiet-both-sheet : List String
-quiet-both-sheet =
+abbrev quiet_both_sheet : List String
+quiet_both_sheet =
     "   0   3           0           0           0" ∷
     "   1  22           5           0           0" ∷
     "   2  49           1           0           0" ∷
@@ -16,20 +16,20 @@ quiet-both-sheet =
     "   4  46           2           3           0" ∷
     []
 
-abbrev quiet-both-touches : List String
-quiet-both-touches =
+abbrev quiet_both_touches : List String
+quiet_both_touches =
     " 1               1 1           7           0           0           0           0           0           0           0" ∷
     []
 
-abbrev quiet-both-screens : List String
-quiet-both-screens =
+abbrev quiet_both_screens : List String
+quiet_both_screens =
     "   0   1 0 0           0           0           0           0           0           0           0           0   0" ∷
     "   9   0 0 0           0           0           0           0           0           0           0           0   0" ∷
     []
 
 -- A shown 1, Continue to fail: no entry, and not failing; Continue is refused
-abbrev quiet-next-sheet : List String
-quiet-next-sheet =
+abbrev quiet_next_sheet : List String
+quiet_next_sheet =
     "   0   3           0           0           0" ∷
     "   1  22           1           0           0" ∷
     "   2  49           1           0           0" ∷
@@ -37,20 +37,20 @@ quiet-next-sheet =
     "   4  44           2           3           0" ∷
     []
 
-abbrev quiet-next-touches : List String
-quiet-next-touches =
+abbrev quiet_next_touches : List String
+quiet_next_touches =
     " 1               0 2           0           0           0           0           0           0           0           0" ∷
     []
 
-abbrev quiet-next-screens : List String
-quiet-next-screens =
+abbrev quiet_next_screens : List String
+quiet_next_screens =
     "   0   1 0 0           0           0           0           0           0           0           0           0   0" ∷
     "   9   0 0 0           0           0           0           0           0           0           0           0   0" ∷
     []
 
 -- A total nobody can type over: copies are entered; the total is shown and takes no value, and Continue is lit; what is shown then is the value
-abbrev total-sheet : List String
-total-sheet =
+abbrev total_sheet : List String
+total_sheet =
     "   0   3           0           0           0" ∷
     "   1  41           0           0           0" ∷
     "   2  23           0           0           0" ∷
@@ -63,16 +63,16 @@ total-sheet =
     "   9  43           1           8           0" ∷
     []
 
-abbrev total-touches : List String
-total-touches =
+abbrev total_touches : List String
+total_touches =
     " 1               0 1           3           0           0           0           0           0           0           0" ∷
     " 1               0 1           1           0           0           0           0           0           0           0" ∷
     " 1               0 2           0           0           0           0           0           0           0           0" ∷
     " 1               0 1           1           0           0           0           0           0           0           0" ∷
     []
 
-abbrev total-screens : List String
-total-screens =
+abbrev total_screens : List String
+total_screens =
     "   0   1 0 0           0           0           0           0           0           0           0           0   1" ∷
     "               0 1 3 0 0 0 0 0 0 0" ∷
     "   0   2 0 0           0           0           0           0           0           0           0           0   1" ∷
@@ -83,10 +83,10 @@ total-screens =
     "   9   0 0 1          87           0           0           0           0           0           0           0   0" ∷
     []
 
-all-agree : agree (
-    (quiet-both-sheet, quiet-both-touches, quiet-both-screens) ∷
-    (quiet-next-sheet, quiet-next-touches, quiet-next-screens) ∷
-    (total-sheet, total-touches, total-screens) ∷
+all_agree : agree (
+    (quiet_both_sheet, quiet_both_touches, quiet_both_screens) ∷
+    (quiet_next_sheet, quiet_next_touches, quiet_next_screens) ∷
+    (total_sheet, total_touches, total_screens) ∷
     []) ≡ true
 unfolding agree
-all-agree = refl
+all_agree = refl

@@ -7,8 +7,8 @@ use Prim.Native.String.{String}
 use Rattle.screens.proofs.Sessions.{agree}
 
 -- cell 0; pair, sum and both are evaluated left to right, and and/or on both sides
-abbrev order-sheet : List String
-order-sheet =
+abbrev order_sheet : List String
+order_sheet =
     "   0   3           0           0           0" ∷
     "   1  10           0           0           0" ∷
     "   2  22           1           0           0" ∷
@@ -38,8 +38,8 @@ order-sheet =
     "  26  46           8          25           0" ∷
     []
 
-abbrev order-screens : List String
-order-screens =
+abbrev order_screens : List String
+order_screens =
     "   0   1 0 1           5           1           7           0           3           0           0           0   3" ∷
     "               1 1 3 3 0 0 0 0 0 0" ∷
     "              21 1 3 0 0 0 0 0 0 0" ∷
@@ -47,8 +47,8 @@ order-screens =
     []
 
 -- cell 0; a condition and a binding carry the store; the side not taken writes nothing
-abbrev stores-sheet : List String
-stores-sheet =
+abbrev stores_sheet : List String
+stores_sheet =
     "   0   3           0           0           0" ∷
     "   1  10           0           0           0" ∷
     "   2  22           1           0           0" ∷
@@ -67,16 +67,16 @@ stores-sheet =
     "  15  46          12          14           0" ∷
     []
 
-abbrev stores-screens : List String
-stores-screens =
+abbrev stores_screens : List String
+stores_screens =
     "   0   1 0 1           1           1           0           0           0           0           0           0   2" ∷
     "               1 1 3 0 0 0 0 0 0 0" ∷
     "               2 1 3 0 0 0 0 0 0 0" ∷
     []
 
 -- cells 0 and 0; a write goes into the store that its B left: 7 and 5
-abbrev write-after-sheet : List String
-write-after-sheet =
+abbrev write_after_sheet : List String
+write_after_sheet =
     "   0   3           0           0           0" ∷
     "   1  10           0           0           0" ∷
     "   2  10           0           0           0" ∷
@@ -92,15 +92,15 @@ write-after-sheet =
     "  12  40          11           0           0" ∷
     []
 
-abbrev write-after-screens : List String
-write-after-screens =
+abbrev write_after_screens : List String
+write_after_screens =
     "   0   1 0 1           7           5           0           0           0           0           0           0   1" ∷
     "               0 1 3 3 0 0 0 0 0 0" ∷
     []
 
 -- cell 0; Continue keeps what B wrote
-abbrev continue-writes-sheet : List String
-continue-writes-sheet =
+abbrev continue_writes_sheet : List String
+continue_writes_sheet =
     "   0   3           0           0           0" ∷
     "   1  10           0           0           0" ∷
     "   2  22           6           0           0" ∷
@@ -112,13 +112,13 @@ continue-writes-sheet =
     "   8  44           3           7           0" ∷
     []
 
-abbrev continue-writes-touches : List String
-continue-writes-touches =
+abbrev continue_writes_touches : List String
+continue_writes_touches =
     " 1               0 2           0           0           0           0           0           0           0           0" ∷
     []
 
-abbrev continue-writes-screens : List String
-continue-writes-screens =
+abbrev continue_writes_screens : List String
+continue_writes_screens =
     "   0   1 0 0           0           0           0           0           0           0           0           0   2" ∷
     "               0 1 3 0 0 0 0 0 0 0" ∷
     "               0 2 0 0 0 0 0 0 0 0" ∷
@@ -127,8 +127,8 @@ continue-writes-screens =
     []
 
 -- cell 0; the left of a 47 has a value, so the right is not strided and writes nothing
-abbrev c47-left-sheet : List String
-c47-left-sheet =
+abbrev c47_left_sheet : List String
+c47_left_sheet =
     "   0   3           0           0           0" ∷
     "   1  10           0           0           0" ∷
     "   2  22           1           0           0" ∷
@@ -146,16 +146,16 @@ c47-left-sheet =
     "  14  46          12          13           0" ∷
     []
 
-abbrev c47-left-screens : List String
-c47-left-screens =
+abbrev c47_left_screens : List String
+c47_left_screens =
     "   0   2 0 1           1           0           0           0           0           0           0           0   2" ∷
     "               1 1 3 0 0 0 0 0 0 0" ∷
     "               2 1 3 0 0 0 0 0 0 0" ∷
     []
 
 -- cell 0; the right of a 46 strides from the left one's store: value (2, 1)
-abbrev c46-store-sheet : List String
-c46-store-sheet =
+abbrev c46_store_sheet : List String
+c46_store_sheet =
     "   0   3           0           0           0" ∷
     "   1  10           0           0           0" ∷
     "   2  22           1           0           0" ∷
@@ -173,16 +173,16 @@ c46-store-sheet =
     "  14  46           9          13           0" ∷
     []
 
-abbrev c46-store-screens : List String
-c46-store-screens =
+abbrev c46_store_screens : List String
+c46_store_screens =
     "   0   2 0 1           2           1           0           0           0           0           0           0   2" ∷
     "               1 1 3 0 0 0 0 0 0 0" ∷
     "               2 1 3 0 0 0 0 0 0 0" ∷
     []
 
 -- cell 0; whether B fails is asked in the store that B left
-abbrev fails-after-sheet : List String
-fails-after-sheet =
+abbrev fails_after_sheet : List String
+fails_after_sheet =
     "   0   3           0           0           0" ∷
     "   1  10           0           0           0" ∷
     "   2  22           1           0           0" ∷
@@ -204,15 +204,15 @@ fails-after-sheet =
     "  18  43           3          17           0" ∷
     []
 
-abbrev fails-after-screens : List String
-fails-after-screens =
+abbrev fails_after_screens : List String
+fails_after_screens =
     "   0   2 0 0           0           0           0           0           0           0           0           0   1" ∷
     "               0 3 0 0 0 0 0 0 0 0" ∷
     []
 
 -- cell 0; both branches of a 48 start from the present store: Right alone, and not failing
-abbrev c48-store-sheet : List String
-c48-store-sheet =
+abbrev c48_store_sheet : List String
+c48_store_sheet =
     "   0   3           0           0           0" ∷
     "   1  10           0           0           0" ∷
     "   2  22           1           0           0" ∷
@@ -231,13 +231,13 @@ c48-store-sheet =
     "  15  48           6          14           0" ∷
     []
 
-abbrev c48-store-touches : List String
-c48-store-touches =
+abbrev c48_store_touches : List String
+c48_store_touches =
     " 1               0 4           0           0           0           0           0           0           0           0" ∷
     []
 
-abbrev c48-store-screens : List String
-c48-store-screens =
+abbrev c48_store_screens : List String
+c48_store_screens =
     "   0   1 0 0           0           0           0           0           0           0           0           0   1" ∷
     "               0 4 0 0 0 0 0 0 0 0" ∷
     "   0   1 0 1           2           0           0           0           0           0           0           0   1" ∷
@@ -245,8 +245,8 @@ c48-store-screens =
     []
 
 -- cell 0; whether a branch fails is asked in the store that normalising it left: Left is lit
-abbrev c48-after-sheet : List String
-c48-after-sheet =
+abbrev c48_after_sheet : List String
+c48_after_sheet =
     "   0   3           0           0           0" ∷
     "   1  10           0           0           0" ∷
     "   2  22           1           0           0" ∷
@@ -268,15 +268,15 @@ c48-after-sheet =
     "  18  48          15          17           0" ∷
     []
 
-abbrev c48-after-screens : List String
-c48-after-screens =
+abbrev c48_after_screens : List String
+c48_after_screens =
     "   0   1 0 0           0           0           0           0           0           0           0           0   1" ∷
     "               0 3 0 0 0 0 0 0 0 0" ∷
     []
 
 -- cell 0; the condition of a task carries its store
-abbrev c25-task-sheet : List String
-c25-task-sheet =
+abbrev c25_task_sheet : List String
+c25_task_sheet =
     "   0   3           0           0           0" ∷
     "   1  10           0           0           0" ∷
     "   2  22           1           0           0" ∷
@@ -290,23 +290,23 @@ c25-task-sheet =
     "  10  25           5           7           9" ∷
     []
 
-abbrev c25-task-screens : List String
-c25-task-screens =
+abbrev c25_task_screens : List String
+c25_task_screens =
     "   0   1 0 1           1           0           0           0           0           0           0           0   1" ∷
     "               0 1 3 0 0 0 0 0 0 0" ∷
     []
 
-all-agree : agree (
-    (order-sheet, [], order-screens) ∷
-    (stores-sheet, [], stores-screens) ∷
-    (write-after-sheet, [], write-after-screens) ∷
-    (continue-writes-sheet, continue-writes-touches, continue-writes-screens) ∷
-    (c47-left-sheet, [], c47-left-screens) ∷
-    (c46-store-sheet, [], c46-store-screens) ∷
-    (fails-after-sheet, [], fails-after-screens) ∷
-    (c48-store-sheet, c48-store-touches, c48-store-screens) ∷
-    (c48-after-sheet, [], c48-after-screens) ∷
-    (c25-task-sheet, [], c25-task-screens) ∷
+all_agree : agree (
+    (order_sheet, [], order_screens) ∷
+    (stores_sheet, [], stores_screens) ∷
+    (write_after_sheet, [], write_after_screens) ∷
+    (continue_writes_sheet, continue_writes_touches, continue_writes_screens) ∷
+    (c47_left_sheet, [], c47_left_screens) ∷
+    (c46_store_sheet, [], c46_store_screens) ∷
+    (fails_after_sheet, [], fails_after_screens) ∷
+    (c48_store_sheet, c48_store_touches, c48_store_screens) ∷
+    (c48_after_sheet, [], c48_after_screens) ∷
+    (c25_task_sheet, [], c25_task_screens) ∷
     []) ≡ true
 unfolding agree
-all-agree = refl
+all_agree = refl

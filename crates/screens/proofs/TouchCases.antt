@@ -7,8 +7,8 @@ use Prim.Native.String.{String}
 use Rattle.screens.proofs.Sessions.{agree}
 
 -- a 47 takes a part that is a 50 with a value: 1 alone, with its touch
-abbrev c47-role-sheet : List String
-c47-role-sheet =
+abbrev c47_role_sheet : List String
+c47_role_sheet =
     "   0  22           1           0           0" ∷
     "   1  40           0           0           0" ∷
     "   2  50           1           1           1" ∷
@@ -17,14 +17,14 @@ c47-role-sheet =
     "   5  47           2           4           0" ∷
     []
 
-abbrev c47-role-touches : List String
-c47-role-touches =
+abbrev c47_role_touches : List String
+c47_role_touches =
     " 1               0 1           3           0           0           0           0           0           0           0" ∷
     " 1               0 1           4           0           0           0           0           0           0           0" ∷
     []
 
-abbrev c47-role-screens : List String
-c47-role-screens =
+abbrev c47_role_screens : List String
+c47_role_screens =
     "   0   2 0 1           1           0           0           0           0           0           0           0   1" ∷
     "               0 1 3 0 0 0 0 0 0 0" ∷
     "   0   1 0 1           3           0           0           0           0           0           0           0   0" ∷
@@ -32,8 +32,8 @@ c47-role-screens =
     []
 
 -- Left uses a touch: the next is 31
-abbrev sides-use-sheet : List String
-sides-use-sheet =
+abbrev sides_use_sheet : List String
+sides_use_sheet =
     "   0  22           1           0           0" ∷
     "   1  40           0           0           0" ∷
     "   2  22           2           0           0" ∷
@@ -42,14 +42,14 @@ sides-use-sheet =
     "   5  50           1           4           1" ∷
     []
 
-abbrev sides-use-touches : List String
-sides-use-touches =
+abbrev sides_use_touches : List String
+sides_use_touches =
     " 1               0 3           0           0           0           0           0           0           0           0" ∷
     " 1               0 1           9           0           0           0           0           0           0           0" ∷
     []
 
-abbrev sides-use-screens : List String
-sides-use-screens =
+abbrev sides_use_screens : List String
+sides_use_screens =
     "   0   1 0 0           0           0           0           0           0           0           0           0   2" ∷
     "               0 3 0 0 0 0 0 0 0 0" ∷
     "               0 4 0 0 0 0 0 0 0 0" ∷
@@ -58,8 +58,8 @@ sides-use-screens =
     []
 
 -- the same content uses a touch; a row not passed keeps its own
-abbrev same-content-sheet : List String
-same-content-sheet =
+abbrev same_content_sheet : List String
+same_content_sheet =
     "   0  22           5           0           0" ∷
     "   1  40           0           0           0" ∷
     "   2  50           1           1           1" ∷
@@ -69,15 +69,15 @@ same-content-sheet =
     "   6  46           2           5           0" ∷
     []
 
-abbrev same-content-touches : List String
-same-content-touches =
+abbrev same_content_touches : List String
+same_content_touches =
     " 1               1 1           5           0           0           0           0           0           0           0" ∷
     " 1               1 1           6           0           0           0           0           0           0           0" ∷
     " 1               2 1           7           0           0           0           0           0           0           0" ∷
     []
 
-abbrev same-content-screens : List String
-same-content-screens =
+abbrev same_content_screens : List String
+same_content_screens =
     "   0   1 0 0           0           0           0           0           0           0           0           0   2" ∷
     "               1 1 3 0 0 0 0 0 0 0" ∷
     "               2 1 3 0 0 0 0 0 0 0" ∷
@@ -89,8 +89,8 @@ same-content-screens =
     []
 
 -- Continue to a 50 of a fail is 9
-abbrev role-fails-2-sheet : List String
-role-fails-2-sheet =
+abbrev role_fails_2_sheet : List String
+role_fails_2_sheet =
     "   0  22           1           0           0" ∷
     "   1  40           0           0           0" ∷
     "   2   3           0           0           0" ∷
@@ -99,13 +99,13 @@ role-fails-2-sheet =
     "   5  44           1           4           0" ∷
     []
 
-abbrev role-fails-2-touches : List String
-role-fails-2-touches =
+abbrev role_fails_2_touches : List String
+role_fails_2_touches =
     " 1               0 2           0           0           0           0           0           0           0           0" ∷
     []
 
-abbrev role-fails-2-screens : List String
-role-fails-2-screens =
+abbrev role_fails_2_screens : List String
+role_fails_2_screens =
     "   0   1 0 0           0           0           0           0           0           0           0           0   1" ∷
     "               0 1 3 0 0 0 0 0 0 0" ∷
     "   9   0 0 0           0           0           0           0           0           0           0           0   1" ∷
@@ -113,8 +113,8 @@ role-fails-2-screens =
     []
 
 -- 50 with its last touch used strides on: 2
-abbrev spent-strides-sheet : List String
-spent-strides-sheet =
+abbrev spent_strides_sheet : List String
+spent_strides_sheet =
     "   0   3           0           0           0" ∷
     "   1  41           0           0           0" ∷
     "   2  23           0           0           0" ∷
@@ -129,14 +129,14 @@ spent-strides-sheet =
     "  11  50           1          10           1" ∷
     []
 
-abbrev spent-strides-touches : List String
-spent-strides-touches =
+abbrev spent_strides_touches : List String
+spent_strides_touches =
     " 1               0 1           4           0           0           0           0           0           0           0" ∷
     " 1               0 1           5           0           0           0           0           0           0           0" ∷
     []
 
-abbrev spent-strides-screens : List String
-spent-strides-screens =
+abbrev spent_strides_screens : List String
+spent_strides_screens =
     "   0   1 0 0           0           0           0           0           0           0           0           0   1" ∷
     "               0 1 3 0 0 0 0 0 0 0" ∷
     "   0   2 0 1           4           0           0           0           0           0           0           0   0" ∷
@@ -144,22 +144,22 @@ spent-strides-screens =
     []
 
 -- touches of the outer row too: 31
-abbrev innermost-sheet : List String
-innermost-sheet =
+abbrev innermost_sheet : List String
+innermost_sheet =
     "   0  22           1           0           0" ∷
     "   1  40           0           0           0" ∷
     "   2  50           1           1           2" ∷
     "   3  50           1           2           1" ∷
     []
 
-abbrev innermost-touches : List String
-innermost-touches =
+abbrev innermost_touches : List String
+innermost_touches =
     " 1               0 1           2           0           0           0           0           0           0           0" ∷
     " 1               0 1           3           0           0           0           0           0           0           0" ∷
     []
 
-abbrev innermost-screens : List String
-innermost-screens =
+abbrev innermost_screens : List String
+innermost_screens =
     "   0   1 0 1           1           0           0           0           0           0           0           0   1" ∷
     "               0 1 3 0 0 0 0 0 0 0" ∷
     "   0   1 0 1           2           0           0           0           0           0           0           0   0" ∷
@@ -167,8 +167,8 @@ innermost-screens =
     []
 
 -- 17 rows of kind 50 around a row: neither marks nor binders
-abbrev seventeen-50-sheet : List String
-seventeen-50-sheet =
+abbrev seventeen_50_sheet : List String
+seventeen_50_sheet =
     "   0   3           0           0           0" ∷
     "   1  41           0           0           0" ∷
     "   2  50           1           1          99" ∷
@@ -190,20 +190,20 @@ seventeen-50-sheet =
     "  18  50           1          17          99" ∷
     []
 
-abbrev seventeen-50-screens : List String
-seventeen-50-screens =
+abbrev seventeen_50_screens : List String
+seventeen_50_screens =
     "   0   1 0 0           0           0           0           0           0           0           0           0   1" ∷
     "               0 1 3 0 0 0 0 0 0 0" ∷
     []
 
-all-agree : agree (
-    (c47-role-sheet, c47-role-touches, c47-role-screens) ∷
-    (sides-use-sheet, sides-use-touches, sides-use-screens) ∷
-    (same-content-sheet, same-content-touches, same-content-screens) ∷
-    (role-fails-2-sheet, role-fails-2-touches, role-fails-2-screens) ∷
-    (spent-strides-sheet, spent-strides-touches, spent-strides-screens) ∷
-    (innermost-sheet, innermost-touches, innermost-screens) ∷
-    (seventeen-50-sheet, [], seventeen-50-screens) ∷
+all_agree : agree (
+    (c47_role_sheet, c47_role_touches, c47_role_screens) ∷
+    (sides_use_sheet, sides_use_touches, sides_use_screens) ∷
+    (same_content_sheet, same_content_touches, same_content_screens) ∷
+    (role_fails_2_sheet, role_fails_2_touches, role_fails_2_screens) ∷
+    (spent_strides_sheet, spent_strides_touches, spent_strides_screens) ∷
+    (innermost_sheet, innermost_touches, innermost_screens) ∷
+    (seventeen_50_sheet, [], seventeen_50_screens) ∷
     []) ≡ true
 unfolding agree
-all-agree = refl
+all_agree = refl

@@ -7,27 +7,27 @@ use Prim.Native.Nat.{◌*◌}
 use Prim.Native.String.{String}
 use lib.IntN.{pos}
 use lib.ListN.{replicate}
-use Rattle.tophat.specs.Syntax.{maxLeaves}
-use Rattle.shape.specs.Digits.{maxDigits}
-use Rattle.formats.specs.Touches.{eventBytes, entryBytes}
-use Rattle.formats.specs.Heads.{headBytes}
-use Rattle.state.specs.Layout.{stateWords}
-use Rattle.state.specs.Holds.{valueLength}
-use Rattle.screens.specs.Screens.{screenBytes}
+use Rattle.tophat.specs.Syntax.{max_leaves}
+use Rattle.shape.specs.Digits.{max_digits}
+use Rattle.formats.specs.Touches.{event_bytes, entry_bytes}
+use Rattle.formats.specs.Heads.{head_bytes}
+use Rattle.state.specs.Layout.{state_words}
+use Rattle.state.specs.Holds.{value_length}
+use Rattle.screens.specs.Screens.{screen_bytes}
 use Rattle.screens.proofs.Sessions.{started, agree}
 
 -- ---- the figures
 
 -- "Values are 8 words, .. entries 35, head lines 112 and byte 10. State memory keeps 16 words a row." CR 6: events "are 117 bytes". What follows
 -- from them: a value has a word more in a state, for its shape, whose digits are at most 15; and a screen is a head line and at most 256 entries
-figures : (maxLeaves ∷ eventBytes ∷ entryBytes ∷ headBytes ∷ stateWords ∷ valueLength ∷ maxDigits ∷ screenBytes ∷ [])
+figures : (max_leaves ∷ event_bytes ∷ entry_bytes ∷ head_bytes ∷ state_words ∷ value_length ∷ max_digits ∷ screen_bytes ∷ [])
     ≡ (8 ∷ 117 ∷ 35 ∷ 113 ∷ 16 ∷ 9 ∷ 15 ∷ 9073 ∷ [])
 figures = refl
 
 -- ---- an editor of 8 leaves of all kinds, then one with its halves exchanged. Leaf 8 left blank is refused, and so is a unit that is not 0; all
 -- 8 are taken, and the step passes them on; then leaf 8 alone is changed; then an event of four leaves, 69 bytes, cannot be read
-abbrev eight-sheet : List String
-eight-sheet =
+abbrev eight_sheet : List String
+eight_sheet =
     "   0   1                                    " ∷
     "   1   2                                    " ∷
     "   2   3                                    " ∷
@@ -45,8 +45,8 @@ eight-sheet =
     "  14  43           7          13            " ∷
     []
 
-abbrev eight-touches : List String
-eight-touches =
+abbrev eight_touches : List String
+eight_touches =
     " 1               0 1          11           1           0          14          15           0           0            " ∷
     " 1               0 1          11           1           0          14          15           0           5          18" ∷
     " 1               0 1          11           1           0          14          15           0           0         -18" ∷
@@ -54,8 +54,8 @@ eight-touches =
     " 1               0 1           0           0           0           0" ∷
     []
 
-abbrev eight-screens : List String
-eight-screens =
+abbrev eight_screens : List String
+eight_screens =
     "   0   1 0 0           0           0           0           0           0           0           0           0   1" ∷
     "               0 1 3 2 1 3 3 2 1 3" ∷
     "   9   0 0 0           0           0           0           0           0           0           0           0   1" ∷
@@ -72,8 +72,8 @@ eight-screens =
 
 -- ---- a proof order: format, paper, copies, border and three casts, then Continue to the price of the copies, shown. Leaf 8 is no leaf of the order:
 -- 1 is refused, a blank is as 0; at Continue, 7 there cannot be read
-abbrev order-sheet : List String
-order-sheet =
+abbrev order_sheet : List String
+order_sheet =
     "   0   2                                    " ∷
     "   1   3                                    " ∷
     "   2   4           1           1            " ∷
@@ -91,16 +91,16 @@ order-sheet =
     "  14  44           6          13            " ∷
     []
 
-abbrev order-touches : List String
-order-touches =
+abbrev order_touches : List String
+order_touches =
     " 1               0 1           2           1           3           1           4           5           6           1" ∷
     " 1               0 1           2           1           3           1           4           5           6            " ∷
     " 1               0 2           0           0           0           0           0           0           0           7" ∷
     " 1               0 2           0           0           0           0           0           0           0           0" ∷
     []
 
-abbrev order-screens : List String
-order-screens =
+abbrev order_screens : List String
+order_screens =
     "   0   1 0 0           0           0           0           0           0           0           0           0   1" ∷
     "               0 1 3 3 3 2 3 3 3 0" ∷
     "   9   0 0 0           0           0           0           0           0           0           0           0   1" ∷
@@ -117,8 +117,8 @@ order-screens =
 -- ---- a value of four leaves, and the words of its state, which are those that it had before CR 4: in the last row tag 1, the shape of
 -- ((number, truth), (unit, number)) and the leaves
 
-abbrev four-sheet : List String
-four-sheet =
+abbrev four_sheet : List String
+four_sheet =
     "   0  22          11                        " ∷
     "   1  21           1                        " ∷
     "   2  20                                    " ∷
@@ -129,13 +129,13 @@ four-sheet =
     "   7  40           6                        " ∷
     []
 
-four-words : started four-sheet ≡ replicate (7 * stateWords) (pos 0) ++ pos 1 ∷ pos 13488 ∷ pos 11 ∷ pos 1 ∷ pos 0 ∷ pos 14 ∷ replicate 10 (pos 0)
+four_words : started four_sheet ≡ replicate (7 * state_words) (pos 0) ++ pos 1 ∷ pos 13488 ∷ pos 11 ∷ pos 1 ∷ pos 0 ∷ pos 14 ∷ replicate 10 (pos 0)
 unfolding started
-four-words = refl
+four_words = refl
 
-all-agree : agree (
-    (eight-sheet, eight-touches, eight-screens) ∷
-    (order-sheet, order-touches, order-screens) ∷
+all_agree : agree (
+    (eight_sheet, eight_touches, eight_screens) ∷
+    (order_sheet, order_touches, order_screens) ∷
     []) ≡ true
 unfolding agree
-all-agree = refl
+all_agree = refl

@@ -3,8 +3,8 @@ ghost use Rattle.std.specs.Prelude.{◌≡◌, ◌≤◌};
 ghost use Rattle.std.specs.Int.{w32};
 ghost use Rattle.std.proofs.Common.{to_z};
 ghost use Rattle.decimal.specs.Field.{number};
-ghost use Rattle.rows.specs.Rows.{maxRows};
-ghost use Rattle.screens.specs.Counts.{countSaid, countIn};
+ghost use Rattle.rows.specs.Rows.{max_rows};
+ghost use Rattle.screens.specs.Counts.{count_said, count_in};
 
 use decimal::field;
 use decimal::field::{NEWLINE, ROW_COLUMNS, Reading};
@@ -15,7 +15,7 @@ pub const COUNT_BYTES: usize = ROW_COLUMNS + 1;
 
 // The number of rows that the bits say, 0 where they are not 1 to 256.
 fn few(bits: u32) -> usize
-    ensures { result ≡ countSaid (number (to_z w32 bits)) }
+    ensures { result ≡ count_said (number (to_z w32 bits)) }
 {
     let n = bits as usize;
     if MAX_ROWS < n {
@@ -26,8 +26,8 @@ fn few(bits: u32) -> usize
 
 // The row count that the bytes say: 1 to 256, and 0 where they say none.
 pub fn read(s: &[u8]) -> usize
-    ensures value { result ≡ countIn s.now }
-    ensures upper_bound { result ≤ maxRows }
+    ensures value { result ≡ count_in s.now }
+    ensures upper_bound { result ≤ max_rows }
 {
     if s.len() != COUNT_BYTES {
         return 0;

@@ -2,8 +2,8 @@
 ghost use Rattle.std.specs.Prelude.{◌≡◌, set};
 ghost use Rattle.decimal.specs.Field.{newline};
 ghost use Rattle.formats.specs.Records.{total};
-ghost use Rattle.formats.specs.Heads.{headColumns};
-ghost use Rattle.screens.specs.Heads.{headOver};
+ghost use Rattle.formats.specs.Heads.{head_columns};
+ghost use Rattle.screens.specs.Heads.{head_over};
 
 use decimal::field;
 use decimal::field::{ACTION_COLUMNS, NEWLINE, ROW_COLUMNS, WORD_COLUMNS};
@@ -26,7 +26,7 @@ const END_AT: usize = HEAD_BYTES - 1;
 
 // Byte 10 at the line's end, where there is room for it.
 fn write_end(s: &mut [u8])
-    ensures { s.new ≡ set s.old (total headColumns) newline }
+    ensures { s.new ≡ set s.old (total head_columns) newline }
 {
     if END_AT < s.len() {
         s[END_AT] = NEWLINE;
@@ -35,7 +35,7 @@ fn write_end(s: &mut [u8])
 
 // Writes a head line over the front of the bytes.
 pub fn write(s: &mut [u8], h: Head)
-    ensures { s.new ≡ headOver s.old h }
+    ensures { s.new ≡ head_over s.old h }
 {
     field::write(s, 0, ROW_COLUMNS, h.answer);
     field::write(s, ROW_COLUMNS, ROW_COLUMNS, h.strides);

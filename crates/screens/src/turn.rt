@@ -1,7 +1,7 @@
 // The screens of a sheet and of an event (01, "A session in full"). Rests on the calls of crates sheet and flow.
 ghost use Rattle.std.specs.Prelude.{◌≡◌, false, ◌<◌, length};
-ghost use Rattle.screens.specs.Heads.{fourDigits};
-ghost use Rattle.screens.specs.Screens.{screenBytes, Drawn, Beginning, refusedScreen, roleOf, loadedCounted, shownAfter, begins, touched};
+ghost use Rattle.screens.specs.Heads.{four_digits};
+ghost use Rattle.screens.specs.Screens.{screen_bytes, Drawn, Beginning, refused_screen, role_of, loaded_counted, shown_after, begins, touched};
 
 use super::head;
 use super::head::Head;
@@ -30,7 +30,7 @@ pub struct Begun {
 
 // The role that is looked in after an event.
 fn role_of(event: &[u8]) -> u32
-    ensures { result ≡ roleOf event.now }
+    ensures { result ≡ role_of event.now }
 {
     if event.len() != EVENT_BYTES {
         return START_ROLE;
@@ -44,8 +44,8 @@ fn role_of(event: &[u8]) -> u32
 
 // The screen after an answer, in a role: its head line, and the entries after it.
 fn show(rows: &[i32], state: &[i32], role: u32, answer: u32, strides: u32, out: &mut [u8]) -> usize
-    requires { (length out.old ≡ screenBytes) × (answer < fourDigits) × (strides < fourDigits) }
-    ensures { Drawn (shownAfter rows.now state.now role answer strides out.old) result out.new }
+    requires { (length out.old ≡ screen_bytes) × (answer < four_digits) × (strides < four_digits) }
+    ensures { Drawn (shown_after rows.now state.now role answer strides out.old) result out.new }
 {
     let mut value = [0i32; MAX_LEAVES];
     let seen = fill(rows, state, role, &mut value, &mut out[HEAD_BYTES..]);
@@ -66,8 +66,8 @@ fn show(rows: &[i32], state: &[i32], role: u32, answer: u32, strides: u32, out: 
 
 // The one line of a sheet that is refused.
 fn refuse(number: u32, out: &mut [u8; SCREEN_BYTES]) -> Begun
-    requires { number < fourDigits }
-    ensures { (result.started ≡ false) × Drawn (refusedScreen number out.old) result.bytes out.new }
+    requires { number < four_digits }
+    ensures { (result.started ≡ false) × Drawn (refused_screen number out.old) result.bytes out.new }
 {
     let h = Head {
         answer: number,
@@ -86,8 +86,8 @@ fn refuse(number: u32, out: &mut [u8; SCREEN_BYTES]) -> Begun
 
 // Loads a sheet of n counted lines; a count that is not met is ground 1.
 fn load_counted(n: usize, text: &[u8], rows: &mut [i32]) -> u32
-    ensures value { result ≡ (loadedCounted n text.now rows.old).0 }
-    ensures rows_after { rows.new ≡ (loadedCounted n text.now rows.old).1 }
+    ensures value { result ≡ (loaded_counted n text.now rows.old).0 }
+    ensures rows_after { rows.new ≡ (loaded_counted n text.now rows.old).1 }
 {
     if text.len() % LINE_BYTES != 0 {
         return NOT_SIZED;

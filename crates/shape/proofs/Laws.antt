@@ -6,13 +6,13 @@ use native.Mathlib.Nat.{mod-eq_of_lt, div-eq_of_lt, add-mul-div_left, add-mul-mo
 use native.Mathlib.Numerals.{sub-one}
 use native.Mathlib.Omega.{arith}
 use borrow.Author.Tests.{eq-eqb, ne_eqb}
-use Rattle.tophat.specs.Syntax.{maxLeaves, Ty, unit, truth, number, pair, leaves}
-use Rattle.tophat.proofs.ComputeTyping.{firstTo, secondTo}
-use Rattle.tophat.proofs.TypingAgrees.{type-to}
-use Rattle.shape.specs.Shape.{put, asShape, maybeShape, asType, pairShape, firstShape, secondShape, leavesIn, shapeLeaves}
-use Rattle.shape.specs.Digits.{maxDigits, count, width}
-use Rattle.shape.proofs.Puts.{leaves-pos, put-split, shape-pair, shape-range, too-big, as-type}
-use Rattle.shape.proofs.Counts.{count-first, by-type, leaves-is, leaves-not, of-leaves}
+use Rattle.tophat.specs.Syntax.{max_leaves, Ty, unit, truth, number, pair, leaves}
+use Rattle.tophat.proofs.ComputeTyping.{first_to, second_to}
+use Rattle.tophat.proofs.TypingAgrees.{type_to_lem}
+use Rattle.shape.specs.Shape.{put, as_shape, maybe_shape, as_type, pair_shape, first_shape, second_shape, leaves_in, shape_leaves}
+use Rattle.shape.specs.Digits.{max_digits, count, width}
+use Rattle.shape.proofs.Puts.{leaves_pos, put_split, shape_pair, shape_range, too_big, as_type_lem}
+use Rattle.shape.proofs.Counts.{count_first, by_type, leaves_is, leaves_not, of_leaves}
 
 -- ---- count_leaves
 
@@ -25,19 +25,19 @@ module _ (d k c : ℕ) where
       go zero = refl
       go (suc d) = refl
 
-  pub count-short : (k ≡ 0 → ⊥) → d ≡ 0 → maxLeaves + 1 ≡ count d k c
+  pub count_short : (k ≡ 0 → ⊥) → d ≡ 0 → max_leaves + 1 ≡ count d k c
   unfolding count
-  count-short z e = sym (subst (λ d. count d k c ≡ maxLeaves + 1) (sym e) (rw (ne_eqb k 0 z)))
+  count_short z e = sym (subst (λ d. count d k c ≡ max_leaves + 1) (sym e) (rw (ne_eqb k 0 z)))
 
-pub count-pair : (d k c r : ℕ) → (k ≡ 0 → ⊥) → (d ≡ 0 → ⊥) → c % 4 ≡ 0 → r ≡ count (d - 1) (k + 1) (c / 4) → r ≡ count d k c
+pub count_pair : (d k c r : ℕ) → (k ≡ 0 → ⊥) → (d ≡ 0 → ⊥) → c % 4 ≡ 0 → r ≡ count (d - 1) (k + 1) (c / 4) → r ≡ count d k c
 unfolding count
-count-pair zero k c r z y x e = absurd (y refl)
-count-pair (suc d) k c r z y x e = e ∙ sym (rw (ne_eqb k 0 z, eq-eqb (c % 4) 0 x, sub-one))
+count_pair zero k c r z y x e = absurd (y refl)
+count_pair (suc d) k c r z y x e = e ∙ sym (rw (ne_eqb k 0 z, eq-eqb (c % 4) 0 x, sub-one))
 
-pub count-leaf : (d k c r : ℕ) → (k ≡ 0 → ⊥) → (d ≡ 0 → ⊥) → (c % 4 ≡ 0 → ⊥) → r ≡ count (d - 1) (k - 1) (c / 4) → 1 + r ≡ count d k c
+pub count_leaf : (d k c r : ℕ) → (k ≡ 0 → ⊥) → (d ≡ 0 → ⊥) → (c % 4 ≡ 0 → ⊥) → r ≡ count (d - 1) (k - 1) (c / 4) → 1 + r ≡ count d k c
 unfolding count
-count-leaf zero k c r z y x e = absurd (y refl)
-count-leaf (suc d) k c r z y x e = let w : suc d - 1 ≡ d = omega arith in ap (λ r. 1 + r) e ∙ sym (rw (ne_eqb k 0 z, ne_eqb (c % 4) 0 x, w))
+count_leaf zero k c r z y x e = absurd (y refl)
+count_leaf (suc d) k c r z y x e = let w : suc d - 1 ≡ d = omega arith in ap (λ r. 1 + r) e ∙ sym (rw (ne_eqb k 0 z, ne_eqb (c % 4) 0 x, w))
 
 -- ---- width_of
 
@@ -47,138 +47,138 @@ width_one zero h = refl
 width_one (suc zero) h = refl
 width_one (suc (suc n)) h = absurd (omega arith)
 
-pub width-more : (n r : ℕ) → 2 ≤ n → r ≡ width (n - 1) → 16 * r ≡ width n
+pub width_more : (n r : ℕ) → 2 ≤ n → r ≡ width (n - 1) → 16 * r ≡ width n
 unfolding width
-width-more zero r h e = absurd (omega arith)
-width-more (suc zero) r h e = absurd (omega arith)
-width-more (suc (suc n)) r h e = let z : suc (suc n) - 1 ≡ suc n = omega arith in ap (λ x. 16 * x) (e ∙ ap width z)
+width_more zero r h e = absurd (omega arith)
+width_more (suc zero) r h e = absurd (omega arith)
+width_more (suc (suc n)) r h e = let z : suc (suc n) - 1 ≡ suc n = omega arith in ap (λ x. 16 * x) (e ∙ ap width z)
 
-width-next : (n : ℕ) → width n ≤ width (suc n)
+width_next : (n : ℕ) → width n ≤ width (suc n)
 unfolding width
-width-next zero = omega arith
-width-next (suc n) = omega arith
+width_next zero = omega arith
+width_next (suc n) = omega arith
 
-width-grows : (n k : ℕ) → width n ≤ width (n + k)
-width-grows n zero = let e : n + zero ≡ n = omega arith in omega (arith, ap width e)
-width-grows n (suc k) = let e : n + suc k ≡ suc (n + k) = omega arith in omega (arith, ap width e, width-grows n k, width-next (n + k))
+width_grows : (n k : ℕ) → width n ≤ width (n + k)
+width_grows n zero = let e : n + zero ≡ n = omega arith in omega (arith, ap width e)
+width_grows n (suc k) = let e : n + suc k ≡ suc (n + k) = omega arith in omega (arith, ap width e, width_grows n k, width_next (n + k))
 
 -- a width of at most maxLeaves leaves is the greatest at most
-pub width-most : (n : ℕ) → n ≤ maxLeaves → width n ≤ width maxLeaves
-width-most n h = let e : n + (maxLeaves - n) ≡ maxLeaves = omega arith in omega (arith, ap width e, width-grows n (maxLeaves - n))
+pub width_most : (n : ℕ) → n ≤ max_leaves → width n ≤ width max_leaves
+width_most n h = let e : n + (max_leaves - n) ≡ max_leaves = omega arith in omega (arith, ap width e, width_grows n (max_leaves - n))
 
-pub width_fits : (n : ℕ) → n ≤ maxLeaves → width n < 2 ^ 32
+pub width_fits : (n : ℕ) → n ≤ max_leaves → width n < 2 ^ 32
 unfolding width
-width_fits n h = let e : width maxLeaves < 2 ^ 32 = omega arith in omega (arith, width-most n h)
+width_fits n h = let e : width max_leaves < 2 ^ 32 = omega arith in omega (arith, width_most n h)
 
 -- ---- leaves_of
 
-module _ (c n : ℕ) (e : n ≡ count maxDigits 1 c) where
-  pub leaves-yes : n ≤ maxLeaves → c < width n → n ≡ shapeLeaves c
-  leaves-yes h g = let w = ap width e in e ∙ sym (leaves-is c (omega arith) (omega arith))
+module _ (c n : ℕ) (e : n ≡ count max_digits 1 c) where
+  pub leaves_yes : n ≤ max_leaves → c < width n → n ≡ shape_leaves c
+  leaves_yes h g = let w = ap width e in e ∙ sym (leaves_is c (omega arith) (omega arith))
 
-  pub leaves-over : maxLeaves < n → 0 ≡ shapeLeaves c
-  leaves-over h = sym (leaves-not c (λ p q. omega arith))
+  pub leaves_over : max_leaves < n → 0 ≡ shape_leaves c
+  leaves_over h = sym (leaves_not c (λ p q. omega arith))
 
-  pub leaves-wide : width n ≤ c → 0 ≡ shapeLeaves c
-  leaves-wide h = let w = ap width e in sym (leaves-not c (λ p q. omega arith))
+  pub leaves_wide : width n ≤ c → 0 ≡ shape_leaves c
+  leaves_wide h = let w = ap width e in sym (leaves_not c (λ p q. omega arith))
 
 -- ---- pair_shape
 
 -- what a number with leaves, or without, is read as
-pub read_none : (c : ℕ) → shapeLeaves c ≡ 0 → asType c ≡ none
-unfolding shapeLeaves leavesIn
-read_none c = by-type c (λ o. leavesIn o ≡ 0 → o ≡ none) (λ h. refl) (λ τ e l h. absurd (omega (arith, leaves-pos τ)))
+pub read_none : (c : ℕ) → shape_leaves c ≡ 0 → as_type c ≡ none
+unfolding shape_leaves leaves_in
+read_none c = by_type c (λ o. leaves_in o ≡ 0 → o ≡ none) (λ h. refl) (λ τ e l h. absurd (omega (arith, leaves_pos τ)))
 
-pub read_some : (c : ℕ) → (shapeLeaves c ≡ 0 → ⊥) → (τ : Ty) × (c ≡ asShape τ) × (leaves τ ≤ maxLeaves) × (leaves τ ≡ shapeLeaves c) × (asType c ≡ some τ)
-read_some c h = let (τ, e, l, n) = of-leaves c h in (τ, e, l, n, ap asType e ∙ as-type τ l)
+pub read_some : (c : ℕ) → (shape_leaves c ≡ 0 → ⊥) → (τ : Ty) × (c ≡ as_shape τ) × (leaves τ ≤ max_leaves) × (leaves τ ≡ shape_leaves c) × (as_type c ≡ some τ)
+read_some c h = let (τ, e, l, n) = of_leaves c h in (τ, e, l, n, ap as_type e ∙ as_type_lem τ l)
 
 module _ (a b : ℕ) where
-  pub pair_left : shapeLeaves a ≡ 0 → 0 ≡ pairShape a b
-  unfolding pairShape bind maybeShape
+  pub pair_left : shape_leaves a ≡ 0 → 0 ≡ pair_shape a b
+  unfolding pair_shape bind maybe_shape
   pair_left h = let e = read_none a h in sym (rw e)
 
-  pub pair-right : shapeLeaves b ≡ 0 → 0 ≡ pairShape a b
-  unfolding pairShape bind maybeShape
-  pair-right h = let e = read_none b h in sym (rw e (go (asType a)))
+  pub pair_right : shape_leaves b ≡ 0 → 0 ≡ pair_shape a b
+  unfolding pair_shape bind maybe_shape
+  pair_right h = let e = read_none b h in sym (rw e (go (as_type a)))
     where
-      go : (o : Option Ty) → maybeShape (bind o λ τ. none) ≡ 0
+      go : (o : Option Ty) → maybe_shape (bind o λ τ. none) ≡ 0
       go none = refl
       go (some τ) = refl
 
-module _ (a b m n : ℕ) (h : m ≡ shapeLeaves a) (g : n ≡ shapeLeaves b) (y : m ≡ 0 → ⊥) (z : n ≡ 0 → ⊥) where
-  pub pair-over : maxLeaves < m + n → 0 ≡ pairShape a b
-  unfolding pairShape bind maybeShape leaves
-  pair-over l =
+module _ (a b m n : ℕ) (h : m ≡ shape_leaves a) (g : n ≡ shape_leaves b) (y : m ≡ 0 → ⊥) (z : n ≡ 0 → ⊥) where
+  pub pair_over : max_leaves < m + n → 0 ≡ pair_shape a b
+  unfolding pair_shape bind maybe_shape leaves
+  pair_over l =
       let (τ, p, _, k, q) = read_some a (λ e. y (h ∙ e)) in
       let (υ, r, _, j, s) = read_some b (λ e. z (g ∙ e)) in
-      let t = too-big (pair τ υ) (λ (u : leaves τ + leaves υ ≤ maxLeaves). omega arith) in
+      let t = too_big (pair τ υ) (λ (u : leaves τ + leaves υ ≤ max_leaves). omega arith) in
       sym (rw (q, s, t))
 
   -- it is the shape of the pair, and fits
-  pair_is : (w : ℕ) → w ≡ width m → m + n ≤ maxLeaves → (τ : Ty) × (leaves τ ≤ maxLeaves) × ((a + w * b) * 4 ≡ asShape τ) × (pairShape a b ≡ asShape τ)
-  unfolding pairShape bind maybeShape leaves
+  pair_is : (w : ℕ) → w ≡ width m → m + n ≤ max_leaves → (τ : Ty) × (leaves τ ≤ max_leaves) × ((a + w * b) * 4 ≡ as_shape τ) × (pair_shape a b ≡ as_shape τ)
+  unfolding pair_shape bind maybe_shape leaves
   pair_is w x l =
       let (τ, p, _, k, q) = read_some a (λ e. y (h ∙ e)) in
       let (υ, r, _, j, s) = read_some b (λ e. z (g ∙ e)) in
-      let t = type-to (pair τ υ) (omega arith) in
+      let t = type_to_lem (pair τ υ) (omega arith) in
       let v : w ≡ width (leaves τ) = x ∙ ap width (h ∙ sym k) in
-      let e : (a + w * b) * 4 ≡ (asShape τ + width (leaves τ) * asShape υ) * 4 = (λ i. (p i + v i * r i) * 4) in
-      (pair τ υ, omega arith, e ∙ sym (shape-pair τ υ), rw (q, s, t))
+      let e : (a + w * b) * 4 ≡ (as_shape τ + width (leaves τ) * as_shape υ) * 4 = (λ i. (p i + v i * r i) * 4) in
+      (pair τ υ, omega arith, e ∙ sym (shape_pair τ υ), rw (q, s, t))
 
-  pub pair-yes : (w : ℕ) → w ≡ width m → m + n ≤ maxLeaves → (a + w * b) * 4 ≡ pairShape a b
-  pair-yes w x l = let (τ, _, p, q) = pair_is w x l in p ∙ sym q
+  pub pair_yes : (w : ℕ) → w ≡ width m → m + n ≤ max_leaves → (a + w * b) * 4 ≡ pair_shape a b
+  pair_yes w x l = let (τ, _, p, q) = pair_is w x l in p ∙ sym q
 
-  pub pair_fits : (w : ℕ) → w ≡ width m → m + n ≤ maxLeaves → (a + w * b) * 4 < 2 ^ 32
-  pair_fits w x l = let (τ, k, p, q) = pair_is w x l in omega (arith, (shape-range τ).0, width_fits (leaves τ) k)
+  pub pair_fits : (w : ℕ) → w ≡ width m → m + n ≤ max_leaves → (a + w * b) * 4 < 2 ^ 32
+  pair_fits w x l = let (τ, k, p, q) = pair_is w x l in omega (arith, (shape_range τ).0, width_fits (leaves τ) k)
 
 -- ---- components
 
 -- a shape of two leaves or more is a pair's
-pair_of : (c : ℕ) → 2 ≤ shapeLeaves c → (τ : Ty) × (υ : Ty) × (leaves τ + leaves υ ≤ maxLeaves) × (c / 4 ≡ put τ (asShape υ)) × (asType c ≡ some (pair τ υ))
-unfolding asShape put leaves
+pair_of : (c : ℕ) → 2 ≤ shape_leaves c → (τ : Ty) × (υ : Ty) × (leaves τ + leaves υ ≤ max_leaves) × (c / 4 ≡ put τ (as_shape υ)) × (as_type c ≡ some (pair τ υ))
+unfolding as_shape put leaves
 pair_of c h = let (τ, e, l, n, q) = read_some c (λ z. omega arith) in go τ e l n q
   where
-    go : (τ : Ty) → c ≡ asShape τ → leaves τ ≤ maxLeaves → leaves τ ≡ shapeLeaves c → asType c ≡ some τ → (τ : Ty) × (υ : Ty) × (leaves τ + leaves υ ≤ maxLeaves) × (c / 4 ≡ put τ (asShape υ)) × (asType c ≡ some (pair τ υ))
+    go : (τ : Ty) → c ≡ as_shape τ → leaves τ ≤ max_leaves → leaves τ ≡ shape_leaves c → as_type c ≡ some τ → (τ : Ty) × (υ : Ty) × (leaves τ + leaves υ ≤ max_leaves) × (c / 4 ≡ put τ (as_shape υ)) × (as_type c ≡ some (pair τ υ))
     go unit e l n q = absurd (omega arith)
     go truth e l n q = absurd (omega arith)
     go number e l n q = absurd (omega arith)
     go (pair τ υ) e l n q = (τ, υ, l, ap (λ x. x / 4) e ∙ omega arith, q)
 
-pub first-leaves : (c : ℕ) → 2 ≤ shapeLeaves c → count maxDigits 1 (c / 4) ≤ maxLeaves
-first-leaves c h = let (τ, υ, l, e, _) = pair_of c h in let k = ap (count maxDigits 1) e ∙ count-first τ (asShape υ) (omega arith) in omega arith
+pub first_leaves : (c : ℕ) → 2 ≤ shape_leaves c → count max_digits 1 (c / 4) ≤ max_leaves
+first_leaves c h = let (τ, υ, l, e, _) = pair_of c h in let k = ap (count max_digits 1) e ∙ count_first τ (as_shape υ) (omega arith) in omega arith
 
-one-leaf : (f : Ty → Option Ty) → f unit ≡ none → f truth ≡ none → f number ≡ none → (c : ℕ) → shapeLeaves c < 2 → maybeShape (bind (asType c) f) ≡ 0
-unfolding shapeLeaves leavesIn bind maybeShape leaves
-one-leaf f x y z c = by-type c (λ o. leavesIn o < 2 → maybeShape (bind o f) ≡ 0) (λ h. refl) (λ τ e l h. go τ h)
+one_leaf : (f : Ty → Option Ty) → f unit ≡ none → f truth ≡ none → f number ≡ none → (c : ℕ) → shape_leaves c < 2 → maybe_shape (bind (as_type c) f) ≡ 0
+unfolding shape_leaves leaves_in bind maybe_shape leaves
+one_leaf f x y z c = by_type c (λ o. leaves_in o < 2 → maybe_shape (bind o f) ≡ 0) (λ h. refl) (λ τ e l h. go τ h)
   where
-    go : (τ : Ty) → leaves τ < 2 → maybeShape (f τ) ≡ 0
-    go unit h = ap maybeShape x
-    go truth h = ap maybeShape y
-    go number h = ap maybeShape z
-    go (pair τ υ) h = absurd (omega (arith, leaves-pos τ, leaves-pos υ))
+    go : (τ : Ty) → leaves τ < 2 → maybe_shape (f τ) ≡ 0
+    go unit h = ap maybe_shape x
+    go truth h = ap maybe_shape y
+    go number h = ap maybe_shape z
+    go (pair τ υ) h = absurd (omega (arith, leaves_pos τ, leaves_pos υ))
 
-pub first-no : (c : ℕ) → shapeLeaves c < 2 → 0 ≡ firstShape c
-unfolding firstShape firstTo
-first-no c h = sym (one-leaf firstTo refl refl refl c h)
+pub first_no : (c : ℕ) → shape_leaves c < 2 → 0 ≡ first_shape c
+unfolding first_shape first_to
+first_no c h = sym (one_leaf first_to refl refl refl c h)
 
-pub second-no : (c : ℕ) → shapeLeaves c < 2 → 0 ≡ secondShape c
-unfolding secondShape secondTo
-second-no c h = sym (one-leaf secondTo refl refl refl c h)
+pub second_no : (c : ℕ) → shape_leaves c < 2 → 0 ≡ second_shape c
+unfolding second_shape second_to
+second_no c h = sym (one_leaf second_to refl refl refl c h)
 
-module _ (c w : ℕ) (h : 2 ≤ shapeLeaves c) (e : w ≡ width (count maxDigits 1 (c / 4))) where
-  split : (τ : Ty) × (υ : Ty) × (c / 4 ≡ asShape τ + w * asShape υ) × (asShape τ < w) × (asType c ≡ some (pair τ υ))
+module _ (c w : ℕ) (h : 2 ≤ shape_leaves c) (e : w ≡ width (count max_digits 1 (c / 4))) where
+  split : (τ : Ty) × (υ : Ty) × (c / 4 ≡ as_shape τ + w * as_shape υ) × (as_shape τ < w) × (as_type c ≡ some (pair τ υ))
   split =
       let (τ, υ, l, p, q) = pair_of c h in
-      let k : w ≡ width (leaves τ) = e ∙ ap width (ap (count maxDigits 1) p ∙ count-first τ (asShape υ) (omega arith)) in
-      (τ, υ, p ∙ put-split τ (asShape υ) ∙ ap (λ x. asShape τ + x * asShape υ) (sym k), omega (arith, (shape-range τ).0), q)
+      let k : w ≡ width (leaves τ) = e ∙ ap width (ap (count max_digits 1) p ∙ count_first τ (as_shape υ) (omega arith)) in
+      (τ, υ, p ∙ put_split τ (as_shape υ) ∙ ap (λ x. as_shape τ + x * as_shape υ) (sym k), omega (arith, (shape_range τ).0), q)
 
-  pub first-yes : c / 4 % w ≡ firstShape c
-  unfolding firstShape bind firstTo maybeShape
-  first-yes = let (τ, υ, p, l, q) = split in ap (λ x. x % w) p ∙ add-mul-mod_self_left (asShape τ) w (asShape υ) ∙ mod-eq_of_lt l ∙ sym (rw q)
+  pub first_yes : c / 4 % w ≡ first_shape c
+  unfolding first_shape bind first_to maybe_shape
+  first_yes = let (τ, υ, p, l, q) = split in ap (λ x. x % w) p ∙ add-mul-mod_self_left (as_shape τ) w (as_shape υ) ∙ mod-eq_of_lt l ∙ sym (rw q)
 
-  pub second-yes : c / 4 / w ≡ secondShape c
-  unfolding secondShape bind secondTo maybeShape
-  second-yes =
+  pub second_yes : c / 4 / w ≡ second_shape c
+  unfolding second_shape bind second_to maybe_shape
+  second_yes =
       let (τ, υ, p, l, q) = split in
-      let z : 0 + asShape υ ≡ asShape υ = omega arith in
-      ap (λ x. x / w) p ∙ add-mul-div_left (asShape τ) (asShape υ) (omega arith) ∙ ap (λ x. x + asShape υ) (div-eq_of_lt l) ∙ z ∙ sym (rw q)
+      let z : 0 + as_shape υ ≡ as_shape υ = omega arith in
+      ap (λ x. x / w) p ∙ add-mul-div_left (as_shape τ) (as_shape υ) (omega arith) ∙ ap (λ x. x + as_shape υ) (div-eq_of_lt l) ∙ z ∙ sym (rw q)

@@ -4,39 +4,39 @@ use mathlib.Core.Path.{◌≡◌, refl, sym, ap, ap₂}
 use mathlib.Core.Option.{Option, none, some, bind}
 use mathlib.Core.List.{map}
 use Prim.Native.Nat.{◌≤◌}
-use Rattle.tophat.specs.Syntax.{maxLeaves, Ty, pair, leaves}
-use Rattle.tophat.specs.Leaves.{padded, leafKinds, leafNumber}
-use Rattle.tophat.proofs.ComputeTyping.{typeTo, firstTo, secondTo}
-use Rattle.shape.specs.Shape.{asShape, maybeShape, asType, pairShape, firstShape, secondShape, kindsIn, kindsOf}
-use Rattle.shape.proofs.Puts.{shape-pos, as-type}
-use Rattle.shape.proofs.Counts.{by-type}
+use Rattle.tophat.specs.Syntax.{max_leaves, Ty, pair, leaves}
+use Rattle.tophat.specs.Leaves.{padded, leaf_kinds, leaf_number}
+use Rattle.tophat.proofs.ComputeTyping.{type_to, first_to, second_to}
+use Rattle.shape.specs.Shape.{as_shape, maybe_shape, as_type, pair_shape, first_shape, second_shape, kinds_in, kinds_of}
+use Rattle.shape.proofs.Puts.{shape_pos, as_type_lem}
+use Rattle.shape.proofs.Counts.{by_type}
 
 -- a type of at most maxLeaves leaves, or none
 abbrev pub SmallO : Option Ty → Type 0
 SmallO none = Unit {0}
-SmallO (some τ) = leaves τ ≤ maxLeaves
+SmallO (some τ) = leaves τ ≤ max_leaves
 
-pub no-type : asType 0 ≡ none
-no-type = by-type 0 (λ o. o ≡ none) refl (λ τ e l. absurd (shape-pos τ (sym e)))
+pub no_type : as_type 0 ≡ none
+no_type = by_type 0 (λ o. o ≡ none) refl (λ τ e l. absurd (shape_pos τ (sym e)))
 
-pub as-type-again : (o : Option Ty) → SmallO o → asType (maybeShape o) ≡ o
-unfolding maybeShape
-as-type-again none h = no-type
-as-type-again (some τ) h = as-type τ h
+pub as_type_again : (o : Option Ty) → SmallO o → as_type (maybe_shape o) ≡ o
+unfolding maybe_shape
+as_type_again none h = no_type
+as_type_again (some τ) h = as_type_lem τ h
 
 module _ (o : Option Ty) (h : SmallO o) where
-  pub first_of : firstShape (maybeShape o) ≡ maybeShape (bind o firstTo)
-  unfolding firstShape
-  first_of = ap (λ x. maybeShape (bind x firstTo)) (as-type-again o h)
+  pub first_of : first_shape (maybe_shape o) ≡ maybe_shape (bind o first_to)
+  unfolding first_shape
+  first_of = ap (λ x. maybe_shape (bind x first_to)) (as_type_again o h)
 
-  pub second-of : secondShape (maybeShape o) ≡ maybeShape (bind o secondTo)
-  unfolding secondShape
-  second-of = ap (λ x. maybeShape (bind x secondTo)) (as-type-again o h)
+  pub second_of : second_shape (maybe_shape o) ≡ maybe_shape (bind o second_to)
+  unfolding second_shape
+  second_of = ap (λ x. maybe_shape (bind x second_to)) (as_type_again o h)
 
-  pub pair_of : (p : Option Ty) → SmallO p → pairShape (maybeShape o) (maybeShape p) ≡ maybeShape (bind o λ τ. bind p λ υ. typeTo (pair τ υ))
-  unfolding pairShape
-  pair_of p g = ap₂ (λ x y. maybeShape (bind x λ τ. bind y λ υ. typeTo (pair τ υ))) (as-type-again o h) (as-type-again p g)
+  pub pair_of : (p : Option Ty) → SmallO p → pair_shape (maybe_shape o) (maybe_shape p) ≡ maybe_shape (bind o λ τ. bind p λ υ. type_to (pair τ υ))
+  unfolding pair_shape
+  pair_of p g = ap₂ (λ x y. maybe_shape (bind x λ τ. bind y λ υ. type_to (pair τ υ))) (as_type_again o h) (as_type_again p g)
 
-pub kinds-of : (τ : Ty) → leaves τ ≤ maxLeaves → kindsOf (asShape τ) ≡ padded 0 (map leafNumber (leafKinds τ))
-unfolding kindsOf kindsIn
-kinds-of τ h = ap kindsIn (as-type τ h)
+pub kinds_of_lem : (τ : Ty) → leaves τ ≤ max_leaves → kinds_of (as_shape τ) ≡ padded 0 (map leaf_number (leaf_kinds τ))
+unfolding kinds_of kinds_in
+kinds_of_lem τ h = ap kinds_in (as_type_lem τ h)

@@ -1,9 +1,9 @@
 // Types as numbers: pair, components, leaves and leaf kinds of a shape.
 
 ghost use Rattle.std.specs.Prelude.{◌≡◌, ◌+◌, ◌*◌, ◌/◌, ◌^◌, ◌<◌, ◌≤◌, length};
-ghost use Rattle.tophat.specs.Syntax.{maxLeaves};
-ghost use Rattle.shape.specs.Shape.{base, pairShape, firstShape, secondShape, shapeLeaves, kindsOf};
-ghost use Rattle.shape.specs.Digits.{maxDigits, count, width, leafDigits, storedFrom};
+ghost use Rattle.tophat.specs.Syntax.{max_leaves};
+ghost use Rattle.shape.specs.Shape.{base, pair_shape, first_shape, second_shape, shape_leaves, kinds_of};
+ghost use Rattle.shape.specs.Digits.{max_digits, count, width, leaf_digits, stored_from};
 
 use match_laws;
 use tophat::MAX_LEAVES;
@@ -20,8 +20,8 @@ const MAX_DIGITS: usize = 2 * MAX_LEAVES - 1;
 
 // the leaves of the first k types of c, if they end within d digits; over MAX_LEAVES if not
 fn count_leaves(c: u32, k: usize, d: usize) -> usize
-    requires { k + d ≤ 2 * maxLeaves }
-    ensures { (result ≡ count d k c) × (result ≤ maxLeaves + 1 + d) }
+    requires { k + d ≤ 2 * max_leaves }
+    ensures { (result ≡ count d k c) × (result ≤ max_leaves + 1 + d) }
 {
     if k == 0 {
         return 0;
@@ -37,7 +37,7 @@ fn count_leaves(c: u32, k: usize, d: usize) -> usize
 
 // BASE to the number of digits of a type of n leaves
 fn width_of(n: usize) -> u32
-    requires { n ≤ maxLeaves }
+    requires { n ≤ max_leaves }
     ensures { (result ≡ width n) × (base ≤ result) }
 {
     if n < 2 {
@@ -48,7 +48,7 @@ fn width_of(n: usize) -> u32
 
 // the leaves of a shape, 0 of any other number
 pub fn leaves_of(shape: u32) -> usize
-    ensures { (result ≡ shapeLeaves shape) × (result ≤ maxLeaves) }
+    ensures { (result ≡ shape_leaves shape) × (result ≤ max_leaves) }
 {
     let n = count_leaves(shape, 1, MAX_DIGITS);
     if MAX_LEAVES < n {
@@ -69,7 +69,7 @@ fn joined(a: u32, w: u32, b: u32) -> u32
 
 // the shape of the pair of two types; 0 past MAX_LEAVES, or where a or b is no shape
 pub fn pair_shape(a: u32, b: u32) -> u32
-    ensures { result ≡ pairShape a b }
+    ensures { result ≡ pair_shape a b }
 {
     let m = leaves_of(a);
     if m == 0 {
@@ -87,15 +87,15 @@ pub fn pair_shape(a: u32, b: u32) -> u32
 
 // the width of the first component of a pair
 fn first_width(c: u32) -> u32
-    requires { 2 ≤ shapeLeaves c }
-    ensures { (result ≡ width (count maxDigits 1 (c / base))) × (base ≤ result) }
+    requires { 2 ≤ shape_leaves c }
+    ensures { (result ≡ width (count max_digits 1 (c / base))) × (base ≤ result) }
 {
     width_of(count_leaves(c / BASE, 1, MAX_DIGITS))
 }
 
 // the shape of a pair's first component, 0 of any other number
 pub fn first_shape(shape: u32) -> u32
-    ensures { result ≡ firstShape shape }
+    ensures { result ≡ first_shape shape }
 {
     if leaves_of(shape) < 2 {
         return 0;
@@ -106,7 +106,7 @@ pub fn first_shape(shape: u32) -> u32
 
 // the shape of a pair's second component, 0 of any other number
 pub fn second_shape(shape: u32) -> u32
-    ensures { result ≡ secondShape shape }
+    ensures { result ≡ second_shape shape }
 {
     if leaves_of(shape) < 2 {
         return 0;
@@ -116,8 +116,8 @@ pub fn second_shape(shape: u32) -> u32
 }
 
 fn store_leaves(kinds: [u32; MAX_LEAVES], i: usize, c: u32, d: usize) -> [u32; MAX_LEAVES]
-    requires { i + length (leafDigits d c) ≤ maxLeaves }
-    ensures { result ≡ storedFrom kinds i (leafDigits d c) }
+    requires { i + length (leaf_digits d c) ≤ max_leaves }
+    ensures { result ≡ stored_from kinds i (leaf_digits d c) }
 {
     if d == 0 {
         return kinds;
@@ -132,7 +132,7 @@ fn store_leaves(kinds: [u32; MAX_LEAVES], i: usize, c: u32, d: usize) -> [u32; M
 
 // the leaf kinds of a shape, in order, then 0; all 0 of any other number
 pub fn leaf_kinds(shape: u32) -> [u32; MAX_LEAVES]
-    ensures { result ≡ kindsOf shape }
+    ensures { result ≡ kinds_of shape }
 {
     let none = [0; MAX_LEAVES];
     if leaves_of(shape) == 0 {

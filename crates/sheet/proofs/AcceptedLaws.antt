@@ -13,44 +13,44 @@ use mir.Syntax.{w32}
 use mir.Val.{of_z}
 use Rattle.word.specs.Word.{AllWords}
 use Rattle.word.specs.Laid.{laid}
-use Rattle.word.proofs.Laid.{laid-front}
-use Rattle.word.proofs.Lists.{drop-zeros, words-whole}
-use Rattle.rows.specs.Rows.{maxRows, rowWords}
-use Rattle.rows.specs.Lent.{rowsSize, ownRows, rowCount}
-use Rattle.grounds.specs.Accepted.{acceptedRows}
-use Rattle.sheet.specs.Accepted.{acceptsRows, acceptedCount}
-use Rattle.sheet.proofs.AcceptedRows.{passed-of}
+use Rattle.word.proofs.Laid.{laid_front}
+use Rattle.word.proofs.Lists.{drop_zeros, words_whole}
+use Rattle.rows.specs.Rows.{max_rows, row_words}
+use Rattle.rows.specs.Lent.{rows_size, own_rows, row_count}
+use Rattle.grounds.specs.Accepted.{accepted_rows}
+use Rattle.sheet.specs.Accepted.{accepts_rows, accepted_count}
+use Rattle.sheet.proofs.AcceptedRows.{passed_of}
 
-module _ (rows : List ℤ) (own words : List ℕ) (z : own ≡ replicate rowsSize 0) (c : words ≡ laid (of_z w32) rows own) where
+module _ (rows : List ℤ) (own words : List ℕ) (z : own ≡ replicate rows_size 0) (c : words ≡ laid (of_z w32) rows own) where
   -- what is answered, left and learnt
   abbrev pub Counts : ℕ → Type 0
-  Counts r = (r ≡ acceptedCount rows) × ((1 ≤ r → words ≡ ownRows rows) × (1 ≤ r → AllWords rows))
+  Counts r = (r ≡ accepted_count rows) × ((1 ≤ r → words ≡ own_rows rows) × (1 ≤ r → AllWords rows))
 
-  module _ (few : length rows ≤ rowsSize) where
-    whole : length rows ≤ length (replicate {A = ℕ} rowsSize 0)
-    whole = rw (length-replicate {A = ℕ} rowsSize 0) few
+  module _ (few : length rows ≤ rows_size) where
+    whole : length rows ≤ length (replicate {A = ℕ} rows_size 0)
+    whole = rw (length-replicate {A = ℕ} rows_size 0) few
 
-    is-own : words ≡ ownRows rows
-    is-own =
+    is_own : words ≡ own_rows rows
+    is_own =
         c ∙ ap (laid (of_z w32) rows) z
-        ∙ laid-front (of_z w32) rows (replicate rowsSize 0) whole ∙ ap (λ l. map (of_z w32) rows ++ l) (drop-zeros (length rows) rowsSize)
+        ∙ laid_front (of_z w32) rows (replicate rows_size 0) whole ∙ ap (λ l. map (of_z w32) rows ++ l) (drop_zeros (length rows) rows_size)
 
   -- the copied words are accepted exactly where the rows are
-  tested : acceptedRows words (length rows) ≡ acceptsRows rows
-  unfolding acceptsRows acceptedRows
-  tested = cases (leb (length rows) (maxRows * rowWords))
-      (λ t. ap (λ l. acceptedRows l (length rows)) (is-own (leb-true (length rows) (maxRows * rowWords) t)))
+  tested : accepted_rows words (length rows) ≡ accepts_rows rows
+  unfolding accepts_rows accepted_rows
+  tested = cases (leb (length rows) (max_rows * row_words))
+      (λ t. ap (λ l. accepted_rows l (length rows)) (is_own (leb-true (length rows) (max_rows * row_words) t)))
       (λ f. rw f)
 
-  pub counts-none : (b : Bool) → b ≡ acceptedRows words (length rows) → not b ≡ true → Counts 0
-  counts-none b e h =
-      let a : acceptsRows rows ≡ false = sym tested ∙ sym e ∙ not-true b h in
+  pub counts_none : (b : Bool) → b ≡ accepted_rows words (length rows) → not b ≡ true → Counts 0
+  counts_none b e h =
+      let a : accepts_rows rows ≡ false = sym tested ∙ sym e ∙ not-true b h in
       (sym (rw a), (λ l. absurd (omega arith), λ l. absurd (omega arith)))
 
-  pub counts_all : (b : Bool) → b ≡ acceptedRows words (length rows) → not b ≡ false → AllWords (take (length own) rows) → Counts (rowCount rows)
+  pub counts_all : (b : Bool) → b ≡ accepted_rows words (length rows) → not b ≡ false → AllWords (take (length own) rows) → Counts (row_count rows)
   counts_all b e h w =
-      let a : acceptsRows rows ≡ true = sym tested ∙ sym e ∙ not-false b h in
-      let p = passed-of rows a in
+      let a : accepts_rows rows ≡ true = sym tested ∙ sym e ∙ not-false b h in
+      let p = passed_of rows a in
       let f = p.few in let o = p.whole in
-      let few : length rows ≤ rowsSize = omega (arith, f, o) in
-      (sym (rw a), (λ l. is-own few, λ l. words-whole (length own) rows (subst (λ y. length rows ≤ length y) (sym z) (whole few)) w))
+      let few : length rows ≤ rows_size = omega (arith, f, o) in
+      (sym (rw a), (λ l. is_own few, λ l. words_whole (length own) rows (subst (λ y. length rows ≤ length y) (sym z) (whole few)) w))

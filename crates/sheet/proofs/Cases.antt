@@ -9,32 +9,32 @@ use lib.Dec.{eqb}
 use lib.IntN.{ℤ, pos, negsuc}
 use lib.ListN.{replicate}
 use Rattle.tophat.specs.Syntax.{leaves}
-use Rattle.tophat.proofs.ComputeTyping.{ask, nth, takes, gives, numberTo, opTo, sameTo, ifTo, typeTo, firstTo, secondTo, assignTo, infer, inferTask}
+use Rattle.tophat.proofs.ComputeTyping.{ask, nth, takes, gives, number_to, op_to, same_to, if_to, type_to, first_to, second_to, assign_to, infer, infer_task}
 use mathlib.Core.Option.{Option, none, some, bind}
-use Rattle.decimal.specs.Field.{space, newline, rowColumns, wordColumns, digits, text, justified, written, trimmed, counted, numeral, readsAt}
-use Rattle.formats.specs.Records.{fields_at, numberSaid, each, text_of, itemsText, items_in}
-use Rattle.formats.specs.Lines.{lineColumns, meant, meantAll, kindWord, afterRow, lineSays, linesSay}
-use Rattle.rows.specs.Kinds.{kind_of, asksOf, isUnused, unusedBy}
-use Rattle.rows.specs.Rows.{rowWords, every, listedAs, listed, truthCell, rowListed, sortBy, sorts, sortNumber, sortedAs, sorted, rowSorted, names, namesBy, namesIn, namings, namedOnce, lastFits}
-use Rattle.rows.specs.Enclosing.{bindersBy, marksBy, mostBinders, mostMarks, counts, leavesBy, rowSmall}
-use Rattle.rows.specs.Trees.{operatorOf}
-use Rattle.rows.specs.ComputeTrees.{type_at, expAt, code_at, cellType, cellTypes}
-use Rattle.rows.specs.Ground.{flowType, is_some, passes3, passes4, passes5, passes6, passes7, groundOfRows}
-use Rattle.sheet.specs.Sheet.{lines, sized, leaving, loadedLines, loaded}
+use Rattle.decimal.specs.Field.{space, newline, row_columns, word_columns, digits, text, justified, written, trimmed, counted, numeral, reads_at}
+use Rattle.formats.specs.Records.{fields_at, number_said, each, text_of, items_text, items_in}
+use Rattle.formats.specs.Lines.{line_columns, meant, meant_all, kind_word, after_row, line_says, lines_say}
+use Rattle.rows.specs.Kinds.{kind_of, asks_of, is_unused, unused_by}
+use Rattle.rows.specs.Rows.{row_words, every, listed_as, listed, truth_cell, row_listed, sort_by, sorts, sort_number, sorted_as, sorted, row_sorted, names, names_by, names_in, namings, named_once, last_fits}
+use Rattle.rows.specs.Enclosing.{binders_by, marks_by, most_binders, most_marks, counts, leaves_by, row_small}
+use Rattle.rows.specs.Trees.{operator_of}
+use Rattle.rows.specs.ComputeTrees.{type_at, exp_at, code_at, cell_type, cell_types}
+use Rattle.rows.specs.Ground.{flow_type, is_some, passes3, passes4, passes5, passes6, passes7, ground_of_rows}
+use Rattle.sheet.specs.Sheet.{lines, sized, leaving, loaded_lines, loaded}
 
 -- the number and the rows memory that a text and a rows memory come to, with all that is unfolded on the way
 unfoldable load : List ℕ → List ℤ → ℕ × List ℤ
 unfolding
-    bind ask nth takes gives numberTo opTo sameTo ifTo typeTo firstTo secondTo assignTo infer inferTask leaves dec_le digits text justified trimmed
-    counted numeral readsAt fields_at numberSaid each text_of itemsText isUnused unusedBy meant meantAll kindWord afterRow lineSays linesSay kind_of asksOf every listedAs listed truthCell rowListed sortBy
-    sorts sortNumber sortedAs sorted rowSorted names namesBy namesIn namings namedOnce lastFits bindersBy marksBy mostBinders mostMarks counts
-    leavesBy rowSmall operatorOf type_at expAt code_at cellType cellTypes flowType is_some passes3 passes4 passes5 passes6 passes7 groundOfRows sized
-    leaving loadedLines loaded
+    bind ask nth takes gives number_to op_to same_to if_to type_to first_to second_to assign_to infer infer_task leaves dec_le digits text justified trimmed
+    counted numeral reads_at fields_at number_said each text_of items_text is_unused unused_by meant meant_all kind_word after_row line_says lines_say kind_of asks_of every listed_as listed truth_cell row_listed sort_by
+    sorts sort_number sorted_as sorted row_sorted names names_by names_in namings named_once last_fits binders_by marks_by most_binders most_marks counts
+    leaves_by row_small operator_of type_at exp_at code_at cell_type cell_types flow_type is_some passes3 passes4 passes5 passes6 passes7 ground_of_rows sized
+    leaving loaded_lines loaded
 load s rows = loaded s rows
 
 -- a line of row number, kind, A, B and C, ended by a byte
 abbrev ended : ℕ → ℤ → ℤ → ℤ → ℤ → ℤ → List ℕ
-ended e r k a b c = itemsText (items_in lineColumns (r ∷ k ∷ a ∷ b ∷ c ∷ [])) ++ e ∷ []
+ended e r k a b c = items_text (items_in line_columns (r ∷ k ∷ a ∷ b ∷ c ∷ [])) ++ e ∷ []
 
 abbrev line : ℕ → ℕ → ℕ → ℕ → ℕ → List ℕ
 line r k a b c = ended newline (pos r) (pos k) (pos a) (pos b) (pos c)
@@ -51,14 +51,14 @@ cell w none = replicate w space
 cell w (some n) = text_of (written w (pos n))
 
 abbrev drawn : Option ℕ → Option ℕ → Option ℕ → Option ℕ → Option ℕ → List ℕ
-drawn r k a b c = cell rowColumns r ++ (cell rowColumns k ++ (cell wordColumns a ++ (cell wordColumns b ++ (cell wordColumns c ++ newline ∷ []))))
+drawn r k a b c = cell row_columns r ++ (cell row_columns k ++ (cell word_columns a ++ (cell word_columns b ++ (cell word_columns c ++ newline ∷ []))))
 
 abbrev row : ℕ → ℕ → Option ℕ → Option ℕ → Option ℕ → List ℕ
 row r k a b c = drawn (some r) (some k) a b c
 
 -- 01's session with every unused operand blank
-abbrev blank-session : List ℕ
-blank-session =
+abbrev blank_session : List ℕ
+blank_session =
     row 0 3 none none none ++ (row 1 41 (some 0) none none ++ (row 2 23 (some 0) none none ++ (row 3 22 (some 9) none none ++
     (row 4 24 (some 5) (some 2) (some 3) ++ (row 5 23 (some 0) none none ++ (row 6 22 (some 30) none none ++ (row 7 24 (some 3) (some 5) (some 6) ++
     (row 8 40 (some 7) none none ++ (row 9 45 (some 0) none none ++ (row 10 25 (some 4) (some 8) (some 9) ++ row 11 43 (some 1) (some 10) none))))))))))
@@ -86,7 +86,7 @@ cases =
     (2, ended 10 (negsuc 0) (pos 22) (pos 1) (pos 0) (pos 0) ++ task) ∷
     (3, ended 10 (pos 0) (negsuc 0) (pos 1) (pos 0) (pos 0) ++ task) ∷  -- a negative kind
     (2, ended 10 (pos 0) (negsuc 0) (pos 1) (pos 0) (pos 0) ++ ended 32 (pos 1) (pos 40) (pos 0) (pos 0) (pos 0)) ∷  -- 2 over all lines before 3
-    (0, blank-session) ∷
+    (0, blank_session) ∷
     (0, row 0 22 (some 1) none (some 0) ++ row 1 40 (some 0) (some 0) none) ∷  -- blanks and zeros mixed
     (2, row 0 22 none none none ++ task) ∷  -- a used operand blank
     (2, row 0 22 (some 1) none none ++ row 1 40 none none none) ∷  -- also where its 0 would be right
@@ -102,20 +102,20 @@ sevens n = replicate n (pos 7)
 
 abbrev agree : List (ℕ × List ℕ) → Bool
 agree [] = true
-agree (c ∷ cs) = eqb (load c.1 (sevens (lines c.1 * rowWords))).0 c.0 && agree cs
+agree (c ∷ cs) = eqb (load c.1 (sevens (lines c.1 * row_words))).0 c.0 && agree cs
 
-all-agree : agree cases ≡ true
+all_agree : agree cases ≡ true
 unfolding load
-all-agree = refl
+all_agree = refl
 
 -- what load answers and leaves: 1 before 21 before 2, and words only where it accepts
 abbrev minus5 : List ℕ
 minus5 = ended 10 (pos 0) (pos 22) (negsuc 4) (pos 0) (pos 0) ++ task
 
-all-loaded : (load [] (sevens 1) ≡ (1, sevens 1))
+all_loaded : (load [] (sevens 1) ≡ (1, sevens 1))
     × (load (replicate 45 32) (sevens 3) ≡ (21, sevens 3))
     × (load (replicate 45 32) (sevens 4) ≡ (2, sevens 4))
     × (load minus5 (sevens 9) ≡ (21, sevens 9))
     × (load minus5 (sevens 8) ≡ (0, pos 22 ∷ negsuc 4 ∷ pos 0 ∷ pos 0 ∷ pos 40 ∷ pos 0 ∷ pos 0 ∷ pos 0 ∷ []))
 unfolding load
-all-loaded = (refl, refl, refl, refl, refl)
+all_loaded = (refl, refl, refl, refl, refl)

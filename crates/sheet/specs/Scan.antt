@@ -1,36 +1,36 @@
 -- What the scan of a sheet's lines answers and keeps. Rests on formats' lines.
--- For contracts only: tied to `linesSay` by the contract of `read_lines`.
+-- For contracts only: tied to `lines_say` by the contract of `read_lines`.
 use Rattle.std.specs.Prelude.{◌≡◌, Bool, true, false, ◌&&◌, List, ℕ, suc, ◌+◌, ◌*◌, eqb, ℤ, pos, get_or}
 use Rattle.std.proofs.Math.Option.{Option, none, some}
 use Rattle.std.specs.Int.{w32}
 use Rattle.std.proofs.Common.{of_z}
-use Rattle.word.specs.Word.{eqZ}
-use Rattle.decimal.specs.Field.{Field, number, blank, unreadable, rowColumns, newline, readsAt}
+use Rattle.word.specs.Word.{eq_z}
+use Rattle.decimal.specs.Field.{Field, number, blank, unreadable, row_columns, newline, reads_at}
 use Rattle.formats.specs.Records.{total, place_of}
-use Rattle.formats.specs.Lines.{lineColumns, lineBytes, meant, unusedFields}
-use Rattle.rows.specs.Lent.{ownRows}
+use Rattle.formats.specs.Lines.{line_columns, line_bytes, meant, unused_fields}
+use Rattle.rows.specs.Lent.{own_rows}
 use Rattle.sheet.specs.declared.scan.Word.{Word}
 
 -- whether a field says the number i
-abbrev pub saysRow : Field → ℕ → Bool
-saysRow (number z) i = eqZ z (pos i)
-saysRow blank i = false
-saysRow unreadable i = false
+abbrev pub says_row : Field → ℕ → Bool
+says_row (number z) i = eq_z z (pos i)
+says_row blank i = false
+says_row unreadable i = false
 
 -- whether line i ends in byte 10 and begins with the number i
 abbrev pub is_line : List ℕ → ℕ → Bool
-is_line s i = eqb (get_or s (i * lineBytes + total lineColumns) 0) newline && saysRow (readsAt s (i * lineBytes) rowColumns) i
+is_line s i = eqb (get_or s (i * line_bytes + total line_columns) 0) newline && says_row (reads_at s (i * line_bytes) row_columns) i
 
 -- the field of word k of row i, as a row whose kind has this number means it
 abbrev pub word_at : List ℕ → ℕ → ℕ → ℕ → Field
-word_at s kind i k = meant (get_or (unusedFields kind) (suc k) false) (readsAt s (i * lineBytes + place_of lineColumns (suc k)) (get_or lineColumns (suc k) 0))
+word_at s kind i k = meant (get_or (unused_fields kind) (suc k) false) (reads_at s (i * line_bytes + place_of line_columns (suc k)) (get_or line_columns (suc k) 0))
 
 -- the code's answer for a word
-unfoldable pub wordRead : Option ℤ → Word
-wordRead none = record { readable = false; bits = 0 }
-wordRead (some z) = record { readable = true; bits = of_z w32 z }
+unfoldable pub word_read : Option ℤ → Word
+word_read none = record { readable = false; bits = 0 }
+word_read (some z) = record { readable = true; bits = of_z w32 z }
 
 -- all lines: whether each can be read; then the words are theirs, with zeros after them
 abbrev pub LinesRead : Option (List ℤ) → List ℕ → Bool → Type 0
 LinesRead none own r = r ≡ false
-LinesRead (some ws) own r = (r ≡ true) × (own ≡ ownRows ws)
+LinesRead (some ws) own r = (r ≡ true) × (own ≡ own_rows ws)

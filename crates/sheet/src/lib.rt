@@ -5,9 +5,9 @@ ghost use Rattle.std.specs.Int.{w32};
 ghost use Rattle.std.proofs.Common.{of_z};
 ghost use Rattle.word.specs.Word.{AllWords};
 ghost use Rattle.word.specs.Laid.{laid};
-ghost use Rattle.rows.specs.Lent.{rowsSize, ownRows};
+ghost use Rattle.rows.specs.Lent.{rows_size, own_rows};
 ghost use Rattle.sheet.specs.Sheet.{sized, loaded};
-ghost use Rattle.sheet.specs.Accepted.{acceptedCount};
+ghost use Rattle.sheet.specs.Accepted.{accepted_count};
 
 use formats::LINE_BYTES;
 use grounds;
@@ -61,9 +61,9 @@ pub fn load(sheet: &[u8], rows: &mut [i32]) -> u32
 // How many rows of an accepted flow `rows` holds, with their bits in `own`, which is lent with zeros. Where no accepted sheet
 // loads to them (01, ground 20) the answer is 0.
 pub fn accepted_rows(rows: &[i32], own: &mut [u32; ROWS_WORDS]) -> usize
-    requires { own.old ≡ replicate rowsSize 0 }
-    ensures value { result ≡ acceptedCount rows.now }
-    ensures own_after { 1 ≤ result → own.new ≡ ownRows rows.now }
+    requires { own.old ≡ replicate rows_size 0 }
+    ensures value { result ≡ accepted_count rows.now }
+    ensures own_after { 1 ≤ result → own.new ≡ own_rows rows.now }
     ensures all_words { 1 ≤ result → AllWords rows.now }
     ensures own_after_2 { own.new ≡ laid (of_z w32) rows.now own.old }
 {

@@ -1,10 +1,10 @@
 // The scan of a sheet's lines and fields, left at the first that cannot be read (01, ground 2).
 ghost use Rattle.std.specs.Prelude.{◌≡◌, suc, ◌+◌, ◌*◌, ◌<◌, ◌≤◌, length, get_or, replicate};
-ghost use Rattle.formats.specs.Records.{place_of, numberSaid};
-ghost use Rattle.formats.specs.Lines.{lineColumns, lineBytes, linesSay};
-ghost use Rattle.rows.specs.Rows.{maxRows, rowWords};
-ghost use Rattle.rows.specs.Lent.{rowsSize};
-ghost use Rattle.sheet.specs.Scan.{is_line, word_at, wordRead, LinesRead};
+ghost use Rattle.formats.specs.Records.{place_of, number_said};
+ghost use Rattle.formats.specs.Lines.{line_columns, line_bytes, lines_say};
+ghost use Rattle.rows.specs.Rows.{max_rows, row_words};
+ghost use Rattle.rows.specs.Lent.{rows_size};
+ghost use Rattle.sheet.specs.Scan.{is_line, word_at, word_read, LinesRead};
 
 use decimal::field;
 use decimal::field::{NEWLINE, ROW_COLUMNS, Reading, WORD_COLUMNS};
@@ -14,8 +14,8 @@ use rows::{ROW_WORDS, ROWS_WORDS};
 
 // How wide the field of word k of a row is.
 fn columns_of(k: usize) -> usize
-    requires { k < rowWords }
-    ensures { result ≡ get_or lineColumns (suc k) 0 }
+    requires { k < row_words }
+    ensures { result ≡ get_or line_columns (suc k) 0 }
 {
     if k == 0 {
         return ROW_COLUMNS;
@@ -25,8 +25,8 @@ fn columns_of(k: usize) -> usize
 
 // Where it stands in its line.
 fn place_of(k: usize) -> usize
-    requires { k < rowWords }
-    ensures { result ≡ place_of lineColumns (suc k) }
+    requires { k < row_words }
+    ensures { result ≡ place_of line_columns (suc k) }
 {
     if k == 0 {
         return ROW_COLUMNS;
@@ -36,7 +36,7 @@ fn place_of(k: usize) -> usize
 
 // Whether line i ends in byte 10 and begins with the number i.
 fn is_line(sheet: &[u8], i: usize) -> bool
-    requires { (i < maxRows) × (i * lineBytes + lineBytes ≤ length sheet.now) }
+    requires { (i < max_rows) × (i * line_bytes + line_bytes ≤ length sheet.now) }
     ensures { result ≡ is_line sheet.now i }
 {
     let at = i * LINE_BYTES;
@@ -60,8 +60,8 @@ struct Word {
 
 // What word k of row i says, where the row's kind has this number: a blank is 0 where the operand is unused, and unreadable elsewhere.
 fn read_word(sheet: &[u8], i: usize, k: usize, kind: u32) -> Word
-    requires { (i < maxRows) × (k < rowWords) }
-    ensures { result ≡ wordRead (numberSaid (word_at sheet.now kind i k)) }
+    requires { (i < max_rows) × (k < row_words) }
+    ensures { result ≡ word_read (number_said (word_at sheet.now kind i k)) }
 {
     let place = place_of(k);
     let columns = columns_of(k);
@@ -85,9 +85,9 @@ fn read_word(sheet: &[u8], i: usize, k: usize, kind: u32) -> Word
 // Whether each of the first n lines can be read; then `own`, lent with zeros, holds their rows. The scan is left at the first field
 // that cannot be read.
 pub fn read_lines(sheet: &[u8], n: usize, own: &mut [u32; ROWS_WORDS]) -> bool
-    requires n_le_max_rows { (n ≤ maxRows) × (n * lineBytes ≤ length sheet.now) }
-    requires own_value { own.old ≡ replicate rowsSize 0 }
-    ensures { LinesRead (linesSay sheet.now n) own.new result }
+    requires n_le_max_rows { (n ≤ max_rows) × (n * line_bytes ≤ length sheet.now) }
+    requires own_value { own.old ≡ replicate rows_size 0 }
+    ensures { LinesRead (lines_say sheet.now n) own.new result }
 {
     let mut good = true;
     'lines: for i in 0..n {

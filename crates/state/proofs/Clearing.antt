@@ -6,94 +6,94 @@ use mathlib.Core.List.{List, []}
 use Prim.Native.Nat.{ℕ, ◌+◌, ◌≤◌}
 use native.Mathlib.Omega.{arith}
 use Rattle.tophat.specs.Syntax.{edit, enter, update, then, next, fail, and, or, xor, view, gate, if, let'}
-use Rattle.rows.specs.Kinds.{eitherK, ifK, letK, taskK, thenK, failK, xorK, gateK, number_of}
+use Rattle.rows.specs.Kinds.{either_k, if_k, let_k, task_k, then_k, fail_k, xor_k, gate_k, number_of}
 use Rattle.rows.specs.Rows.{word, OfKind, FromKind, UpToKind}
 use Rattle.state.specs.Holds.{Tree, leaf, under, fork, tree_of, Foot, Off, Split, Row, Clear, Same}
 use Rattle.state.specs.Words.{Laid}
-use Rattle.state.specs.Contracts.{ClearOk}
-use Rattle.state.proofs.Frames.{same-trans, same-weak, laid_same, keeps, keeps-laid, clear_kept}
-use Rattle.state.proofs.Sites.{on-code}
+use Rattle.state.specs.Ensured.{ClearOk}
+use Rattle.state.proofs.Frames.{same_trans, same_weak, laid_same, keeps, keeps_laid, clear_kept}
+use Rattle.state.proofs.Sites.{on_code}
 
 -- ---- by the shape of the tree
 
 abbrev Cleared : List ℕ → List ℕ → List ℕ → ℕ → Tree → Type 0
 Cleared rs ws ws₁ i x = Clear rs ws₁ i x × Same (Foot rs i x) ws ws₁
 
-dead-at : {ws ws₁ : List ℕ} {i : ℕ} → Laid ws ws₁ i [] → (j : ℕ) → j ≡ i → Row ws₁ j []
-dead-at {ws₁ = ws₁} p j e = subst (λ j. Row ws₁ j []) (sym e) p.row
+dead_at : {ws ws₁ : List ℕ} {i : ℕ} → Laid ws ws₁ i [] → (j : ℕ) → j ≡ i → Row ws₁ j []
+dead_at {ws₁ = ws₁} p j e = subst (λ j. Row ws₁ j []) (sym e) p.row
 
 module _ (rs : List ℕ) (i : ℕ) where
-  cleared-leaf : {ws ws₁ : List ℕ} → Laid ws ws₁ i [] → Cleared rs ws ws₁ i leaf
-  cleared-leaf p = (record { dead = dead-at p }, p.same)
+  cleared_leaf : {ws ws₁ : List ℕ} → Laid ws ws₁ i [] → Cleared rs ws ws₁ i leaf
+  cleared_leaf p = (record { dead = dead_at p }, p.same)
 
-  cleared-under : {ws ws₁ ws₂ : List ℕ} (k : ℕ) (x : Tree) → Off rs i k x → Cleared rs ws ws₁ (word rs i k) x → Laid ws₁ ws₂ i [] → Cleared rs ws ws₂ i (under k x)
-  cleared-under k x o (c, s) p = (
-    record { dead = λ j. ⊎_elim (dead-at p j) ((clear_kept c (keeps-laid o.off p)).dead j) },
-    same-trans (same-weak (λ j f. inr f) s) (laid_same p (inl refl)),
+  cleared_under : {ws ws₁ ws₂ : List ℕ} (k : ℕ) (x : Tree) → Off rs i k x → Cleared rs ws ws₁ (word rs i k) x → Laid ws₁ ws₂ i [] → Cleared rs ws ws₂ i (under k x)
+  cleared_under k x o (c, s) p = (
+    record { dead = λ j. ⊎_elim (dead_at p j) ((clear_kept c (keeps_laid o.off p)).dead j) },
+    same_trans (same_weak (λ j f. inr f) s) (laid_same p (inl refl)),
   )
 
-  cleared-fork : {ws ws₁ ws₂ ws₃ : List ℕ} (k : ℕ) (x : Tree) (l : ℕ) (y : Tree) → Split rs i k x l y
+  cleared_fork : {ws ws₁ ws₂ ws₃ : List ℕ} (k : ℕ) (x : Tree) (l : ℕ) (y : Tree) → Split rs i k x l y
       → Cleared rs ws ws₁ (word rs i k) x → Cleared rs ws₁ ws₂ (word rs i l) y → Laid ws₂ ws₃ i [] → Cleared rs ws ws₃ i (fork k x l y)
-  cleared-fork k x l y o (c, s) (c₁, s₁) p =
-      let cA = clear_kept (clear_kept c (keeps o.apart s₁)) (keeps-laid o.offA p) in
-      let cB = clear_kept c₁ (keeps-laid o.offB p) in (
-        record { dead = λ j. ⊎_elim (dead-at p j) (⊎_elim (cA.dead j) (cB.dead j)) },
-        same-trans (same-weak (λ j f. inr (inl f)) s) (same-trans (same-weak (λ j f. inr (inr f)) s₁) (laid_same p (inl refl))),
+  cleared_fork k x l y o (c, s) (c₁, s₁) p =
+      let c_a = clear_kept (clear_kept c (keeps o.apart s₁)) (keeps_laid o.off_a p) in
+      let c_b = clear_kept c₁ (keeps_laid o.off_b p) in (
+        record { dead = λ j. ⊎_elim (dead_at p j) (⊎_elim (c_a.dead j) (c_b.dead j)) },
+        same_trans (same_weak (λ j f. inr (inl f)) s) (same_trans (same_weak (λ j f. inr (inr f)) s₁) (laid_same p (inl refl))),
       )
 
 -- ---- by arm
 
 -- what a call at an operand's row left
-at-operand : (rs ws ws₁ : List ℕ) {a j : ℕ} → a ≡ j → ClearOk rs ws ws₁ a → ClearOk rs ws ws₁ j
-at-operand rs ws ws₁ e h = subst (ClearOk rs ws ws₁) e h
+at_operand : (rs ws ws₁ : List ℕ) {a j : ℕ} → a ≡ j → ClearOk rs ws ws₁ a → ClearOk rs ws ws₁ j
+at_operand rs ws ws₁ e h = subst (ClearOk rs ws ws₁) e h
 
 module _ (rs : List ℕ) (i : ℕ) where
   -- 43, 44, 46, 47, 48
-  pub clear-fork : {ws ws₁ ws₂ ws₃ : List ℕ} {a b : ℕ} (k : ℕ) → k ≡ word rs i 0 → number_of (taskK thenK) ≤ k → k ≤ number_of (taskK xorK) → (k ≡ number_of (taskK failK) → ⊥) → a ≡ word rs i 1 → b ≡ word rs i 2
+  pub clear_fork : {ws ws₁ ws₂ ws₃ : List ℕ} {a b : ℕ} (k : ℕ) → k ≡ word rs i 0 → number_of (task_k then_k) ≤ k → k ≤ number_of (task_k xor_k) → (k ≡ number_of (task_k fail_k) → ⊥) → a ≡ word rs i 1 → b ≡ word rs i 2
       → ClearOk rs ws ws₁ a → ClearOk rs ws₁ ws₂ b → Laid ws₂ ws₃ i [] → ClearOk rs ws ws₃ i
-  clear-fork {ws} {ws₁} {ws₂} k q m n o ea eb ha hb p d (edit e) s = absurd (let z = s.0 in omega arith)
-  clear-fork {ws} {ws₁} {ws₂} k q m n o ea eb ha hb p d (enter τ) s = absurd (let z = s.0 in omega arith)
-  clear-fork {ws} {ws₁} {ws₂} k q m n o ea eb ha hb p d (update u) s = absurd (let z = s.0 in omega arith)
-  clear-fork {ws} {ws₁} {ws₂} k q m n o ea eb ha hb p d (then a b) s = cleared-fork rs i 1 (tree_of a) 2 (tree_of b) s.3 (at-operand rs ws ws₁ ea ha d a s.1) (at-operand rs ws₁ ws₂ eb hb (d + 1) b s.2) p
-  clear-fork {ws} {ws₁} {ws₂} k q m n o ea eb ha hb p d (next a b) s = cleared-fork rs i 1 (tree_of a) 2 (tree_of b) s.3 (at-operand rs ws ws₁ ea ha d a s.1) (at-operand rs ws₁ ws₂ eb hb (d + 1) b s.2) p
-  clear-fork {ws} {ws₁} {ws₂} k q m n o ea eb ha hb p d (fail τ) s = absurd (o (q ∙ s))
-  clear-fork {ws} {ws₁} {ws₂} k q m n o ea eb ha hb p d (and a b) s = cleared-fork rs i 1 (tree_of a) 2 (tree_of b) s.3 (at-operand rs ws ws₁ ea ha d a s.1) (at-operand rs ws₁ ws₂ eb hb d b s.2) p
-  clear-fork {ws} {ws₁} {ws₂} k q m n o ea eb ha hb p d (or a b) s = cleared-fork rs i 1 (tree_of a) 2 (tree_of b) s.3 (at-operand rs ws ws₁ ea ha d a s.1) (at-operand rs ws₁ ws₂ eb hb d b s.2) p
-  clear-fork {ws} {ws₁} {ws₂} k q m n o ea eb ha hb p d (xor a b) s = cleared-fork rs i 1 (tree_of a) 2 (tree_of b) s.3 (at-operand rs ws ws₁ ea ha d a s.1) (at-operand rs ws₁ ws₂ eb hb d b s.2) p
-  clear-fork {ws} {ws₁} {ws₂} k q m n o ea eb ha hb p d (view e) s = absurd (let z = s.0 in omega arith)
-  clear-fork {ws} {ws₁} {ws₂} k q m n o ea eb ha hb p d (gate r t b) s = absurd (let z = s.0 in omega arith)
-  clear-fork {ws} {ws₁} {ws₂} k q m n o ea eb ha hb p d (if e a b) s = absurd (let z = s.0 in omega arith)
-  clear-fork {ws} {ws₁} {ws₂} k q m n o ea eb ha hb p d (let' e b) s = absurd (let z = s.0 in omega arith)
+  clear_fork {ws} {ws₁} {ws₂} k q m n o ea eb ha hb p d (edit e) s = absurd (let z = s.0 in omega arith)
+  clear_fork {ws} {ws₁} {ws₂} k q m n o ea eb ha hb p d (enter τ) s = absurd (let z = s.0 in omega arith)
+  clear_fork {ws} {ws₁} {ws₂} k q m n o ea eb ha hb p d (update u) s = absurd (let z = s.0 in omega arith)
+  clear_fork {ws} {ws₁} {ws₂} k q m n o ea eb ha hb p d (then a b) s = cleared_fork rs i 1 (tree_of a) 2 (tree_of b) s.3 (at_operand rs ws ws₁ ea ha d a s.1) (at_operand rs ws₁ ws₂ eb hb (d + 1) b s.2) p
+  clear_fork {ws} {ws₁} {ws₂} k q m n o ea eb ha hb p d (next a b) s = cleared_fork rs i 1 (tree_of a) 2 (tree_of b) s.3 (at_operand rs ws ws₁ ea ha d a s.1) (at_operand rs ws₁ ws₂ eb hb (d + 1) b s.2) p
+  clear_fork {ws} {ws₁} {ws₂} k q m n o ea eb ha hb p d (fail τ) s = absurd (o (q ∙ s))
+  clear_fork {ws} {ws₁} {ws₂} k q m n o ea eb ha hb p d (and a b) s = cleared_fork rs i 1 (tree_of a) 2 (tree_of b) s.3 (at_operand rs ws ws₁ ea ha d a s.1) (at_operand rs ws₁ ws₂ eb hb d b s.2) p
+  clear_fork {ws} {ws₁} {ws₂} k q m n o ea eb ha hb p d (or a b) s = cleared_fork rs i 1 (tree_of a) 2 (tree_of b) s.3 (at_operand rs ws ws₁ ea ha d a s.1) (at_operand rs ws₁ ws₂ eb hb d b s.2) p
+  clear_fork {ws} {ws₁} {ws₂} k q m n o ea eb ha hb p d (xor a b) s = cleared_fork rs i 1 (tree_of a) 2 (tree_of b) s.3 (at_operand rs ws ws₁ ea ha d a s.1) (at_operand rs ws₁ ws₂ eb hb d b s.2) p
+  clear_fork {ws} {ws₁} {ws₂} k q m n o ea eb ha hb p d (view e) s = absurd (let z = s.0 in omega arith)
+  clear_fork {ws} {ws₁} {ws₂} k q m n o ea eb ha hb p d (gate r t b) s = absurd (let z = s.0 in omega arith)
+  clear_fork {ws} {ws₁} {ws₂} k q m n o ea eb ha hb p d (if e a b) s = absurd (let z = s.0 in omega arith)
+  clear_fork {ws} {ws₁} {ws₂} k q m n o ea eb ha hb p d (let' e b) s = absurd (let z = s.0 in omega arith)
 
   -- 25
-  pub clear-if : {ws ws₁ ws₂ ws₃ : List ℕ} {b c : ℕ} → OfKind rs i (eitherK ifK) → b ≡ word rs i 2 → c ≡ word rs i 3
+  pub clear_if : {ws ws₁ ws₂ ws₃ : List ℕ} {b c : ℕ} → OfKind rs i (either_k if_k) → b ≡ word rs i 2 → c ≡ word rs i 3
       → ClearOk rs ws ws₁ b → ClearOk rs ws₁ ws₂ c → Laid ws₂ ws₃ i [] → ClearOk rs ws ws₃ i
-  clear-if {ws} {ws₁} {ws₂} {ws₃} q eb ec hb hc p d =
-      on-code rs d i (eitherK ifK) (λ c. Cleared rs ws ws₃ i (tree_of c)) q
-      (λ e a b s. cleared-fork rs i 2 (tree_of a) 3 (tree_of b) s.4 (at-operand rs ws ws₁ eb hb d a s.2) (at-operand rs ws₁ ws₂ ec hc d b s.3) p)
+  clear_if {ws} {ws₁} {ws₂} {ws₃} q eb ec hb hc p d =
+      on_code rs d i (either_k if_k) (λ c. Cleared rs ws ws₃ i (tree_of c)) q
+      (λ e a b s. cleared_fork rs i 2 (tree_of a) 3 (tree_of b) s.4 (at_operand rs ws ws₁ eb hb d a s.2) (at_operand rs ws₁ ws₂ ec hc d b s.3) p)
 
   -- 31
-  pub clear-let : {ws ws₁ ws₂ : List ℕ} {b : ℕ} → OfKind rs i (eitherK letK) → b ≡ word rs i 2 → ClearOk rs ws ws₁ b → Laid ws₁ ws₂ i [] → ClearOk rs ws ws₂ i
-  clear-let {ws} {ws₁} {ws₂} q eb hb p d =
-      on-code rs d i (eitherK letK) (λ c. Cleared rs ws ws₂ i (tree_of c)) q (λ e b s. cleared-under rs i 2 (tree_of b) s.3 (at-operand rs ws ws₁ eb hb (d + 1) b s.2) p)
+  pub clear_let : {ws ws₁ ws₂ : List ℕ} {b : ℕ} → OfKind rs i (either_k let_k) → b ≡ word rs i 2 → ClearOk rs ws ws₁ b → Laid ws₁ ws₂ i [] → ClearOk rs ws ws₂ i
+  clear_let {ws} {ws₁} {ws₂} q eb hb p d =
+      on_code rs d i (either_k let_k) (λ c. Cleared rs ws ws₂ i (tree_of c)) q (λ e b s. cleared_under rs i 2 (tree_of b) s.3 (at_operand rs ws ws₁ eb hb (d + 1) b s.2) p)
 
   -- 50
-  pub clear-gate : {ws ws₁ ws₂ : List ℕ} {b : ℕ} → OfKind rs i (taskK gateK) → b ≡ word rs i 2 → ClearOk rs ws ws₁ b → Laid ws₁ ws₂ i [] → ClearOk rs ws ws₂ i
-  clear-gate {ws} {ws₁} {ws₂} q eb hb p d =
-      on-code rs d i (taskK gateK) (λ c. Cleared rs ws ws₂ i (tree_of c)) q (λ r n b s. cleared-under rs i 2 (tree_of b) s.4 (at-operand rs ws ws₁ eb hb d b s.3) p)
+  pub clear_gate : {ws ws₁ ws₂ : List ℕ} {b : ℕ} → OfKind rs i (task_k gate_k) → b ≡ word rs i 2 → ClearOk rs ws ws₁ b → Laid ws₁ ws₂ i [] → ClearOk rs ws ws₂ i
+  clear_gate {ws} {ws₁} {ws₂} q eb hb p d =
+      on_code rs d i (task_k gate_k) (λ c. Cleared rs ws ws₂ i (tree_of c)) q (λ r n b s. cleared_under rs i 2 (tree_of b) s.4 (at_operand rs ws ws₁ eb hb d b s.3) p)
 
   -- any other
-  pub clear-leaf : {ws ws₁ : List ℕ} → (OfKind rs i (eitherK ifK) → ⊥) → (OfKind rs i (eitherK letK) → ⊥) → (OfKind rs i (taskK gateK) → ⊥) → (FromKind rs i (taskK thenK) → UpToKind rs i (taskK xorK) → (OfKind rs i (taskK failK) → ⊥) → ⊥) → Laid ws ws₁ i [] → ClearOk rs ws ws₁ i
-  clear-leaf x y w z p d (edit e) s = cleared-leaf rs i p
-  clear-leaf x y w z p d (enter τ) s = cleared-leaf rs i p
-  clear-leaf x y w z p d (update u) s = cleared-leaf rs i p
-  clear-leaf x y w z p d (then a b) s = let q = s.0 in absurd (z (omega arith) (omega arith) (λ e. omega arith))
-  clear-leaf x y w z p d (next a b) s = let q = s.0 in absurd (z (omega arith) (omega arith) (λ e. omega arith))
-  clear-leaf x y w z p d (fail τ) s = cleared-leaf rs i p
-  clear-leaf x y w z p d (and a b) s = let q = s.0 in absurd (z (omega arith) (omega arith) (λ e. omega arith))
-  clear-leaf x y w z p d (or a b) s = let q = s.0 in absurd (z (omega arith) (omega arith) (λ e. omega arith))
-  clear-leaf x y w z p d (xor a b) s = let q = s.0 in absurd (z (omega arith) (omega arith) (λ e. omega arith))
-  clear-leaf x y w z p d (view e) s = cleared-leaf rs i p
-  clear-leaf x y w z p d (gate r n b) s = absurd (w s.0)
-  clear-leaf x y w z p d (if e a b) s = absurd (x s.0)
-  clear-leaf x y w z p d (let' e b) s = absurd (y s.0)
+  pub clear_leaf : {ws ws₁ : List ℕ} → (OfKind rs i (either_k if_k) → ⊥) → (OfKind rs i (either_k let_k) → ⊥) → (OfKind rs i (task_k gate_k) → ⊥) → (FromKind rs i (task_k then_k) → UpToKind rs i (task_k xor_k) → (OfKind rs i (task_k fail_k) → ⊥) → ⊥) → Laid ws ws₁ i [] → ClearOk rs ws ws₁ i
+  clear_leaf x y w z p d (edit e) s = cleared_leaf rs i p
+  clear_leaf x y w z p d (enter τ) s = cleared_leaf rs i p
+  clear_leaf x y w z p d (update u) s = cleared_leaf rs i p
+  clear_leaf x y w z p d (then a b) s = let q = s.0 in absurd (z (omega arith) (omega arith) (λ e. omega arith))
+  clear_leaf x y w z p d (next a b) s = let q = s.0 in absurd (z (omega arith) (omega arith) (λ e. omega arith))
+  clear_leaf x y w z p d (fail τ) s = cleared_leaf rs i p
+  clear_leaf x y w z p d (and a b) s = let q = s.0 in absurd (z (omega arith) (omega arith) (λ e. omega arith))
+  clear_leaf x y w z p d (or a b) s = let q = s.0 in absurd (z (omega arith) (omega arith) (λ e. omega arith))
+  clear_leaf x y w z p d (xor a b) s = let q = s.0 in absurd (z (omega arith) (omega arith) (λ e. omega arith))
+  clear_leaf x y w z p d (view e) s = cleared_leaf rs i p
+  clear_leaf x y w z p d (gate r n b) s = absurd (w s.0)
+  clear_leaf x y w z p d (if e a b) s = absurd (x s.0)
+  clear_leaf x y w z p d (let' e b) s = absurd (y s.0)

@@ -9,35 +9,35 @@ use native.Mathlib.Decide.{ℕ_discrete}
 use native.Mathlib.Omega.{arith}
 use lib.ListN.{length, get_or, set}
 use lib.Seq.{get_or-set_same, get_or-set_other}
-use Rattle.tophat.specs.Syntax.{maxLeaves, Ty, leaves, Exp, Code, edit, enter, update, then, next, fail, and, or, xor, view, gate, if, let', Val, vunit, Env, Store}
-use Rattle.tophat.specs.Syntax.{TaskOf, filled, blank, entered, shared, before, after, failed, both, either, orLeft, orRight, unpicked, pickedLeft, pickedRight, gated, ifTrue, ifFalse, bound}
-use Rattle.tophat.specs.Typing.{ValueType, ValueTypes, v-cons, small-cons}
-use Rattle.rows.specs.Kinds.{eitherK, ifK, number_of}
+use Rattle.tophat.specs.Syntax.{max_leaves, Ty, leaves, Exp, Code, edit, enter, update, then, next, fail, and, or, xor, view, gate, if, let', Val, vunit, Env, Store}
+use Rattle.tophat.specs.Syntax.{TaskOf, filled, blank, entered, shared, before, after, failed, both, either, or_left, or_right, unpicked, picked_left, picked_right, gated, if_true, if_false, bound}
+use Rattle.tophat.specs.Typing.{ValueType, ValueTypes, v_cons, small_cons}
+use Rattle.rows.specs.Kinds.{either_k, if_k, number_of}
 use Rattle.rows.specs.Rows.{word, op_a, op_b, op_c, FromKind}
 use Rattle.value.specs.declared.Value.{Value}
-use Rattle.value.specs.Values.{asValue}
-use Rattle.state.specs.Layout.{own, valueWords}
+use Rattle.value.specs.Values.{as_value}
+use Rattle.state.specs.Layout.{own, value_words}
 use Rattle.state.specs.Holds.{Tree, leaf, under, fork, tree_of, Foot, Off, Split, Cell, Sits, Row, Clear, Holds, Stores, Same, World}
 use Rattle.state.specs.Words.{Laid, Pushed}
-use Rattle.state.proofs.Binders.{binders-push}
+use Rattle.state.proofs.Binders.{binders_push}
 
 -- ---- frames
 
 pub same_refl : {P : ℕ → Type 0} {x : List ℕ} → Same P x x
 same_refl = record { words = λ j m h n. refl }
 
-pub same-trans : {P : ℕ → Type 0} {x y z : List ℕ} → Same P x y → Same P y z → Same P x z
-same-trans p q = record { words = λ j m h n. q.words j m h n ∙ p.words j m h n }
+pub same_trans : {P : ℕ → Type 0} {x y z : List ℕ} → Same P x y → Same P y z → Same P x z
+same_trans p q = record { words = λ j m h n. q.words j m h n ∙ p.words j m h n }
 
-pub same-weak : {P Q : ℕ → Type 0} {x y : List ℕ} → ((j : ℕ) → P j → Q j) → Same P x y → Same Q x y
-same-weak f p = record { words = λ j m h n. p.words j m h (λ q. n (f j q)) }
+pub same_weak : {P Q : ℕ → Type 0} {x y : List ℕ} → ((j : ℕ) → P j → Q j) → Same P x y → Same Q x y
+same_weak f p = record { words = λ j m h n. p.words j m h (λ q. n (f j q)) }
 
 pub same_row : {P : ℕ → Type 0} {x y : List ℕ} {j : ℕ} {xs : List ℕ} → Same P x y → (P j → ⊥) → Row x j xs → Row y j xs
 same_row {j = j} p n r = record { words = λ m h. p.words j m h n ∙ r.words m h }
 
 -- a row laid is a frame of that row
 pub laid_same : {P : ℕ → Type 0} {x y : List ℕ} {i : ℕ} {xs : List ℕ} → Laid x y i xs → P i → Same P x y
-laid_same {P} p q = same-weak (λ j e. subst P (sym e) q) p.same
+laid_same {P} p q = same_weak (λ j e. subst P (sym e) q) p.same
 
 -- ---- what a frame keeps: rows in F hold what they held
 
@@ -47,20 +47,20 @@ pub record Keeps (F : ℕ → Type 0) (ws ws₁ : List ℕ) : Type 0 where
 pub keeps : {P F : ℕ → Type 0} {x y : List ℕ} → ((j : ℕ) → F j → P j → ⊥) → Same P x y → Keeps F x y
 keeps n p = record { row = λ {j} f r. same_row p (n j f) r }
 
-pub keeps-weak : {F G : ℕ → Type 0} {x y : List ℕ} → ((j : ℕ) → F j → G j) → Keeps G x y → Keeps F x y
-keeps-weak h k = record { row = λ {j} f r. k.row (h j f) r }
+pub keeps_weak : {F G : ℕ → Type 0} {x y : List ℕ} → ((j : ℕ) → F j → G j) → Keeps G x y → Keeps F x y
+keeps_weak h k = record { row = λ {j} f r. k.row (h j f) r }
 
-pub keeps-laid : {F : ℕ → Type 0} {x y : List ℕ} {i : ℕ} {xs : List ℕ} → ((j : ℕ) → F j → j ≡ i → ⊥) → Laid x y i xs → Keeps F x y
-keeps-laid n p = keeps n p.same
+pub keeps_laid : {F : ℕ → Type 0} {x y : List ℕ} {i : ℕ} {xs : List ℕ} → ((j : ℕ) → F j → j ≡ i → ⊥) → Laid x y i xs → Keeps F x y
+keeps_laid n p = keeps n p.same
 
 pub clear_kept : {rs : List ℕ} {i : ℕ} {a : Tree} {x y : List ℕ} → Clear rs x i a → Keeps (Foot rs i a) x y → Clear rs y i a
 clear_kept h k = record { dead = λ j f. k.row f (h.dead j f) }
 
 in_a : {I A B : ℕ → Type 0} {x y : List ℕ} → Keeps (λ j. I j ⊎ (A j ⊎ B j)) x y → Keeps A x y
-in_a k = keeps-weak (λ j f. inr (inl f)) k
+in_a k = keeps_weak (λ j f. inr (inl f)) k
 
 in_b : {I A B : ℕ → Type 0} {x y : List ℕ} → Keeps (λ j. I j ⊎ (A j ⊎ B j)) x y → Keeps B x y
-in_b k = keeps-weak (λ j f. inr (inr f)) k
+in_b k = keeps_weak (λ j f. inr (inr f)) k
 
 pub holds_kept : (rs x y : List ℕ) (i : ℕ) (c : Code) (t : TaskOf c) → Holds rs x i c t → Keeps (Foot rs i (tree_of c)) x y → Holds rs y i c t
 holds_kept rs x y i (edit e) (filled v) h k = k.row refl h
@@ -74,45 +74,45 @@ holds_kept rs x y i (next a b) (after v u) h k = (k.row (inl refl) h.0, clear_ke
 holds_kept rs x y i (fail τ) failed h k = k.row refl h
 holds_kept rs x y i (and a b) (both t u) h k = (k.row (inl refl) h.0, holds_kept rs x y (op_a rs i) a t h.1 (in_a k), holds_kept rs x y (op_b rs i) b u h.2 (in_b k))
 holds_kept rs x y i (or a b) (either t u) h k = (k.row (inl refl) h.0, holds_kept rs x y (op_a rs i) a t h.1 (in_a k), holds_kept rs x y (op_b rs i) b u h.2 (in_b k))
-holds_kept rs x y i (or a b) (orLeft t) h k = (k.row (inl refl) h.0, holds_kept rs x y (op_a rs i) a t h.1 (in_a k), clear_kept h.2 (in_b k))
-holds_kept rs x y i (or a b) (orRight u) h k = (k.row (inl refl) h.0, clear_kept h.1 (in_a k), holds_kept rs x y (op_b rs i) b u h.2 (in_b k))
+holds_kept rs x y i (or a b) (or_left t) h k = (k.row (inl refl) h.0, holds_kept rs x y (op_a rs i) a t h.1 (in_a k), clear_kept h.2 (in_b k))
+holds_kept rs x y i (or a b) (or_right u) h k = (k.row (inl refl) h.0, clear_kept h.1 (in_a k), holds_kept rs x y (op_b rs i) b u h.2 (in_b k))
 holds_kept rs x y i (xor a b) unpicked h k = (k.row (inl refl) h.0, clear_kept h.1 (in_a k), clear_kept h.2 (in_b k))
-holds_kept rs x y i (xor a b) (pickedLeft t) h k = (k.row (inl refl) h.0, holds_kept rs x y (op_a rs i) a t h.1 (in_a k), clear_kept h.2 (in_b k))
-holds_kept rs x y i (xor a b) (pickedRight u) h k = (k.row (inl refl) h.0, clear_kept h.1 (in_a k), holds_kept rs x y (op_b rs i) b u h.2 (in_b k))
+holds_kept rs x y i (xor a b) (picked_left t) h k = (k.row (inl refl) h.0, holds_kept rs x y (op_a rs i) a t h.1 (in_a k), clear_kept h.2 (in_b k))
+holds_kept rs x y i (xor a b) (picked_right u) h k = (k.row (inl refl) h.0, clear_kept h.1 (in_a k), holds_kept rs x y (op_b rs i) b u h.2 (in_b k))
 holds_kept rs x y i (view e) (filled v) h k = k.row refl h
-holds_kept rs x y i (gate r n b) (gated m u) h k = (k.row (inl refl) h.0, holds_kept rs x y (op_b rs i) b u h.1 (keeps-weak (λ j f. inr f) k))
-holds_kept rs x y i (if e a b) (ifTrue t) h k = (k.row (inl refl) h.0, holds_kept rs x y (op_b rs i) a t h.1 (in_a k), clear_kept h.2 (in_b k))
-holds_kept rs x y i (if e a b) (ifFalse u) h k = (k.row (inl refl) h.0, clear_kept h.1 (in_a k), holds_kept rs x y (op_c rs i) b u h.2 (in_b k))
-holds_kept rs x y i (let' e b) (bound v u) h k = (k.row (inl refl) h.0, holds_kept rs x y (op_b rs i) b u h.1 (keeps-weak (λ j f. inr f) k))
+holds_kept rs x y i (gate r n b) (gated m u) h k = (k.row (inl refl) h.0, holds_kept rs x y (op_b rs i) b u h.1 (keeps_weak (λ j f. inr f) k))
+holds_kept rs x y i (if e a b) (if_true t) h k = (k.row (inl refl) h.0, holds_kept rs x y (op_b rs i) a t h.1 (in_a k), clear_kept h.2 (in_b k))
+holds_kept rs x y i (if e a b) (if_false u) h k = (k.row (inl refl) h.0, clear_kept h.1 (in_a k), holds_kept rs x y (op_c rs i) b u h.2 (in_b k))
+holds_kept rs x y i (let' e b) (bound v u) h k = (k.row (inl refl) h.0, holds_kept rs x y (op_b rs i) b u h.1 (keeps_weak (λ j f. inr f) k))
 
 -- ---- stores
 
-pub stores-kept : {P : ℕ → Type 0} {rs x y : List ℕ} {s : Store} → Stores rs x s → ((j : ℕ) → Cell rs j → P j → ⊥) → Same P x y → Stores rs y s
-stores-kept h n p = record { cells = λ j k. same_row p (n j k) (h.cells j k) }
+pub stores_kept : {P : ℕ → Type 0} {rs x y : List ℕ} {s : Store} → Stores rs x s → ((j : ℕ) → Cell rs j → P j → ⊥) → Same P x y → Stores rs y s
+stores_kept h n p = record { cells = λ j k. same_row p (n j k) (h.cells j k) }
 
 -- a row that is no cell is laid
-pub stores-laid : {rs x y : List ℕ} {s : Store} {i : ℕ} {xs : List ℕ} → Stores rs x s → (Cell rs i → ⊥) → Laid x y i xs → Stores rs y s
-stores-laid {rs} h n p = stores-kept h (λ j k e. n (subst (Cell rs) e k)) p.same
+pub stores_laid : {rs x y : List ℕ} {s : Store} {i : ℕ} {xs : List ℕ} → Stores rs x s → (Cell rs i → ⊥) → Laid x y i xs → Stores rs y s
+stores_laid {rs} h n p = stores_kept h (λ j k e. n (subst (Cell rs) e k)) p.same
 
 -- a cell is written
-pub stores-set : {rs x y : List ℕ} (s : Store) (k : ℕ) (v : Val) → Stores rs x s → Laid x y k (own ∷ valueWords v) → k < length s → Stores rs y (set s k v)
-stores-set {rs} {x} {y} s k v h p l = record { cells = λ j c. cell j c (ℕ_discrete j k) }
+pub stores_set : {rs x y : List ℕ} (s : Store) (k : ℕ) (v : Val) → Stores rs x s → Laid x y k (own ∷ value_words v) → k < length s → Stores rs y (set s k v)
+stores_set {rs} {x} {y} s k v h p l = record { cells = λ j c. cell j c (ℕ_discrete j k) }
   where
-    cell : (j : ℕ) → Cell rs j → Dec (j ≡ k) → Row y j (own ∷ valueWords (get_or (set s k v) j vunit))
+    cell : (j : ℕ) → Cell rs j → Dec (j ≡ k) → Row y j (own ∷ value_words (get_or (set s k v) j vunit))
     cell j c (yes e) =
-        subst (λ u. Row y j (own ∷ valueWords u)) (sym (ap (λ m. get_or (set s k v) m vunit) e ∙ get_or-set_same s k v vunit l))
-        (subst (λ m. Row y m (own ∷ valueWords v)) (sym e) p.row)
-    cell j c (no n) = subst (λ u. Row y j (own ∷ valueWords u)) (sym (get_or-set_other s k j v vunit n)) (same_row p.same n (h.cells j c))
+        subst (λ u. Row y j (own ∷ value_words u)) (sym (ap (λ m. get_or (set s k v) m vunit) e ∙ get_or-set_same s k v vunit l))
+        (subst (λ m. Row y m (own ∷ value_words v)) (sym e) p.row)
+    cell j c (no n) = subst (λ u. Row y j (own ∷ value_words u)) (sym (get_or-set_other s k j v vunit n)) (same_row p.same n (h.cells j c))
 
 -- ---- trees: where the rows of a task stand, of whatever kinds
 
 -- no row of a task is a cell, and the rows below are apart
 abbrev pub Placed : List ℕ → ℕ → Tree → Type 0
-Placed rs i leaf = FromKind rs i (eitherK ifK)
-Placed rs i (under k x) = FromKind rs i (eitherK ifK) × Placed rs (word rs i k) x × Off rs i k x
-Placed rs i (fork k x l y) = FromKind rs i (eitherK ifK) × Placed rs (word rs i k) x × Placed rs (word rs i l) y × Split rs i k x l y
+Placed rs i leaf = FromKind rs i (either_k if_k)
+Placed rs i (under k x) = FromKind rs i (either_k if_k) × Placed rs (word rs i k) x × Off rs i k x
+Placed rs i (fork k x l y) = FromKind rs i (either_k if_k) × Placed rs (word rs i k) x × Placed rs (word rs i l) y × Split rs i k x l y
 
-high : {k n : ℕ} → k ≡ n → number_of (eitherK ifK) ≤ n → number_of (eitherK ifK) ≤ k
+high : {k n : ℕ} → k ≡ n → number_of (either_k if_k) ≤ n → number_of (either_k if_k) ≤ k
 high e h = omega arith
 
 pub placed : (rs : List ℕ) (d i : ℕ) (c : Code) → Sits rs d i c → Placed rs i (tree_of c)
@@ -130,25 +130,25 @@ placed rs d i (gate r n b) s = (high s.0 (omega arith), placed rs d (op_b rs i) 
 placed rs d i (if e a b) s = (high s.0 (omega arith), placed rs d (op_b rs i) a s.2, placed rs d (op_c rs i) b s.3, s.4)
 placed rs d i (let' e b) s = (high s.0 (omega arith), placed rs (d + 1) (op_b rs i) b s.2, s.3)
 
-pub foot-self : (rs : List ℕ) (i : ℕ) (x : Tree) → Foot rs i x i
-foot-self rs i leaf = refl
-foot-self rs i (under k x) = inl refl
-foot-self rs i (fork k x l y) = inl refl
+pub foot_self : (rs : List ℕ) (i : ℕ) (x : Tree) → Foot rs i x i
+foot_self rs i leaf = refl
+foot_self rs i (under k x) = inl refl
+foot_self rs i (fork k x l y) = inl refl
 
-at_row : (rs : List ℕ) (i j : ℕ) → FromKind rs i (eitherK ifK) → j ≡ i → FromKind rs j (eitherK ifK)
-at_row rs i j h e = subst (λ j. FromKind rs j (eitherK ifK)) (sym e) h
+at_row : (rs : List ℕ) (i j : ℕ) → FromKind rs i (either_k if_k) → j ≡ i → FromKind rs j (either_k if_k)
+at_row rs i j h e = subst (λ j. FromKind rs j (either_k if_k)) (sym e) h
 
-pub foot-high : (rs : List ℕ) (i : ℕ) (x : Tree) → Placed rs i x → (j : ℕ) → Foot rs i x j → FromKind rs j (eitherK ifK)
-foot-high rs i leaf p j f = at_row rs i j p f
-foot-high rs i (under k x) p j f = ⊎_elim (at_row rs i j p.0) (foot-high rs (word rs i k) x p.1 j) f
-foot-high rs i (fork k x l y) p j f = ⊎_elim (at_row rs i j p.0) (⊎_elim (foot-high rs (word rs i k) x p.1 j) (foot-high rs (word rs i l) y p.2 j)) f
+pub foot_high : (rs : List ℕ) (i : ℕ) (x : Tree) → Placed rs i x → (j : ℕ) → Foot rs i x j → FromKind rs j (either_k if_k)
+foot_high rs i leaf p j f = at_row rs i j p f
+foot_high rs i (under k x) p j f = ⊎_elim (at_row rs i j p.0) (foot_high rs (word rs i k) x p.1 j) f
+foot_high rs i (fork k x l y) p j f = ⊎_elim (at_row rs i j p.0) (⊎_elim (foot_high rs (word rs i k) x p.1 j) (foot_high rs (word rs i l) y p.2 j)) f
 
 -- a task's row is no cell
-pub foot-no-cell : (rs : List ℕ) (i : ℕ) (x : Tree) → Placed rs i x → (j : ℕ) → Cell rs j → Foot rs i x j → ⊥
-foot-no-cell rs i x p j k f = let h = foot-high rs i x p j f in omega arith
+pub foot_no_cell : (rs : List ℕ) (i : ℕ) (x : Tree) → Placed rs i x → (j : ℕ) → Cell rs j → Foot rs i x j → ⊥
+foot_no_cell rs i x p j k f = let h = foot_high rs i x p j f in omega arith
 
-pub foot-cell : (rs : List ℕ) (d i : ℕ) (c : Code) → Sits rs d i c → (j : ℕ) → Cell rs j → Foot rs i (tree_of c) j → ⊥
-foot-cell rs d i c s = foot-no-cell rs i (tree_of c) (placed rs d i c s)
+pub foot_cell : (rs : List ℕ) (d i : ℕ) (c : Code) → Sits rs d i c → (j : ℕ) → Cell rs j → Foot rs i (tree_of c) j → ⊥
+foot_cell rs d i c s = foot_no_cell rs i (tree_of c) (placed rs d i c s)
 
 -- the rows of a tree, and the cells: what a task may change
 abbrev pub Reach : List ℕ → ℕ → Tree → ℕ → Type 0
@@ -157,47 +157,47 @@ Reach rs i x j = Foot rs i x j ⊎ Cell rs j
 -- a row and the two trees below it: A at operand k, B at operand l
 pub record Kids (rs : List ℕ) (i k : ℕ) (x : Tree) (l : ℕ) (y : Tree) : Type 0 where
   -- rows of A and B are not row i
-  pub offA : (j : ℕ) → Foot rs (word rs i k) x j → j ≡ i → ⊥
-  pub offB : (j : ℕ) → Foot rs (word rs i l) y j → j ≡ i → ⊥
+  pub off_a : (j : ℕ) → Foot rs (word rs i k) x j → j ≡ i → ⊥
+  pub off_b : (j : ℕ) → Foot rs (word rs i l) y j → j ≡ i → ⊥
   -- nor each other's
-  pub footA : (j : ℕ) → Foot rs (word rs i k) x j → Foot rs (word rs i l) y j → ⊥
-  pub footB : (j : ℕ) → Foot rs (word rs i l) y j → Foot rs (word rs i k) x j → ⊥
+  pub foot_a : (j : ℕ) → Foot rs (word rs i k) x j → Foot rs (word rs i l) y j → ⊥
+  pub foot_b : (j : ℕ) → Foot rs (word rs i l) y j → Foot rs (word rs i k) x j → ⊥
   -- A is out of B's reach, B out of A's, row i out of both
-  pub bA : (j : ℕ) → Foot rs (word rs i k) x j → Reach rs (word rs i l) y j → ⊥
-  pub aB : (j : ℕ) → Foot rs (word rs i l) y j → Reach rs (word rs i k) x j → ⊥
-  pub iA : Reach rs (word rs i k) x i → ⊥
-  pub iB : Reach rs (word rs i l) y i → ⊥
+  pub b_a : (j : ℕ) → Foot rs (word rs i k) x j → Reach rs (word rs i l) y j → ⊥
+  pub a_b : (j : ℕ) → Foot rs (word rs i l) y j → Reach rs (word rs i k) x j → ⊥
+  pub i_a : Reach rs (word rs i k) x i → ⊥
+  pub i_b : Reach rs (word rs i l) y i → ⊥
   -- none is a cell
   pub cell_a : (j : ℕ) → Cell rs j → Foot rs (word rs i k) x j → ⊥
-  pub cellB : (j : ℕ) → Cell rs j → Foot rs (word rs i l) y j → ⊥
-  pub cellI : Cell rs i → ⊥
+  pub cell_b : (j : ℕ) → Cell rs j → Foot rs (word rs i l) y j → ⊥
+  pub cell_i : Cell rs i → ⊥
   -- each is within the whole's reach
-  pub upA : (j : ℕ) → Reach rs (word rs i k) x j → Reach rs i (fork k x l y) j
-  pub upB : (j : ℕ) → Reach rs (word rs i l) y j → Reach rs i (fork k x l y) j
-  pub upI : Reach rs i (fork k x l y) i
+  pub up_a : (j : ℕ) → Reach rs (word rs i k) x j → Reach rs i (fork k x l y) j
+  pub up_b : (j : ℕ) → Reach rs (word rs i l) y j → Reach rs i (fork k x l y) j
+  pub up_i : Reach rs i (fork k x l y) i
   pub up_c : (j : ℕ) → Cell rs j → Reach rs i (fork k x l y) j
 
 pub kids : (rs : List ℕ) (i k : ℕ) (x : Tree) (l : ℕ) (y : Tree) → Placed rs i (fork k x l y) → Kids rs i k x l y
 kids rs i k x l y p =
     let s = p.3 in
     let no_cell : Cell rs i → ⊥ = (λ c. let h = p.0 in omega arith) in
-    let cA = foot-no-cell rs (word rs i k) x p.1 in
-    let cB = foot-no-cell rs (word rs i l) y p.2 in
+    let c_a = foot_no_cell rs (word rs i k) x p.1 in
+    let c_b = foot_no_cell rs (word rs i l) y p.2 in
     record {
-      offA = s.offA;
-      offB = s.offB;
-      footA = s.apart;
-      footB = λ j f g. s.apart j g f;
-      bA = λ j f. ⊎_elim (λ g. s.apart j f g) (λ c. cA j c f);
-      aB = λ j f. ⊎_elim (λ g. s.apart j g f) (λ c. cB j c f);
-      iA = ⊎_elim (λ f. s.offA i f refl) no_cell;
-      iB = ⊎_elim (λ f. s.offB i f refl) no_cell;
-      cell_a = cA;
-      cellB = cB;
-      cellI = no_cell;
-      upA = λ j. ⊎_elim (λ f. inl (inr (inl f))) inr;
-      upB = λ j. ⊎_elim (λ f. inl (inr (inr f))) inr;
-      upI = inl (inl refl);
+      off_a = s.off_a;
+      off_b = s.off_b;
+      foot_a = s.apart;
+      foot_b = λ j f g. s.apart j g f;
+      b_a = λ j f. ⊎_elim (λ g. s.apart j f g) (λ c. c_a j c f);
+      a_b = λ j f. ⊎_elim (λ g. s.apart j g f) (λ c. c_b j c f);
+      i_a = ⊎_elim (λ f. s.off_a i f refl) no_cell;
+      i_b = ⊎_elim (λ f. s.off_b i f refl) no_cell;
+      cell_a = c_a;
+      cell_b = c_b;
+      cell_i = no_cell;
+      up_a = λ j. ⊎_elim (λ f. inl (inr (inl f))) inr;
+      up_b = λ j. ⊎_elim (λ f. inl (inr (inr f))) inr;
+      up_i = inl (inl refl);
       up_c = λ j c. inr c;
     }
 
@@ -205,10 +205,10 @@ kids rs i k x l y p =
 pub record Kid (rs : List ℕ) (i k : ℕ) (x : Tree) : Type 0 where
   pub off : (j : ℕ) → Foot rs (word rs i k) x j → j ≡ i → ⊥
   pub out : Reach rs (word rs i k) x i → ⊥
-  pub cellB : (j : ℕ) → Cell rs j → Foot rs (word rs i k) x j → ⊥
-  pub cellI : Cell rs i → ⊥
-  pub upB : (j : ℕ) → Reach rs (word rs i k) x j → Reach rs i (under k x) j
-  pub upI : Reach rs i (under k x) i
+  pub cell_b : (j : ℕ) → Cell rs j → Foot rs (word rs i k) x j → ⊥
+  pub cell_i : Cell rs i → ⊥
+  pub up_b : (j : ℕ) → Reach rs (word rs i k) x j → Reach rs i (under k x) j
+  pub up_i : Reach rs i (under k x) i
   pub up_c : (j : ℕ) → Cell rs j → Reach rs i (under k x) j
 
 pub kid : (rs : List ℕ) (i k : ℕ) (x : Tree) → Placed rs i (under k x) → Kid rs i k x
@@ -217,53 +217,53 @@ kid rs i k x p =
     record {
       off = p.2.off;
       out = ⊎_elim (λ f. p.2.off i f refl) no_cell;
-      cellB = foot-no-cell rs (word rs i k) x p.1;
-      cellI = no_cell;
-      upB = λ j. ⊎_elim (λ f. inl (inr f)) inr;
-      upI = inl (inl refl);
+      cell_b = foot_no_cell rs (word rs i k) x p.1;
+      cell_i = no_cell;
+      up_b = λ j. ⊎_elim (λ f. inl (inr f)) inr;
+      up_i = inl (inl refl);
       up_c = λ j c. inr c;
     }
 
 -- of each kind with rows below it
 module _ (rs : List ℕ) (d i : ℕ) where
-  pub kids-then : (a b : Code) → Sits rs d i (then a b) → Kids rs i 1 (tree_of a) 2 (tree_of b)
-  kids-then a b s = kids rs i 1 (tree_of a) 2 (tree_of b) (placed rs d i (then a b) s)
+  pub kids_then : (a b : Code) → Sits rs d i (then a b) → Kids rs i 1 (tree_of a) 2 (tree_of b)
+  kids_then a b s = kids rs i 1 (tree_of a) 2 (tree_of b) (placed rs d i (then a b) s)
 
-  pub kids-next : (a b : Code) → Sits rs d i (next a b) → Kids rs i 1 (tree_of a) 2 (tree_of b)
-  kids-next a b s = kids rs i 1 (tree_of a) 2 (tree_of b) (placed rs d i (next a b) s)
+  pub kids_next : (a b : Code) → Sits rs d i (next a b) → Kids rs i 1 (tree_of a) 2 (tree_of b)
+  kids_next a b s = kids rs i 1 (tree_of a) 2 (tree_of b) (placed rs d i (next a b) s)
 
-  pub kids-and : (a b : Code) → Sits rs d i (and a b) → Kids rs i 1 (tree_of a) 2 (tree_of b)
-  kids-and a b s = kids rs i 1 (tree_of a) 2 (tree_of b) (placed rs d i (and a b) s)
+  pub kids_and : (a b : Code) → Sits rs d i (and a b) → Kids rs i 1 (tree_of a) 2 (tree_of b)
+  kids_and a b s = kids rs i 1 (tree_of a) 2 (tree_of b) (placed rs d i (and a b) s)
 
-  pub kids-or : (a b : Code) → Sits rs d i (or a b) → Kids rs i 1 (tree_of a) 2 (tree_of b)
-  kids-or a b s = kids rs i 1 (tree_of a) 2 (tree_of b) (placed rs d i (or a b) s)
+  pub kids_or : (a b : Code) → Sits rs d i (or a b) → Kids rs i 1 (tree_of a) 2 (tree_of b)
+  kids_or a b s = kids rs i 1 (tree_of a) 2 (tree_of b) (placed rs d i (or a b) s)
 
-  pub kids-xor : (a b : Code) → Sits rs d i (xor a b) → Kids rs i 1 (tree_of a) 2 (tree_of b)
-  kids-xor a b s = kids rs i 1 (tree_of a) 2 (tree_of b) (placed rs d i (xor a b) s)
+  pub kids_xor : (a b : Code) → Sits rs d i (xor a b) → Kids rs i 1 (tree_of a) 2 (tree_of b)
+  kids_xor a b s = kids rs i 1 (tree_of a) 2 (tree_of b) (placed rs d i (xor a b) s)
 
-  pub kids-if : (e : Exp) (a b : Code) → Sits rs d i (if e a b) → Kids rs i 2 (tree_of a) 3 (tree_of b)
-  kids-if e a b s = kids rs i 2 (tree_of a) 3 (tree_of b) (placed rs d i (if e a b) s)
+  pub kids_if : (e : Exp) (a b : Code) → Sits rs d i (if e a b) → Kids rs i 2 (tree_of a) 3 (tree_of b)
+  kids_if e a b s = kids rs i 2 (tree_of a) 3 (tree_of b) (placed rs d i (if e a b) s)
 
-  pub kid-let : (e : Exp) (b : Code) → Sits rs d i (let' e b) → Kid rs i 2 (tree_of b)
-  kid-let e b s = kid rs i 2 (tree_of b) (placed rs d i (let' e b) s)
+  pub kid_let : (e : Exp) (b : Code) → Sits rs d i (let' e b) → Kid rs i 2 (tree_of b)
+  kid_let e b s = kid rs i 2 (tree_of b) (placed rs d i (let' e b) s)
 
-  pub kid-gate : (r n : ℕ) (b : Code) → Sits rs d i (gate r n b) → Kid rs i 2 (tree_of b)
-  kid-gate r n b s = kid rs i 2 (tree_of b) (placed rs d i (gate r n b) s)
+  pub kid_gate : (r n : ℕ) (b : Code) → Sits rs d i (gate r n b) → Kid rs i 2 (tree_of b)
+  kid_gate r n b s = kid rs i 2 (tree_of b) (placed rs d i (gate r n b) s)
 
 -- ---- worlds
 
 -- the world after a call that left the words y and the store s₁
-pub world-after : {rs x y env : List ℕ} {d : ℕ} {Σ Γ : List Ty} {s s₁ : Store} {ρ : Env} → World rs x env d Σ Γ s ρ → Stores rs y s₁ → ValueTypes s₁ Σ → World rs y env d Σ Γ s₁ ρ
-world-after w h t = record { stores = h; binders = w.binders; storeTyped = t; bindersTyped = w.bindersTyped; storeSmall = w.storeSmall; bindersSmall = w.bindersSmall }
+pub world_after : {rs x y env : List ℕ} {d : ℕ} {Σ Γ : List Ty} {s s₁ : Store} {ρ : Env} → World rs x env d Σ Γ s ρ → Stores rs y s₁ → ValueTypes s₁ Σ → World rs y env d Σ Γ s₁ ρ
+world_after w h t = record { stores = h; binders = w.binders; store_typed = t; binders_typed = w.binders_typed; store_small = w.store_small; binders_small = w.binders_small }
 
 -- the world under one more binder
-pub world-push : {rs x env env₁ : List ℕ} {d : ℕ} {Σ Γ : List Ty} {s : Store} {ρ : Env} {v : Value} (u : Val) {τ : Ty}
-    → World rs x env d Σ Γ s ρ → Pushed env env₁ d v → v ≡ asValue u → ValueType u τ → leaves τ ≤ maxLeaves → World rs x env₁ (d + 1) Σ (τ ∷ Γ) s (u ∷ ρ)
-world-push u w p e t l = record {
+pub world_push : {rs x env env₁ : List ℕ} {d : ℕ} {Σ Γ : List Ty} {s : Store} {ρ : Env} {v : Value} (u : Val) {τ : Ty}
+    → World rs x env d Σ Γ s ρ → Pushed env env₁ d v → v ≡ as_value u → ValueType u τ → leaves τ ≤ max_leaves → World rs x env₁ (d + 1) Σ (τ ∷ Γ) s (u ∷ ρ)
+world_push u w p e t l = record {
   stores = w.stores;
-  binders = binders-push w.binders p e;
-  storeTyped = w.storeTyped;
-  bindersTyped = v-cons t w.bindersTyped;
-  storeSmall = w.storeSmall;
-  bindersSmall = small-cons l w.bindersSmall;
+  binders = binders_push w.binders p e;
+  store_typed = w.store_typed;
+  binders_typed = v_cons t w.binders_typed;
+  store_small = w.store_small;
+  binders_small = small_cons l w.binders_small;
 }

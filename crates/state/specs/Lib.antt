@@ -3,5 +3,5 @@ pub mod Lent
 pub mod Holds
 pub mod Writing
 pub mod Words
-pub mod Contracts
+pub mod Ensured
 pub mod Reading

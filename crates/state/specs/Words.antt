@@ -3,11 +3,11 @@
 -- For contracts only: tied to Holds by the proofs of the engine's functions.
 use Rattle.std.specs.Prelude.{◌≡◌, cond, List, ◌∷◌, ℕ, suc, ◌-◌, ◌<◌, ltb, get_or}
 use Rattle.word.specs.Tabulate.{tabulate}
-use Rattle.tophat.specs.Syntax.{maxLeaves}
+use Rattle.tophat.specs.Syntax.{max_leaves}
 use Rattle.value.specs.declared.Value.{Value}
-use Rattle.value.specs.Values.{noValue}
+use Rattle.value.specs.Values.{no_value}
 use Rattle.state.specs.Layout.{at}
-use Rattle.state.specs.Holds.{valueLength, slot, Row, Same}
+use Rattle.state.specs.Holds.{value_length, slot, Row, Same}
 
 -- the words of a value as the engine passes it
 abbrev pub words_of : Value → List ℕ
@@ -19,18 +19,18 @@ pub record Laid (ws ws₁ : List ℕ) (i : ℕ) (xs : List ℕ) : Type 0 where
   pub same : Same (λ j. j ≡ i) ws ws₁
 
 -- the value whose words are f's
-abbrev pub valueBy : (ℕ → ℕ) → Value
-valueBy f = record { shape = f 0; leaves = tabulate maxLeaves λ i. f (suc i) }
+abbrev pub value_by : (ℕ → ℕ) → Value
+value_by f = record { shape = f 0; leaves = tabulate max_leaves λ i. f (suc i) }
 
 -- the value that row i holds
 abbrev pub value_at : List ℕ → ℕ → Value
-value_at ws i = valueBy (λ m. at ws i (suc m))
+value_at ws i = value_by (λ m. at ws i (suc m))
 
 -- the value of binder k, counted outward from depth d
-abbrev pub binderAt : List ℕ → ℕ → ℕ → Value
-binderAt env d k = cond (ltb k d) (valueBy (slot env (d - 1 - k))) noValue
+abbrev pub binder_at : List ℕ → ℕ → ℕ → Value
+binder_at env d k = cond (ltb k d) (value_by (slot env (d - 1 - k))) no_value
 
 -- env₁ is env but for slot d, which holds v
 pub record Pushed (env env₁ : List ℕ) (d : ℕ) (v : Value) : Type 0 where
-  pub value : (m : ℕ) → m < valueLength → slot env₁ d m ≡ get_or (words_of v) m 0
-  pub rest : (k m : ℕ) → (k ≡ d → ⊥) → m < valueLength → slot env₁ k m ≡ slot env k m
+  pub value : (m : ℕ) → m < value_length → slot env₁ d m ≡ get_or (words_of v) m 0
+  pub rest : (k m : ℕ) → (k ≡ d → ⊥) → m < value_length → slot env₁ k m ≡ slot env k m

@@ -1,6 +1,6 @@
 -- Words that are the writing of a state (01: "one writing per state"): proofs/Encode has that there is one for each state, and that it
 -- is `encode`'s. Rests on Holds.
--- For contracts only: tied to Layout's `encode` by `encode-writing` and `writing-one` (proofs/Encode), to `encodeFailed` by proofs/Failed.
+-- For contracts only: tied to Layout's `encode` by `encode_writing` and `writing_one` (proofs/Encode), to `encode_failed` by proofs/Failed.
 use Rattle.std.specs.Prelude.{◌≡◌, List, [], ◌∷◌, ℕ}
 use Rattle.tophat.specs.Syntax.{Code, TaskOf, Store}
 use Rattle.state.specs.Layout.{whole}

@@ -3,12 +3,12 @@
 pub mod lent; // a state in and out of lent memory
 
 ghost use Rattle.std.specs.Prelude.{◌≡◌, [], ◌∷◌, ◌<◌, ◌≤◌, length, get_or, set};
-ghost use Rattle.rows.specs.Rows.{maxRows, word};
-ghost use Rattle.rows.specs.Enclosing.{maxBinders};
-ghost use Rattle.state.specs.Layout.{stateWords, place, at, own, touchWords};
-ghost use Rattle.state.specs.Holds.{valueLength, slotPlace, slot};
-ghost use Rattle.state.specs.Words.{words_of, Laid, value_at, binderAt, Pushed};
-ghost use Rattle.state.specs.Contracts.{Fine, ClearOk};
+ghost use Rattle.rows.specs.Rows.{max_rows, word};
+ghost use Rattle.rows.specs.Enclosing.{max_binders};
+ghost use Rattle.state.specs.Layout.{state_words, place, at, own, touch_words};
+ghost use Rattle.state.specs.Holds.{value_length, slot_place, slot};
+ghost use Rattle.state.specs.Words.{words_of, Laid, value_at, binder_at, Pushed};
+ghost use Rattle.state.specs.Ensured.{Fine, ClearOk};
 
 use rows::{MAX_BINDERS, MAX_ROWS, ROW_WORDS, ROWS_WORDS, get, operand};
 use tophat::{MAX_LEAVES, NUMBER};
@@ -42,7 +42,7 @@ pub const WHOLE: u32 = 4;
 
 // Word m of a state row.
 pub fn read(state: &[u32; STATE_SIZE], row: usize, m: usize) -> u32
-    requires { (row < maxRows) × (m < stateWords) }
+    requires { (row < max_rows) × (m < state_words) }
     ensures { result ≡ at state.now row m }
 {
     state[row * STATE_WORDS + m]
@@ -59,7 +59,7 @@ fn store(to: &mut [u32], at: usize, x: u32)
 
 // Word m of a state row becomes x.
 fn put(state: &mut [u32; STATE_SIZE], row: usize, m: usize, x: u32)
-    requires { (row < maxRows) × (m < stateWords) }
+    requires { (row < max_rows) × (m < state_words) }
     ensures state_after { state.new ≡ set state.old (place row m) x }
     ensures m_after { at state.new row m ≡ x }
 {
@@ -68,7 +68,7 @@ fn put(state: &mut [u32; STATE_SIZE], row: usize, m: usize, x: u32)
 
 // The row is no longer live.
 pub fn clear_row(state: &mut [u32; STATE_SIZE], row: usize)
-    requires { row < maxRows }
+    requires { row < max_rows }
     ensures { Laid state.old state.new row [] }
 {
     for m in 0..STATE_WORDS {
@@ -78,7 +78,7 @@ pub fn clear_row(state: &mut [u32; STATE_SIZE], row: usize)
 
 // The row is live, with its tag and nothing else.
 pub fn put_tag(state: &mut [u32; STATE_SIZE], row: usize, tag: u32)
-    requires { row < maxRows }
+    requires { row < max_rows }
     ensures { Laid state.old state.new row (tag ∷ []) }
 {
     clear_row(state, row);
@@ -87,7 +87,7 @@ pub fn put_tag(state: &mut [u32; STATE_SIZE], row: usize, tag: u32)
 
 // The row is live, and holds a value.
 pub fn put_value(state: &mut [u32; STATE_SIZE], row: usize, tag: u32, v: Value)
-    requires { row < maxRows }
+    requires { row < max_rows }
     ensures { Laid state.old state.new row (tag ∷ words_of v) }
 {
     let leaves = v.leaves;
@@ -100,8 +100,8 @@ pub fn put_value(state: &mut [u32; STATE_SIZE], row: usize, tag: u32, v: Value)
 
 // The row is live, and holds the touches that a row of kind 50 has left (CR 6).
 pub fn put_touches(state: &mut [u32; STATE_SIZE], row: usize, touches: u32)
-    requires { row < maxRows }
-    ensures { Laid state.old state.new row (own ∷ touchWords touches) }
+    requires { row < max_rows }
+    ensures { Laid state.old state.new row (own ∷ touch_words touches) }
 {
     put_tag(state, row, OWN);
     put(state, row, SHAPE, NUMBER);
@@ -110,7 +110,7 @@ pub fn put_touches(state: &mut [u32; STATE_SIZE], row: usize, touches: u32)
 
 // Those touches.
 pub fn read_touches(state: &[u32; STATE_SIZE], row: usize) -> u32
-    requires { row < maxRows }
+    requires { row < max_rows }
     ensures { result ≡ at state.now row 2 }
 {
     read(state, row, LEAVES)
@@ -118,7 +118,7 @@ pub fn read_touches(state: &[u32; STATE_SIZE], row: usize) -> u32
 
 // The value that the row holds.
 pub fn read_value(state: &[u32; STATE_SIZE], row: usize) -> Value
-    requires { row < maxRows }
+    requires { row < max_rows }
     ensures { result ≡ value_at state.now row }
 {
     let shape = read(state, row, SHAPE);
@@ -134,7 +134,7 @@ pub fn read_value(state: &[u32; STATE_SIZE], row: usize) -> Value
 
 // Word m of the value of the binder in slot k; slot 0 is the outermost's. A value's first word is its shape.
 fn read_slot(env: &[u32; ENV_WORDS], k: usize, m: usize) -> u32
-    requires { (k < maxBinders) × (m < valueLength) }
+    requires { (k < max_binders) × (m < value_length) }
     ensures { result ≡ slot env.now k m }
 {
     env[k * VALUE_WORDS + m]
@@ -142,8 +142,8 @@ fn read_slot(env: &[u32; ENV_WORDS], k: usize, m: usize) -> u32
 
 // Word m of a binder's value becomes x.
 fn put_slot(env: &mut [u32; ENV_WORDS], k: usize, m: usize, x: u32)
-    requires { (k < maxBinders) × (m < valueLength) }
-    ensures env_after { env.new ≡ set env.old (slotPlace k m) x }
+    requires { (k < max_binders) × (m < value_length) }
+    ensures env_after { env.new ≡ set env.old (slot_place k m) x }
     ensures m_after { slot env.new k m ≡ x }
 {
     store(env, k * VALUE_WORDS + m, x);
@@ -151,8 +151,8 @@ fn put_slot(env: &mut [u32; ENV_WORDS], k: usize, m: usize, x: u32)
 
 // The value of binder k, counted outward; none beyond the outermost.
 pub fn env_get(env: &[u32; ENV_WORDS], depth: usize, k: usize) -> Value
-    requires { depth ≤ maxBinders }
-    ensures { result ≡ binderAt env.now depth k }
+    requires { depth ≤ max_binders }
+    ensures { result ≡ binder_at env.now depth k }
 {
     if depth <= k {
         return NO_VALUE;
@@ -171,7 +171,7 @@ pub fn env_get(env: &[u32; ENV_WORDS], depth: usize, k: usize) -> Value
 
 // One binder more, at that depth.
 pub fn push(env: &mut [u32; ENV_WORDS], depth: usize, v: Value)
-    requires { depth < maxBinders }
+    requires { depth < max_binders }
     ensures { Pushed env.old env.new depth v }
 {
     let leaves = v.leaves;
@@ -183,7 +183,7 @@ pub fn push(env: &mut [u32; ENV_WORDS], depth: usize, v: Value)
 
 // The values of the binders around, and one more, where those around are still wanted.
 pub fn pushed(env: &[u32; ENV_WORDS], depth: usize, v: Value) -> [u32; ENV_WORDS]
-    requires { depth < maxBinders }
+    requires { depth < max_binders }
     ensures { Pushed env.now result depth v }
 {
     let mut more = *env;

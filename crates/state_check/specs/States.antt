@@ -5,9 +5,9 @@ use Rattle.std.specs.Prelude.{◌≡◌, Bool, true, List, [], ℕ, ◌*◌, ◌
 use Rattle.word.specs.Decides.{Decides}
 use Rattle.tophat.specs.Syntax.{Store, TaskOf}
 use Rattle.tophat.specs.Typing.{ValueTypes, TaskType}
-use Rattle.rows.specs.Rows.{maxRows, word}
+use Rattle.rows.specs.Rows.{max_rows, word}
 use Rattle.rows.specs.Accepted.{AcceptedRows}
-use Rattle.state.specs.Layout.{stateWords}
+use Rattle.state.specs.Layout.{state_words}
 use Rattle.state.specs.Writing.{Writing}
 
 -- a well-typed task of the last row and a store of the cells' types, and words that hold them and nothing else
@@ -24,11 +24,11 @@ Alike x y m = (j : ℕ) → j < m → get_or x j 0 ≡ get_or y j 0
 
 -- zeros after the words of n rows
 abbrev pub ZerosAfter : ℕ → List ℕ → Type 0
-ZerosAfter n ws = (k : ℕ) → n * stateWords ≤ k → get_or ws k 0 ≡ 0
+ZerosAfter n ws = (k : ℕ) → n * state_words ≤ k → get_or ws k 0 ≡ 0
 
 -- the words of n rows, and zeros to write them into once more
 abbrev pub ToWrite : ℕ → List ℕ → List ℕ → Type 0
-ToWrite n ws y = ZerosAfter n ws × (y ≡ replicate (maxRows * stateWords) 0)
+ToWrite n ws y = ZerosAfter n ws × (y ≡ replicate (max_rows * state_words) 0)
 
 -- n rows in an array whose other rows are of kind 0; where the words are a state, they are written once more in y
 abbrev pub HeldOk : List ℕ → ℕ → List ℕ → List ℕ → Bool → Type 0

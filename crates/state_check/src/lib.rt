@@ -2,10 +2,10 @@
 // read from the words, each content by its row's type, and written again into words of zeros: these must be the same words.
 ghost use Rattle.std.specs.Prelude.{◌≡◌, true, false, ◌*◌, ◌-◌, ◌<◌, ◌≤◌, length, replicate};
 ghost use Rattle.word.specs.Decides.{Decides};
-ghost use Rattle.rows.specs.Rows.{maxRows};
-ghost use Rattle.state.specs.Layout.{stateWords};
-ghost use Rattle.state.specs.Contracts.{Fine};
-ghost use Rattle.state_check.specs.Parts.{taggedPart, partFrom, part_of, Lower};
+ghost use Rattle.rows.specs.Rows.{max_rows};
+ghost use Rattle.state.specs.Layout.{state_words};
+ghost use Rattle.state.specs.Ensured.{Fine};
+ghost use Rattle.state_check.specs.Parts.{tagged_part, part_from, part_of, Lower};
 ghost use Rattle.state_check.specs.Copies.{CopyOk, ValueOk, TouchesOk, CellOk, CellsOk};
 ghost use Rattle.state_check.specs.States.{Alike, ToWrite, HeldOk};
 
@@ -32,7 +32,7 @@ pub enum Part {
 }
 
 fn by_tag(tag: u32, p: Part, q: Part, r: Part) -> Part
-    ensures { result ≡ taggedPart tag p q r }
+    ensures { result ≡ tagged_part tag p q r }
 {
     if tag == OWN {
         return p;
@@ -47,7 +47,7 @@ fn by_tag(tag: u32, p: Part, q: Part, r: Part) -> Part
 }
 
 fn part_from(kind: u32, tag: u32, a: usize, b: usize, c: usize) -> Part
-    ensures { result ≡ partFrom kind tag a b c }
+    ensures { result ≡ part_from kind tag a b c }
 {
     match kind {
         25 => by_tag(tag, Part::Bad, Part::Below(b), Part::Below(c)),
@@ -83,7 +83,7 @@ fn copy_value(
     tag: u32,
     shape: u32,
 ) -> bool
-    requires { row < maxRows }
+    requires { row < max_rows }
     ensures { ValueOk state.now work.old work.new row tag shape result }
 {
     let v = read_value(state, row);
@@ -101,7 +101,7 @@ fn copy_touches(
     row: usize,
     most: usize,
 ) -> bool
-    requires { row < maxRows }
+    requires { row < max_rows }
     ensures { TouchesOk state.now work.old work.new row most result }
 {
     if read(state, row, 1) != NUMBER {
@@ -177,7 +177,7 @@ fn copy_cell(
     state: &[u32; STATE_SIZE],
     work: &mut [u32; STATE_SIZE],
 ) -> bool
-    requires { row < maxRows }
+    requires { row < max_rows }
     ensures { CellOk rows.now state.now work.old work.new row result }
 {
     if get(rows, row, 0) == CELL {
@@ -194,7 +194,7 @@ fn copy_cells(
     state: &[u32; STATE_SIZE],
     work: &mut [u32; STATE_SIZE],
 ) -> bool
-    requires { n ≤ maxRows }
+    requires { n ≤ max_rows }
     ensures { CellsOk rows.now state.now work.old work.new n result }
 {
     for i in 0..n {
@@ -250,7 +250,7 @@ pub fn held(
     requires le_n { (1 ≤ n) × Fine rows.now (n - 1) 0 }
     requires to_write { ToWrite n state.now work.old }
     ensures held_ok { HeldOk rows.now n state.now work.new result }
-    ensures work_after { result ≡ false → work.new ≡ replicate (maxRows * stateWords) 0 }
+    ensures work_after { result ≡ false → work.new ≡ replicate (max_rows * state_words) 0 }
 {
     if written(rows, n, state, work) {
         return true;

@@ -6,28 +6,28 @@ use mathlib.Core.Option.{none, some, bind}
 use mathlib.Core.List.{List, [], ◌∷◌, map}
 use lib.IntN.{ℤ, pos, negsuc}
 use native.Mathlib.Decide.{dec_le}
-use Rattle.word.specs.Word.{isWord}
+use Rattle.word.specs.Word.{is_word}
 use Rattle.decimal.specs.Path.{first, second}
-use Rattle.tophat.specs.Syntax.{leaves, moves, unit, truth, number, pair, Op, sum, difference, product, lessEqual, equal, enumber, ebinder, eop, eassign}
+use Rattle.tophat.specs.Syntax.{leaves, moves, unit, truth, number, pair, Op, sum, difference, product, less_equal, equal, enumber, ebinder, eop, eassign}
 use Rattle.tophat.specs.Syntax.{edit, enter, update, then, next, fail, and, or, xor, view, if, let', vnumber}
 use Rattle.tophat.specs.Typing.{type_of}
-use Rattle.tophat.specs.Leaves.{leavesOf, padded, leafKinds, value_of, meetsLeaf, meets, numberGiven, given}
+use Rattle.tophat.specs.Leaves.{leaves_of, padded, leaf_kinds, value_of, meets_leaf, meets, number_given, given}
 use Rattle.tophat.specs.Normalising.{value, pair_of}
-use Rattle.tophat.specs.Roles.{ofRole, touchesLeft, verdict}
+use Rattle.tophat.specs.Roles.{of_role, touches_left, verdict}
 use Rattle.tophat.specs.Handling.{continue, left, right, give}
-use Rattle.tophat.specs.Showing.{marked, offers, buttonIf}
-use Rattle.tophat.proofs.ComputeTyping.{inferTask, infer, ask, nth, numberTo, opTo, takes, gives, sameTo, ifTo, typeTo, assignTo}
-use Rattle.tophat.proofs.ComputeEvaluation.{eval, branch, isTrue, apply, leaf, kept, exact, exceeds, overflows, overflowsTask}
-use Rattle.tophat.proofs.ComputeNormalising.{failing, normalise, settle, strides, unlessStill, goOn, goOnWith, chooseRight, chooseLeft}
-use Rattle.tophat.proofs.ComputeHandling.{handle, mapTask, thenSome, atEditor, atMark, atSides, atContinue, unlessFailing}
-use Rattle.tophat.proofs.ComputeEntries.{entries, continueIf}
-use Rattle.tophat.proofs.CaseScreens.{screen, digit, line_of, flag, valueFlag, valueLeaves, screenOf, Case, expected, taken, screens, failedWhole, unlessRefused, computed}
-use Rattle.tophat.proofs.CaseScreens.{num, cell, single, giving1, givingBlank, pressed, at, value1, editorOf, editor, buttonLine, eight, eightLine, givingEight, noLeaves}
+use Rattle.tophat.specs.Showing.{marked, offers, button_if}
+use Rattle.tophat.proofs.ComputeTyping.{infer_task, infer, ask, nth, number_to, op_to, takes, gives, same_to, if_to, type_to, assign_to}
+use Rattle.tophat.proofs.ComputeEvaluation.{eval, branch, is_true, apply, leaf, kept, exact, exceeds, overflows, overflows_task}
+use Rattle.tophat.proofs.ComputeNormalising.{failing, normalise, settle, strides, unless_still, go_on, go_on_with, choose_right, choose_left}
+use Rattle.tophat.proofs.ComputeHandling.{handle, map_task, then_some, at_editor, at_mark, at_sides, at_continue, unless_failing}
+use Rattle.tophat.proofs.ComputeEntries.{entries, continue_if}
+use Rattle.tophat.proofs.CaseScreens.{screen, digit, line_of, flag, value_flag, value_leaves, screen_of, Case, expected, taken, screens, failed_whole, unless_refused, computed}
+use Rattle.tophat.proofs.CaseScreens.{num, cell, single, giving1, giving_blank, pressed, at, value1, editor_of, editor, button_line, eight, eight_line, giving_eight, no_leaves}
 
 -- P1 to P4: 01's session: started, value 12, value 4, Continue
-abbrev pub p1-p4 : Case
-p1-p4 = record {
-  flow = then (enter number) (if (eop lessEqual (ebinder 0) (num 9)) (edit (eop product (ebinder 0) (num 30))) (fail number));
+abbrev pub p1_p4 : Case
+p1_p4 = record {
+  flow = then (enter number) (if (eop less_equal (ebinder 0) (num 9)) (edit (eop product (ebinder 0) (num 30))) (fail number));
   cells = [];
   events = value1 12 ∷ value1 4 ∷ pressed continue ∷ [];
   type = some number;
@@ -81,8 +81,8 @@ p8 = record {
   events = pressed right ∷ pressed left ∷ [];
   type = some number;
   shown =
-      screen 0 1 0 0 (single (pos 0)) (buttonLine 3 ∷ [])
-      ∷ screen 9 0 0 0 (single (pos 0)) (buttonLine 3 ∷ [])
+      screen 0 1 0 0 (single (pos 0)) (button_line 3 ∷ [])
+      ∷ screen 9 0 0 0 (single (pos 0)) (button_line 3 ∷ [])
       ∷ screen 0 1 0 1 (single (pos 1)) (editor [] ∷ [])
       ∷ [];
   kept = [];
@@ -145,17 +145,17 @@ buttons = record {
   events = at (first ∷ []) (giving1 0) ∷ at (second ∷ []) (giving1 1) ∷ pressed continue ∷ [];
   type = some number;
   shown =
-      screen 0 1 0 0 (single (pos 0)) (editorOf 1 (1 ∷ []) ∷ editorOf 2 (2 ∷ []) ∷ [])
-      ∷ screen 0 1 0 0 (single (pos 0)) (editorOf 1 (1 ∷ []) ∷ editorOf 2 (2 ∷ []) ∷ [])
-      ∷ screen 0 1 0 0 (single (pos 0)) (editorOf 1 (1 ∷ []) ∷ editorOf 2 (2 ∷ []) ∷ buttonLine 2 ∷ [])
-      ∷ screen 0 1 0 0 (single (pos 0)) (buttonLine 3 ∷ buttonLine 4 ∷ [])
+      screen 0 1 0 0 (single (pos 0)) (editor_of 1 (1 ∷ []) ∷ editor_of 2 (2 ∷ []) ∷ [])
+      ∷ screen 0 1 0 0 (single (pos 0)) (editor_of 1 (1 ∷ []) ∷ editor_of 2 (2 ∷ []) ∷ [])
+      ∷ screen 0 1 0 0 (single (pos 0)) (editor_of 1 (1 ∷ []) ∷ editor_of 2 (2 ∷ []) ∷ button_line 2 ∷ [])
+      ∷ screen 0 1 0 0 (single (pos 0)) (button_line 3 ∷ button_line 4 ∷ [])
       ∷ [];
   kept = [];
 }
 
 -- CR 1: both of a shown 5 and a fail: no entry, and not failing; a value given at the shown part is refused
-abbrev pub quiet-both : Case
-quiet-both = record {
+abbrev pub quiet_both : Case
+quiet_both = record {
   flow = and (view (num 5)) (fail number);
   cells = [];
   events = at (first ∷ []) (giving1 1) ∷ [];
@@ -182,8 +182,8 @@ quiet_next = record {
 }
 
 -- CR 1: a shown 5, step to its double, shown: the step goes on at once, the value stands and takes no touch
-abbrev pub shown-on : Case
-shown-on = record {
+abbrev pub shown_on : Case
+shown_on = record {
   flow = then (view (num 5)) (view (eop product (ebinder 0) (num 2)));
   cells = [];
   events = at [] (giving1 1) ∷ [];
@@ -201,25 +201,25 @@ blanks = record {
   flow = and (enter unit) (enter number);
   cells = [];
   events =
-      at (first ∷ []) (givingBlank [])
+      at (first ∷ []) (giving_blank [])
       ∷ at (second ∷ []) (give (padded (some (pos 0)) (none ∷ [])))
-      ∷ at (second ∷ []) (givingBlank (some (pos 7) ∷ []))
-      ∷ at (first ∷ []) (givingBlank (some (pos 0) ∷ []))
+      ∷ at (second ∷ []) (giving_blank (some (pos 7) ∷ []))
+      ∷ at (first ∷ []) (giving_blank (some (pos 0) ∷ []))
       ∷ [];
   type = some (pair unit number);
   shown =
-      screen 0 1 0 0 (single (pos 0)) (editorOf 1 (1 ∷ []) ∷ editor (2 ∷ []) ∷ [])
-      ∷ screen 9 0 0 0 (single (pos 0)) (editorOf 1 (1 ∷ []) ∷ editor (2 ∷ []) ∷ [])
-      ∷ screen 9 0 0 0 (single (pos 0)) (editorOf 1 (1 ∷ []) ∷ editor (2 ∷ []) ∷ [])
-      ∷ screen 0 1 0 0 (single (pos 0)) (editorOf 1 (1 ∷ []) ∷ editor (2 ∷ []) ∷ [])
-      ∷ screen 0 1 0 1 (padded (pos 0) (pos 0 ∷ pos 7 ∷ [])) (editorOf 1 (1 ∷ []) ∷ editor (2 ∷ []) ∷ [])
+      screen 0 1 0 0 (single (pos 0)) (editor_of 1 (1 ∷ []) ∷ editor (2 ∷ []) ∷ [])
+      ∷ screen 9 0 0 0 (single (pos 0)) (editor_of 1 (1 ∷ []) ∷ editor (2 ∷ []) ∷ [])
+      ∷ screen 9 0 0 0 (single (pos 0)) (editor_of 1 (1 ∷ []) ∷ editor (2 ∷ []) ∷ [])
+      ∷ screen 0 1 0 0 (single (pos 0)) (editor_of 1 (1 ∷ []) ∷ editor (2 ∷ []) ∷ [])
+      ∷ screen 0 1 0 1 (padded (pos 0) (pos 0 ∷ pos 7 ∷ [])) (editor_of 1 (1 ∷ []) ∷ editor (2 ∷ []) ∷ [])
       ∷ [];
   kept = [];
 }
 
 -- CR 3: cell 7; what leaves the words at start is 45: the write of 3 before it is dropped, no touch is taken
-abbrev pub over-start : Case
-over-start = record {
+abbrev pub over_start : Case
+over_start = record {
   flow = let' (eassign 0 (num 3)) (and (enter number) (edit (eop product (num 65536) (num 32768))));
   cells = cell 7;
   events = at (first ∷ []) (giving1 1) ∷ [];
@@ -232,8 +232,8 @@ over-start = record {
 }
 
 -- CR 3: cell 7; 1, internal step that writes 3 and leaves the words (P10 with an overflow): it waits, cell 7; a 0 entered, it goes on
-abbrev pub over-then : Case
-over-then = record {
+abbrev pub over_then : Case
+over_then = record {
   flow = then (edit (num 1)) (let' (eassign 0 (num 3)) (edit (eop sum (num 2147483647) (ebinder 1))));
   cells = cell 7;
   events = value1 2 ∷ value1 0 ∷ [];
@@ -247,8 +247,8 @@ over-then = record {
 }
 
 -- CR 3: Continue to a bound difference that leaves the words, and is not used: no Continue, 9, cell 7
-abbrev pub over-next : Case
-over-next = record {
+abbrev pub over_next : Case
+over_next = record {
   flow = next (edit (num 1)) (let' (eassign 0 (num 3)) (let' (eop difference (enumber (negsuc 2147483647)) (ebinder 1)) (edit (num 0))));
   cells = cell 7;
   events = pressed continue ∷ [];
@@ -261,16 +261,16 @@ over-next = record {
 }
 
 -- CR 3: choice 48 of a branch that leaves the words and a filled one: Right only; its second side would leave them where it is not taken
-abbrev pub over-xor : Case
-over-xor = record {
+abbrev pub over_xor : Case
+over_xor = record {
   flow = xor (and (edit (num 1)) (edit (eop product (num 46341) (num 46341))))
       (and (edit (num 1)) (if (eop equal (num 1) (num 1)) (edit (num 2)) (edit (eop product (num 46341) (num 46341)))));
   cells = [];
   events = pressed left ∷ pressed right ∷ [];
   type = some (pair number number);
   shown =
-      screen 0 1 0 0 (single (pos 0)) (buttonLine 4 ∷ [])
-      ∷ screen 9 0 0 0 (single (pos 0)) (buttonLine 4 ∷ [])
+      screen 0 1 0 0 (single (pos 0)) (button_line 4 ∷ [])
+      ∷ screen 9 0 0 0 (single (pos 0)) (button_line 4 ∷ [])
       ∷ screen 0 1 0 1 (padded (pos 0) (pos 1 ∷ pos 2 ∷ [])) (editor (1 ∷ []) ∷ editor (2 ∷ []) ∷ [])
       ∷ [];
   kept = [];
@@ -282,16 +282,16 @@ wide = record {
   flow = enter eight;
   cells = [];
   events =
-      at [] (givingEight 5 (some (negsuc 17)))
-      ∷ at [] (givingEight 0 none)
-      ∷ at [] (givingEight 0 (some (negsuc 17)))
+      at [] (giving_eight 5 (some (negsuc 17)))
+      ∷ at [] (giving_eight 0 none)
+      ∷ at [] (giving_eight 0 (some (negsuc 17)))
       ∷ [];
   type = some eight;
   shown =
-      screen 0 1 0 0 noLeaves (eightLine [] ∷ [])
-      ∷ screen 9 0 0 0 noLeaves (eightLine [] ∷ [])
-      ∷ screen 9 0 0 0 noLeaves (eightLine [] ∷ [])
-      ∷ screen 0 1 0 1 (pos 11 ∷ pos 1 ∷ pos 0 ∷ pos 14 ∷ pos 15 ∷ pos 0 ∷ pos 0 ∷ negsuc 17 ∷ []) (eightLine [] ∷ [])
+      screen 0 1 0 0 no_leaves (eight_line [] ∷ [])
+      ∷ screen 9 0 0 0 no_leaves (eight_line [] ∷ [])
+      ∷ screen 9 0 0 0 no_leaves (eight_line [] ∷ [])
+      ∷ screen 0 1 0 1 (pos 11 ∷ pos 1 ∷ pos 0 ∷ pos 14 ∷ pos 15 ∷ pos 0 ∷ pos 0 ∷ negsuc 17 ∷ []) (eight_line [] ∷ [])
       ∷ [];
   kept = [];
 }
@@ -303,33 +303,33 @@ nine = record {
   cells = [];
   events = [];
   type = none;
-  shown = screen 0 1 0 0 noLeaves (eightLine (1 ∷ []) ∷ editor (2 ∷ []) ∷ []) ∷ [];
+  shown = screen 0 1 0 0 no_leaves (eight_line (1 ∷ []) ∷ editor (2 ∷ []) ∷ []) ∷ [];
   kept = [];
 }
 
 -- cell 7; Continue keeps what B wrote
-abbrev pub continue-writes : Case
-continue-writes = record {
+abbrev pub continue_writes : Case
+continue_writes = record {
   flow = next (edit (num 1)) (let' (eassign 0 (num 3)) (edit (num 2)));
   cells = cell 7;
   events = pressed continue ∷ [];
   type = some number;
-  shown = screen 0 1 0 0 (single (pos 0)) (editor [] ∷ buttonLine 2 ∷ []) ∷ screen 0 1 0 1 (single (pos 2)) (editor [] ∷ []) ∷ [];
+  shown = screen 0 1 0 0 (single (pos 0)) (editor [] ∷ button_line 2 ∷ []) ∷ screen 0 1 0 1 (single (pos 2)) (editor [] ∷ []) ∷ [];
   kept = cell 3;
 }
 
 unfoldable pub cases : List Case
-cases = p1-p4 ∷ p5 ∷ p6 ∷ p7 ∷ p8 ∷ p9 ∷ p10 ∷ p11 ∷ p12 ∷ buttons ∷ quiet-both ∷ quiet_next ∷ shown-on ∷ blanks ∷ over-start ∷ over-then ∷ over-next ∷ over-xor ∷ wide ∷ nine ∷ continue-writes ∷ []
+cases = p1_p4 ∷ p5 ∷ p6 ∷ p7 ∷ p8 ∷ p9 ∷ p10 ∷ p11 ∷ p12 ∷ buttons ∷ quiet_both ∷ quiet_next ∷ shown_on ∷ blanks ∷ over_start ∷ over_then ∷ over_next ∷ over_xor ∷ wide ∷ nine ∷ continue_writes ∷ []
 
 -- what is computed is what 01 says
-pub cases-hold : map computed cases ≡ map expected cases
+pub cases_hold : map computed cases ≡ map expected cases
 unfolding
-    cases computed failedWhole expected screens taken unlessRefused screenOf flag valueFlag valueLeaves line_of digit inferTask infer
-    bind ask nth numberTo opTo takes gives sameTo ifTo typeTo assignTo dec_le leaves moves settle normalise strides
-    unlessStill goOn goOnWith chooseRight chooseLeft failing eval branch isTrue apply kept exact isWord exceeds overflows overflowsTask leaf value pair_of
-    leavesOf padded leafKinds marked offers buttonIf type_of value_of meetsLeaf meets numberGiven given mapTask thenSome atEditor
-    atMark atSides atContinue unlessFailing handle continueIf entries ofRole touchesLeft verdict
-cases-hold = refl
+    cases computed failed_whole expected screens taken unless_refused screen_of flag value_flag value_leaves line_of digit infer_task infer
+    bind ask nth number_to op_to takes gives same_to if_to type_to assign_to dec_le leaves moves settle normalise strides
+    unless_still go_on go_on_with choose_right choose_left failing eval branch is_true apply kept exact is_word exceeds overflows overflows_task leaf value pair_of
+    leaves_of padded leaf_kinds marked offers button_if type_of value_of meets_leaf meets number_given given map_task then_some at_editor
+    at_mark at_sides at_continue unless_failing handle continue_if entries of_role touches_left verdict
+cases_hold = refl
 
 -- CR 3: the ends of the words. An operator, its numbers, and whether the result leaves the words
 unfoldable pub ends : List (Op × ℤ × ℤ × Bool)
@@ -346,6 +346,6 @@ ends =
     ∷ (product, negsuc 2147483647, negsuc 0, true)
     ∷ []
 
-pub ends-hold : map (λ (o, x, y, b). exceeds o (vnumber x) (vnumber y)) ends ≡ map (λ (o, x, y, b). b) ends
-unfolding ends exceeds exact isWord leaf
-ends-hold = refl
+pub ends_hold : map (λ (o, x, y, b). exceeds o (vnumber x) (vnumber y)) ends ≡ map (λ (o, x, y, b). b) ends
+unfolding ends exceeds exact is_word leaf
+ends_hold = refl

@@ -10,21 +10,21 @@ use lib.Dec.{T, ltb, ltb→lt, lt→ltb}
 use lib.IntN.{ℤ, pos}
 use lib.Signed.{mag}
 use lib.ListN.{length, length-append, drop, replicate}
-use Rattle.word.proofs.Order.{eqZ-true}
-use Rattle.word.specs.Word.{half, eqZ}
-use Rattle.tophat.specs.Syntax.{maxLeaves, Ty, unit, truth, number, pair, leaves, Val, vunit, vtruth, vnumber, vpair}
-use Rattle.tophat.specs.Typing.{ValueType, v-unit, v-truth, v-number, v-pair, type_of}
-use Rattle.tophat.specs.Leaves.{leavesOf, padded, Given, Unused, u-end, u-zero, u-blank, Gives, Leaf, noLeaf, unitLeaf, truthLeaf, numberLeaf, leafKinds}
-use Rattle.tophat.specs.Leaves.{Meets, m-end, m-none, m-blank, m-unit, m-false, m-true, m-number, value_of, meetsLeaf, meets, numberGiven, given}
-use Rattle.tophat.proofs.Basics.{no-some}
+use Rattle.word.proofs.Order.{eq_z_true}
+use Rattle.word.specs.Word.{half, eq_z}
+use Rattle.tophat.specs.Syntax.{max_leaves, Ty, unit, truth, number, pair, leaves, Val, vunit, vtruth, vnumber, vpair}
+use Rattle.tophat.specs.Typing.{ValueType, v_unit, v_truth, v_number, v_pair, type_of}
+use Rattle.tophat.specs.Leaves.{leaves_of, padded, Given, Unused, u_end, u_zero, u_blank, Gives, Leaf, no_leaf, unit_leaf, truth_leaf, number_leaf, leaf_kinds}
+use Rattle.tophat.specs.Leaves.{Meets, m_end, m_none, m_blank, m_unit, m_false, m_true, m_number, value_of, meets_leaf, meets, number_given, given}
+use Rattle.tophat.proofs.Basics.{no_some}
 
 -- a value has one type
-pub type-of : {v : Val} {τ : Ty} → ValueType v τ → type_of v ≡ τ
+pub type_of_lem : {v : Val} {τ : Ty} → ValueType v τ → type_of v ≡ τ
 unfolding type_of
-type-of v-unit = refl
-type-of v-truth = refl
-type-of (v-number h) = refl
-type-of (v-pair g h) = ap₂ pair (type-of g) (type-of h)
+type_of_lem v_unit = refl
+type_of_lem v_truth = refl
+type_of_lem (v_number h) = refl
+type_of_lem (v_pair g h) = ap₂ pair (type_of_lem g) (type_of_lem h)
 
 -- a test that passed
 passed : {b : Bool} → b ≡ true → T b
@@ -34,78 +34,78 @@ test : (b : Bool) → T b → b ≡ true
 test true h = refl
 test false h = absurd h
 
-both-passed : (a b : Bool) → a && b ≡ true → (a ≡ true) × (b ≡ true)
-both-passed true b h = (refl, h)
-both-passed false b h = absurd (false≢true h)
+both_passed : (a b : Bool) → a && b ≡ true → (a ≡ true) × (b ≡ true)
+both_passed true b h = (refl, h)
+both_passed false b h = absurd (false≢true h)
 
 -- `meets` decides Meets
-truth-met : (n : ℤ) {ks : List Leaf} {ls : List Given} (x : Bool) → eqZ n (pos 0) ≡ x → x || eqZ n (pos 1) ≡ true → Meets ks ls → Meets (truthLeaf ∷ ks) (some n ∷ ls)
-truth-met n {ks} {ls} true e h d = subst (λ n. Meets (truthLeaf ∷ ks) (some n ∷ ls)) (sym (eqZ-true n (pos 0) e)) (m-false d)
-truth-met n {ks} {ls} false e h d = subst (λ n. Meets (truthLeaf ∷ ks) (some n ∷ ls)) (sym (eqZ-true n (pos 1) h)) (m-true d)
+truth_met : (n : ℤ) {ks : List Leaf} {ls : List Given} (x : Bool) → eq_z n (pos 0) ≡ x → x || eq_z n (pos 1) ≡ true → Meets ks ls → Meets (truth_leaf ∷ ks) (some n ∷ ls)
+truth_met n {ks} {ls} true e h d = subst (λ n. Meets (truth_leaf ∷ ks) (some n ∷ ls)) (sym (eq_z_true n (pos 0) e)) (m_false d)
+truth_met n {ks} {ls} false e h d = subst (λ n. Meets (truth_leaf ∷ ks) (some n ∷ ls)) (sym (eq_z_true n (pos 1) h)) (m_true d)
 
-leaf-met : (k : Leaf) (l : Given) {ks : List Leaf} {ls : List Given} → meetsLeaf k l ≡ true → Meets ks ls → Meets (k ∷ ks) (l ∷ ls)
-unfolding meetsLeaf
-leaf-met noLeaf none h d = m-blank d
-leaf-met noLeaf (some n) {ks} {ls} h d = subst (λ n. Meets (noLeaf ∷ ks) (some n ∷ ls)) (sym (eqZ-true n (pos 0) h)) (m-none d)
-leaf-met unitLeaf none h d = absurd (false≢true h)
-leaf-met unitLeaf (some n) {ks} {ls} h d = subst (λ n. Meets (unitLeaf ∷ ks) (some n ∷ ls)) (sym (eqZ-true n (pos 0) h)) (m-unit d)
-leaf-met truthLeaf none h d = absurd (false≢true h)
-leaf-met truthLeaf (some n) h d = truth-met n _ refl h d
-leaf-met numberLeaf none h d = absurd (false≢true h)
-leaf-met numberLeaf (some n) h d = m-number (ltb→lt (mag n) half (passed h)) d
+leaf_met : (k : Leaf) (l : Given) {ks : List Leaf} {ls : List Given} → meets_leaf k l ≡ true → Meets ks ls → Meets (k ∷ ks) (l ∷ ls)
+unfolding meets_leaf
+leaf_met no_leaf none h d = m_blank d
+leaf_met no_leaf (some n) {ks} {ls} h d = subst (λ n. Meets (no_leaf ∷ ks) (some n ∷ ls)) (sym (eq_z_true n (pos 0) h)) (m_none d)
+leaf_met unit_leaf none h d = absurd (false≢true h)
+leaf_met unit_leaf (some n) {ks} {ls} h d = subst (λ n. Meets (unit_leaf ∷ ks) (some n ∷ ls)) (sym (eq_z_true n (pos 0) h)) (m_unit d)
+leaf_met truth_leaf none h d = absurd (false≢true h)
+leaf_met truth_leaf (some n) h d = truth_met n _ refl h d
+leaf_met number_leaf none h d = absurd (false≢true h)
+leaf_met number_leaf (some n) h d = m_number (ltb→lt (mag n) half (passed h)) d
 
-pub meets-sound : (ks : List Leaf) (ls : List Given) → meets ks ls ≡ true → Meets ks ls
+pub meets_sound : (ks : List Leaf) (ls : List Given) → meets ks ls ≡ true → Meets ks ls
 unfolding meets
-meets-sound [] [] h = m-end
-meets-sound [] (n ∷ ls) h = absurd (false≢true h)
-meets-sound (k ∷ ks) [] h = absurd (false≢true h)
-meets-sound (k ∷ ks) (n ∷ ls) h = let (p, q) = both-passed (meetsLeaf k n) (meets ks ls) h in leaf-met k n p (meets-sound ks ls q)
+meets_sound [] [] h = m_end
+meets_sound [] (n ∷ ls) h = absurd (false≢true h)
+meets_sound (k ∷ ks) [] h = absurd (false≢true h)
+meets_sound (k ∷ ks) (n ∷ ls) h = let (p, q) = both_passed (meets_leaf k n) (meets ks ls) h in leaf_met k n p (meets_sound ks ls q)
 
-pub meets-is : {ks : List Leaf} {ls : List Given} → Meets ks ls → meets ks ls ≡ true
-unfolding meets meetsLeaf
-meets-is m-end = refl
-meets-is (m-none d) = meets-is d
-meets-is (m-blank d) = meets-is d
-meets-is (m-unit d) = meets-is d
-meets-is (m-false d) = meets-is d
-meets-is (m-true d) = meets-is d
-meets-is (m-number {n = n} h d) = let p = test (ltb (mag n) half) (lt→ltb (mag n) half h) in let q = meets-is d in rw (p, q)
+pub meets_is : {ks : List Leaf} {ls : List Given} → Meets ks ls → meets ks ls ≡ true
+unfolding meets meets_leaf
+meets_is m_end = refl
+meets_is (m_none d) = meets_is d
+meets_is (m_blank d) = meets_is d
+meets_is (m_unit d) = meets_is d
+meets_is (m_false d) = meets_is d
+meets_is (m_true d) = meets_is d
+meets_is (m_number {n = n} h d) = let p = test (ltb (mag n) half) (lt→ltb (mag n) half h) in let q = meets_is d in rw (p, q)
 
 -- as many kinds as leaves
-pub length-kinds : (τ : Ty) → length (leafKinds τ) ≡ leaves τ
-unfolding leafKinds leaves
-length-kinds unit = refl
-length-kinds truth = refl
-length-kinds number = refl
-length-kinds (pair τ υ) = length-append (leafKinds τ) (leafKinds υ) ∙ ap₂ ◌+◌ (length-kinds τ) (length-kinds υ)
+pub length_kinds : (τ : Ty) → length (leaf_kinds τ) ≡ leaves τ
+unfolding leaf_kinds leaves
+length_kinds unit = refl
+length_kinds truth = refl
+length_kinds number = refl
+length_kinds (pair τ υ) = length-append (leaf_kinds τ) (leaf_kinds υ) ∙ ap₂ ◌+◌ (length_kinds τ) (length_kinds υ)
 
-pub length-leaves : {v : Val} {τ : Ty} → ValueType v τ → length (leavesOf v) ≡ leaves τ
-unfolding leavesOf leaves
-length-leaves v-unit = refl
-length-leaves (v-truth {b = true}) = refl
-length-leaves (v-truth {b = false}) = refl
-length-leaves (v-number h) = refl
-length-leaves (v-pair {v = v} {w = w} g h) = length-append (leavesOf v) (leavesOf w) ∙ ap₂ ◌+◌ (length-leaves g) (length-leaves h)
+pub length_leaves : {v : Val} {τ : Ty} → ValueType v τ → length (leaves_of v) ≡ leaves τ
+unfolding leaves_of leaves
+length_leaves v_unit = refl
+length_leaves (v_truth {b = true}) = refl
+length_leaves (v_truth {b = false}) = refl
+length_leaves (v_number h) = refl
+length_leaves (v_pair {v = v} {w = w} g h) = length-append (leaves_of v) (leaves_of w) ∙ ap₂ ◌+◌ (length_leaves g) (length_leaves h)
 
-drop-append : {X : Type 0} (xs ys : List X) (n : ℕ) → length xs ≡ n → drop n (xs ++ ys) ≡ ys
-drop-append {X} xs ys n e = subst (λ n. drop n (xs ++ ys) ≡ ys) e (dropped xs)
+drop_append : {X : Type 0} (xs ys : List X) (n : ℕ) → length xs ≡ n → drop n (xs ++ ys) ≡ ys
+drop_append {X} xs ys n e = subst (λ n. drop n (xs ++ ys) ≡ ys) e (dropped xs)
   where
     dropped : (zs : List X) → drop (length zs) (zs ++ ys) ≡ ys
     dropped [] = refl
     dropped (z ∷ zs) = dropped zs
 
 -- a value's leaves are read back as the value, whatever follows them
-value-back : {v : Val} {τ : Ty} → ValueType v τ → (ls : List ℤ) → value_of τ (leavesOf v ++ ls) ≡ v
-unfolding value_of leavesOf
-value-back v-unit ls = refl
-value-back (v-truth {b = true}) ls = refl
-value-back (v-truth {b = false}) ls = refl
-value-back (v-number h) ls = refl
-value-back (v-pair {v = v} {w = w} {τ = τ} {υ = υ} g h) ls =
-    let e = append_assoc (leavesOf v) (leavesOf w) ls in
-    let p = value-back g (leavesOf w ++ ls) in
-    let q = drop-append (leavesOf v) (leavesOf w ++ ls) (leaves τ) (length-leaves g) in
-    let r = value-back h ls in
+value_back : {v : Val} {τ : Ty} → ValueType v τ → (ls : List ℤ) → value_of τ (leaves_of v ++ ls) ≡ v
+unfolding value_of leaves_of
+value_back v_unit ls = refl
+value_back (v_truth {b = true}) ls = refl
+value_back (v_truth {b = false}) ls = refl
+value_back (v_number h) ls = refl
+value_back (v_pair {v = v} {w = w} {τ = τ} {υ = υ} g h) ls =
+    let e = append_assoc (leaves_of v) (leaves_of w) ls in
+    let p = value_back g (leaves_of w ++ ls) in
+    let q = drop_append (leaves_of v) (leaves_of w ++ ls) (leaves τ) (length_leaves g) in
+    let r = value_back h ls in
     ap₂ vpair (ap (value_of τ) e ∙ p) (ap (λ ms. value_of υ (drop (leaves τ) ms)) e ∙ ap (value_of υ) q ∙ r)
 
 -- what meets a type's kinds begins with the leaves of a value of it
@@ -113,120 +113,120 @@ record Begins (τ : Ty) (ks : List Leaf) (ls : List Given) : Type 0 where
   val : Val
   typed : ValueType val τ
   rest : List Given
-  split : ls ≡ map some (leavesOf val) ++ rest
+  split : ls ≡ map some (leaves_of val) ++ rest
   met : Meets ks rest
 
 -- a pair's leaves as leaves of an event
-pair-leaves : (v w : Val) (ls : List Given) → map some (leavesOf v ++ leavesOf w) ++ ls ≡ map some (leavesOf v) ++ (map some (leavesOf w) ++ ls)
-pair-leaves v w ls = ap (λ ms. ms ++ ls) (map-append some (leavesOf v) (leavesOf w)) ∙ append_assoc (map some (leavesOf v)) (map some (leavesOf w)) ls
+pair_leaves : (v w : Val) (ls : List Given) → map some (leaves_of v ++ leaves_of w) ++ ls ≡ map some (leaves_of v) ++ (map some (leaves_of w) ++ ls)
+pair_leaves v w ls = ap (λ ms. ms ++ ls) (map-append some (leaves_of v) (leaves_of w)) ∙ append_assoc (map some (leaves_of v)) (map some (leaves_of w)) ls
 
-begins : (τ : Ty) {ks : List Leaf} {ls : List Given} → Meets (leafKinds τ ++ ks) ls → Begins τ ks ls
-unfolding leafKinds leavesOf
-begins unit (m-unit d) = record { val = vunit; typed = v-unit; rest = _; split = refl; met = d }
-begins truth (m-false d) = record { val = vtruth false; typed = v-truth; rest = _; split = refl; met = d }
-begins truth (m-true d) = record { val = vtruth true; typed = v-truth; rest = _; split = refl; met = d }
-begins number (m-number {n = n} h d) = record { val = vnumber n; typed = v-number h; rest = _; split = refl; met = d }
+begins : (τ : Ty) {ks : List Leaf} {ls : List Given} → Meets (leaf_kinds τ ++ ks) ls → Begins τ ks ls
+unfolding leaf_kinds leaves_of
+begins unit (m_unit d) = record { val = vunit; typed = v_unit; rest = _; split = refl; met = d }
+begins truth (m_false d) = record { val = vtruth false; typed = v_truth; rest = _; split = refl; met = d }
+begins truth (m_true d) = record { val = vtruth true; typed = v_truth; rest = _; split = refl; met = d }
+begins number (m_number {n = n} h d) = record { val = vnumber n; typed = v_number h; rest = _; split = refl; met = d }
 begins (pair τ υ) {ks} {ls} d =
-    let p = begins τ (subst (λ ks. Meets ks ls) (append_assoc (leafKinds τ) (leafKinds υ) ks) d) in
+    let p = begins τ (subst (λ ks. Meets ks ls) (append_assoc (leaf_kinds τ) (leaf_kinds υ) ks) d) in
     let q = begins υ p.met in
     record {
       val = vpair p.val q.val;
-      typed = v-pair p.typed q.typed;
+      typed = v_pair p.typed q.typed;
       rest = q.rest;
-      split = p.split ∙ ap (λ ms. map some (leavesOf p.val) ++ ms) q.split ∙ sym (pair-leaves p.val q.val q.rest);
+      split = p.split ∙ ap (λ ms. map some (leaves_of p.val) ++ ms) q.split ∙ sym (pair_leaves p.val q.val q.rest);
       met = q.met;
     }
 
-met_by : {v : Val} {τ : Ty} → ValueType v τ → {ks : List Leaf} {ls : List Given} → Meets ks ls → Meets (leafKinds τ ++ ks) (map some (leavesOf v) ++ ls)
-unfolding leafKinds leavesOf
-met_by v-unit d = m-unit d
-met_by (v-truth {b = true}) d = m-true d
-met_by (v-truth {b = false}) d = m-false d
-met_by (v-number h) d = m-number h d
-met_by (v-pair {v = v} {w = w} {τ = τ} {υ = υ} g h) {ks} {ls} d =
-    let e = append_assoc (leafKinds τ) (leafKinds υ) ks in
-    subst (λ ks. Meets ks (map some (leavesOf v ++ leavesOf w) ++ ls)) (sym e) (subst (λ ls. Meets (leafKinds τ ++ (leafKinds υ ++ ks)) ls) (sym (pair-leaves v w ls)) (met_by g (met_by h d)))
+met_by : {v : Val} {τ : Ty} → ValueType v τ → {ks : List Leaf} {ls : List Given} → Meets ks ls → Meets (leaf_kinds τ ++ ks) (map some (leaves_of v) ++ ls)
+unfolding leaf_kinds leaves_of
+met_by v_unit d = m_unit d
+met_by (v_truth {b = true}) d = m_true d
+met_by (v_truth {b = false}) d = m_false d
+met_by (v_number h) d = m_number h d
+met_by (v_pair {v = v} {w = w} {τ = τ} {υ = υ} g h) {ks} {ls} d =
+    let e = append_assoc (leaf_kinds τ) (leaf_kinds υ) ks in
+    subst (λ ks. Meets ks (map some (leaves_of v ++ leaves_of w) ++ ls)) (sym e) (subst (λ ls. Meets (leaf_kinds τ ++ (leaf_kinds υ ++ ks)) ls) (sym (pair_leaves v w ls)) (met_by g (met_by h d)))
 
 -- unused leaves are those that kind 0 is met by
-pub unused-met : {n : ℕ} {ls : List Given} → Unused n ls → Meets (replicate n noLeaf) ls
-unused-met u-end = m-end
-unused-met (u-zero u) = m-none (unused-met u)
-unused-met (u-blank u) = m-blank (unused-met u)
+pub unused_met : {n : ℕ} {ls : List Given} → Unused n ls → Meets (replicate n no_leaf) ls
+unused_met u_end = m_end
+unused_met (u_zero u) = m_none (unused_met u)
+unused_met (u_blank u) = m_blank (unused_met u)
 
-pub met-unused : (n : ℕ) {ls : List Given} → Meets (replicate n noLeaf) ls → Unused n ls
-met-unused zero m-end = u-end
-met-unused (suc n) (m-none d) = u-zero (met-unused n d)
-met-unused (suc n) (m-blank d) = u-blank (met-unused n d)
+pub met_unused : (n : ℕ) {ls : List Given} → Meets (replicate n no_leaf) ls → Unused n ls
+met_unused zero m_end = u_end
+met_unused (suc n) (m_none d) = u_zero (met_unused n d)
+met_unused (suc n) (m_blank d) = u_blank (met_unused n d)
 
 -- leaves meet a type's kinds exactly where they are those of a value of it, and unused ones
-pub meets-gives : (τ : Ty) {ls : List Given} → Meets (padded noLeaf (leafKinds τ)) ls → (v : Val) × Gives ls τ v
+pub meets_gives : (τ : Ty) {ls : List Given} → Meets (padded no_leaf (leaf_kinds τ)) ls → (v : Val) × Gives ls τ v
 unfolding padded
-meets-gives τ {ls} d =
+meets_gives τ {ls} d =
     let p = begins τ d in
-    let e : length (leafKinds τ) ≡ length (leavesOf p.val) = length-kinds τ ∙ sym (length-leaves p.typed) in
-    (p.val, record { typed = p.typed; others = p.rest; split = p.split; unused = subst (λ n. Unused (maxLeaves - n) p.rest) e (met-unused (maxLeaves - length (leafKinds τ)) p.met) })
+    let e : length (leaf_kinds τ) ≡ length (leaves_of p.val) = length_kinds τ ∙ sym (length_leaves p.typed) in
+    (p.val, record { typed = p.typed; others = p.rest; split = p.split; unused = subst (λ n. Unused (max_leaves - n) p.rest) e (met_unused (max_leaves - length (leaf_kinds τ)) p.met) })
 
-pub gives-meets : {τ : Ty} {ls : List Given} {v : Val} → Gives ls τ v → Meets (padded noLeaf (leafKinds τ)) ls
+pub gives_meets : {τ : Ty} {ls : List Given} {v : Val} → Gives ls τ v → Meets (padded no_leaf (leaf_kinds τ)) ls
 unfolding padded
-gives-meets {τ} {ls} {v} g =
-    let e : length (leavesOf v) ≡ length (leafKinds τ) = length-leaves g.typed ∙ sym (length-kinds τ) in
-    subst (λ ls. Meets (padded noLeaf (leafKinds τ)) ls) (sym g.split) (met_by g.typed (unused-met (subst (λ n. Unused (maxLeaves - n) g.others) e g.unused)))
+gives_meets {τ} {ls} {v} g =
+    let e : length (leaves_of v) ≡ length (leaf_kinds τ) = length_leaves g.typed ∙ sym (length_kinds τ) in
+    subst (λ ls. Meets (padded no_leaf (leaf_kinds τ)) ls) (sym g.split) (met_by g.typed (unused_met (subst (λ n. Unused (max_leaves - n) g.others) e g.unused)))
 
 -- that value is the one that `value_of` reads
-numbers-back : (ls : List ℤ) → map numberGiven (map some ls) ≡ ls
-unfolding numberGiven
-numbers-back [] = refl
-numbers-back (n ∷ ls) = ap (λ ms. n ∷ ms) (numbers-back ls)
+numbers_back : (ls : List ℤ) → map number_given (map some ls) ≡ ls
+unfolding number_given
+numbers_back [] = refl
+numbers_back (n ∷ ls) = ap (λ ms. n ∷ ms) (numbers_back ls)
 
-gives-value : {τ : Ty} {ls : List Given} {v : Val} → Gives ls τ v → value_of τ (map numberGiven ls) ≡ v
-gives-value {τ} {ls} {v} g =
-    let e = ap (map numberGiven) g.split ∙ map-append numberGiven (map some (leavesOf v)) g.others ∙ ap (λ ms. ms ++ map numberGiven g.others) (numbers-back (leavesOf v)) in
-    ap (value_of τ) e ∙ value-back g.typed (map numberGiven g.others)
+gives_value : {τ : Ty} {ls : List Given} {v : Val} → Gives ls τ v → value_of τ (map number_given ls) ≡ v
+gives_value {τ} {ls} {v} g =
+    let e = ap (map number_given) g.split ∙ map-append number_given (map some (leaves_of v)) g.others ∙ ap (λ ms. ms ++ map number_given g.others) (numbers_back (leaves_of v)) in
+    ap (value_of τ) e ∙ value_back g.typed (map number_given g.others)
 
 pub gives_one : {τ : Ty} {ls : List Given} {v w : Val} → Gives ls τ v → Gives ls τ w → v ≡ w
-gives_one g h = sym (gives-value g) ∙ gives-value h
+gives_one g h = sym (gives_value g) ∙ gives_value h
 
 -- `given` computes the value that the leaves give
-pub gives-given : {τ : Ty} {ls : List Given} {v : Val} → Gives ls τ v → given τ ls ≡ some v
+pub gives_given : {τ : Ty} {ls : List Given} {v : Val} → Gives ls τ v → given τ ls ≡ some v
 unfolding given
-gives-given g = let p = meets-is (gives-meets g) in let q = gives-value g in rw (p, q)
+gives_given g = let p = meets_is (gives_meets g) in let q = gives_value g in rw (p, q)
 
-pub given-gives : (τ : Ty) {ls : List Given} {v : Val} → given τ ls ≡ some v → Gives ls τ v
+pub given_gives : (τ : Ty) {ls : List Given} {v : Val} → given τ ls ≡ some v → Gives ls τ v
 unfolding given
-given-gives τ {ls} {v} h = by-test _ refl h
+given_gives τ {ls} {v} h = by_test _ refl h
   where
-    by-test : (x : Bool) → meets (padded noLeaf (leafKinds τ)) ls ≡ x → cond x (some (value_of τ (map numberGiven ls))) none ≡ some v → Gives ls τ v
-    by-test true e f =
-        let (w, g) = meets-gives τ (meets-sound _ _ e) in
-        let p = gives-value g in
+    by_test : (x : Bool) → meets (padded no_leaf (leaf_kinds τ)) ls ≡ x → cond x (some (value_of τ (map number_given ls))) none ≡ some v → Gives ls τ v
+    by_test true e f =
+        let (w, g) = meets_gives τ (meets_sound _ _ e) in
+        let p = gives_value g in
         let q : w ≡ v = cc in
         subst (λ v. Gives ls τ v) q g
-    by-test false e f = no-some f
+    by_test false e f = no_some f
 
 -- ---- leaves without a blank: those of a value, and zeros
 
-pub padded-gives : {v : Val} {τ : Ty} → ValueType v τ → Gives (map some (padded (pos 0) (leavesOf v))) τ v
+pub padded_gives : {v : Val} {τ : Ty} → ValueType v τ → Gives (map some (padded (pos 0) (leaves_of v))) τ v
 unfolding padded
-padded-gives {v} h = record { typed = h; others = _; split = map-append some (leavesOf v) (replicate (maxLeaves - length (leavesOf v)) (pos 0)); unused = zeros (maxLeaves - length (leavesOf v)) }
+padded_gives {v} h = record { typed = h; others = _; split = map-append some (leaves_of v) (replicate (max_leaves - length (leaves_of v)) (pos 0)); unused = zeros (max_leaves - length (leaves_of v)) }
   where
     zeros : (n : ℕ) → Unused n (map some (replicate n (pos 0)))
-    zeros zero = u-end
-    zeros (suc n) = u-zero (zeros n)
+    zeros zero = u_end
+    zeros (suc n) = u_zero (zeros n)
 
-pub gives-padded : (ns : List ℤ) {τ : Ty} {v : Val} → Gives (map some ns) τ v → ns ≡ padded (pos 0) (leavesOf v)
+pub gives_padded : (ns : List ℤ) {τ : Ty} {v : Val} → Gives (map some ns) τ v → ns ≡ padded (pos 0) (leaves_of v)
 unfolding padded
-gives-padded ns {τ} {v} g = by ns (leavesOf v) (maxLeaves - length (leavesOf v)) g.unused g.split
+gives_padded ns {τ} {v} g = by ns (leaves_of v) (max_leaves - length (leaves_of v)) g.unused g.split
   where
     zeros : (ns : List ℤ) {n : ℕ} {ls : List Given} → Unused n ls → map some ns ≡ ls → ns ≡ replicate n (pos 0)
-    zeros [] u-end e = refl
-    zeros [] (u-zero u) e = let z : ◌≡◌ {A = ℕ} 0 1 = cc in absurd (omega arith)
-    zeros [] (u-blank u) e = let z : ◌≡◌ {A = ℕ} 0 1 = cc in absurd (omega arith)
-    zeros (m ∷ ns) u-end e = let z : ◌≡◌ {A = ℕ} 0 1 = cc in absurd (omega arith)
-    zeros (m ∷ ns) (u-zero {ls = ls} u) e =
+    zeros [] u_end e = refl
+    zeros [] (u_zero u) e = let z : ◌≡◌ {A = ℕ} 0 1 = cc in absurd (omega arith)
+    zeros [] (u_blank u) e = let z : ◌≡◌ {A = ℕ} 0 1 = cc in absurd (omega arith)
+    zeros (m ∷ ns) u_end e = let z : ◌≡◌ {A = ℕ} 0 1 = cc in absurd (omega arith)
+    zeros (m ∷ ns) (u_zero {ls = ls} u) e =
         let a : m ≡ pos 0 = cc in
         let b : map some ns ≡ ls = cc in
         ap₂ ◌∷◌ a (zeros ns u b)
-    zeros (m ∷ ns) (u-blank u) e = let z : ◌≡◌ {A = ℕ} 0 1 = cc in absurd (omega arith)
+    zeros (m ∷ ns) (u_blank u) e = let z : ◌≡◌ {A = ℕ} 0 1 = cc in absurd (omega arith)
 
     by : (ns ms : List ℤ) (n : ℕ) {ls : List Given} → Unused n ls → map some ns ≡ map some ms ++ ls → ns ≡ ms ++ replicate n (pos 0)
     by ns [] n u e = zeros ns u e

@@ -1,20 +1,20 @@
 -- Evaluation of tasks: a typed task evaluates by the rules to what `evaluate` gives, a running task of its type, unless
--- `overflowsTask` says that it leaves the words; then the rules say so too. And what the rules derive is what the functions give,
+-- `overflows_task` says that it leaves the words; then the rules say so too. And what the rules derive is what the functions give,
 -- typed or not. Rests on EvaluationAgrees.
 use mathlib.Core.Path.{◌≡◌, refl}
 use mathlib.Core.Bool.{Bool, true, false, ◌||◌}
 use mathlib.Core.Logic.{◌⊎◌, inl, inr}
 use mathlib.Core.List.{List}
 use native.Mathlib.Omega.{arith}
-use Rattle.tophat.specs.Syntax.{Ty, truth, Exp, Code, if, Val, vtruth, Env, Store, TaskOf, ifTrue, ifFalse}
-use Rattle.tophat.specs.Typing.{HasType, CodeType, t-edit, t-enter, t-update, t-then, t-next, t-fail, t-and, t-or, t-xor, t-view, t-gate, t-if-task, t-let-task}
-use Rattle.tophat.specs.Typing.{ValueType, v-truth, ValueTypes, v-cons}
-use Rattle.tophat.specs.Typing.{TaskType, k-filled, k-blank, k-shared, k-then-before, k-next-before, k-failed, k-both, k-either, k-unpicked, k-viewed, k-gated, k-if-true, k-if-false, k-bound}
-use Rattle.tophat.specs.Evaluation.{EvaluatesTask, e-edit, e-enter, e-update, e-then, e-next, e-fail, e-and, e-or, e-xor, e-view, e-gate, e-if-true-task, e-if-false-task, e-let-task}
-use Rattle.tophat.specs.Evaluation.{OverflowsTask, o-edit, o-view, o-gate, o-then, o-next, o-and-left, o-and-right, o-or-left, o-or-right, o-if-task, o-if-true-task, o-if-false-task, o-let-task, o-let-task-body}
-use Rattle.tophat.proofs.Basics.{apart, by-truth, or-false, or-true}
-use Rattle.tophat.proofs.ComputeEvaluation.{leaf, isTrue, branch, overflows, evaluate, overflowsTask}
-use Rattle.tophat.proofs.EvaluationAgrees.{Good, eval-good, eval-is, overflows-is}
+use Rattle.tophat.specs.Syntax.{Ty, truth, Exp, Code, if, Val, vtruth, Env, Store, TaskOf, if_true, if_false}
+use Rattle.tophat.specs.Typing.{HasType, CodeType, t_edit, t_enter, t_update, t_then, t_next, t_fail, t_and, t_or, t_xor, t_view, t_gate, t_if_task, t_let_task}
+use Rattle.tophat.specs.Typing.{ValueType, v_truth, ValueTypes, v_cons}
+use Rattle.tophat.specs.Typing.{TaskType, k_filled, k_blank, k_shared, k_then_before, k_next_before, k_failed, k_both, k_either, k_unpicked, k_viewed, k_gated, k_if_true, k_if_false, k_bound}
+use Rattle.tophat.specs.Evaluation.{EvaluatesTask, e_edit, e_enter, e_update, e_then, e_next, e_fail, e_and, e_or, e_xor, e_view, e_gate, e_if_true_task, e_if_false_task, e_let_task}
+use Rattle.tophat.specs.Evaluation.{OverflowsTask, o_edit, o_view, o_gate, o_then, o_next, o_and_left, o_and_right, o_or_left, o_or_right, o_if_task, o_if_true_task, o_if_false_task, o_let_task, o_let_task_body}
+use Rattle.tophat.proofs.Basics.{apart, by_truth, or_false, or_true}
+use Rattle.tophat.proofs.ComputeEvaluation.{leaf, is_true, branch, overflows, evaluate, overflows_task}
+use Rattle.tophat.proofs.EvaluationAgrees.{Good, eval_good, eval_is, overflows_is}
 
 -- what evaluating a task gives is derived, or that it leaves the words; it is a task of the type, and keeps the cells' types
 pub record GoodTask (Σ Γ : List Ty) (c : Code) (ρ : Env) (s : Store) (τ : Ty) (r : TaskOf c × Store) (x : Bool) : Type 0 where
@@ -26,109 +26,109 @@ pub record GoodTask (Σ Γ : List Ty) (c : Code) (ρ : Env) (s : Store) (τ : Ty
 sure : {Σ Γ : List Ty} {c : Code} {ρ : Env} {s : Store} {τ : Ty} {r : TaskOf c × Store} → EvaluatesTask c ρ s r.0 r.1 → TaskType Σ Γ c r.0 τ → ValueTypes r.1 Σ → GoodTask Σ Γ c ρ s τ r false
 sure d t k = record { derived = λ h. d; over = λ h. apart h refl; task = t; store = k }
 
-if-good : {Σ Γ : List Ty} {ρ : Env} {s : Store} {e : Exp} {a b : Code} {τ : Ty} {r : Val × Store} (x : Bool)
+if_good : {Σ Γ : List Ty} {ρ : Env} {s : Store} {e : Exp} {a b : Code} {τ : Ty} {r : Val × Store} (x : Bool)
     → HasType Σ Γ e truth → CodeType Σ Γ a τ → CodeType Σ Γ b τ → Good Σ ρ s e truth r x → ValueType r.0 truth
-    → GoodTask Σ Γ a ρ r.1 τ (evaluate a ρ r.1) (overflowsTask a ρ r.1) → GoodTask Σ Γ b ρ r.1 τ (evaluate b ρ r.1) (overflowsTask b ρ r.1)
+    → GoodTask Σ Γ a ρ r.1 τ (evaluate a ρ r.1) (overflows_task a ρ r.1) → GoodTask Σ Γ b ρ r.1 τ (evaluate b ρ r.1) (overflows_task b ρ r.1)
     → GoodTask Σ Γ (if e a b) ρ s τ
-    (branch (isTrue r.0) (λ s. (ifTrue (evaluate a ρ s).0, (evaluate a ρ s).1)) (λ s. (ifFalse (evaluate b ρ s).0, (evaluate b ρ s).1)) r.1)
-    (x || branch (isTrue r.0) (λ s. overflowsTask a ρ s) (λ s. overflowsTask b ρ s) r.1)
-unfolding branch isTrue leaf
-if-good {ρ = ρ} {a = a} {r = (vtruth true, s₁)} x h k l c (v-truth {b = true}) p q = record {
-  derived = λ z. let (i, j) = or-false x (overflowsTask a ρ s₁) z in e-if-true-task (c.derived i) (p.derived j);
-  over = λ z. or-true x (overflowsTask a ρ s₁) z (λ i. o-if-task (c.over i)) (λ i j. o-if-true-task (c.derived i) (p.over j));
-  task = k-if-true h p.task l;
+    (branch (is_true r.0) (λ s. (if_true (evaluate a ρ s).0, (evaluate a ρ s).1)) (λ s. (if_false (evaluate b ρ s).0, (evaluate b ρ s).1)) r.1)
+    (x || branch (is_true r.0) (λ s. overflows_task a ρ s) (λ s. overflows_task b ρ s) r.1)
+unfolding branch is_true leaf
+if_good {ρ = ρ} {a = a} {r = (vtruth true, s₁)} x h k l c (v_truth {b = true}) p q = record {
+  derived = λ z. let (i, j) = or_false x (overflows_task a ρ s₁) z in e_if_true_task (c.derived i) (p.derived j);
+  over = λ z. or_true x (overflows_task a ρ s₁) z (λ i. o_if_task (c.over i)) (λ i j. o_if_true_task (c.derived i) (p.over j));
+  task = k_if_true h p.task l;
   store = p.store;
 }
-if-good {ρ = ρ} {b = b} {r = (vtruth false, s₁)} x h k l c (v-truth {b = false}) p q = record {
-  derived = λ z. let (i, j) = or-false x (overflowsTask b ρ s₁) z in e-if-false-task (c.derived i) (q.derived j);
-  over = λ z. or-true x (overflowsTask b ρ s₁) z (λ i. o-if-task (c.over i)) (λ i j. o-if-false-task (c.derived i) (q.over j));
-  task = k-if-false h k q.task;
+if_good {ρ = ρ} {b = b} {r = (vtruth false, s₁)} x h k l c (v_truth {b = false}) p q = record {
+  derived = λ z. let (i, j) = or_false x (overflows_task b ρ s₁) z in e_if_false_task (c.derived i) (q.derived j);
+  over = λ z. or_true x (overflows_task b ρ s₁) z (λ i. o_if_task (c.over i)) (λ i j. o_if_false_task (c.derived i) (q.over j));
+  task = k_if_false h k q.task;
   store = q.store;
 }
 
 -- soundness and preservation in one
-pub evaluate-good : {Σ Γ : List Ty} {c : Code} {τ : Ty} → CodeType Σ Γ c τ → (ρ : Env) (s : Store) → ValueTypes ρ Γ → ValueTypes s Σ → GoodTask Σ Γ c ρ s τ (evaluate c ρ s) (overflowsTask c ρ s)
-unfolding evaluate overflowsTask
-evaluate-good (t-edit d) ρ s g h = let p = eval-good d ρ s g h in record { derived = λ z. e-edit (p.derived z); over = λ z. o-edit (p.over z); task = k-filled d p.typed; store = p.kept }
-evaluate-good (t-enter l) ρ s g h = sure e-enter (k-blank l) h
-evaluate-good (t-update d) ρ s g h = sure e-update (k-shared d) h
-evaluate-good (t-then d e) ρ s g h = let p = evaluate-good d ρ s g h in record { derived = λ z. e-then (p.derived z); over = λ z. o-then (p.over z); task = k-then-before p.task e; store = p.store }
-evaluate-good (t-next d e) ρ s g h = let p = evaluate-good d ρ s g h in record { derived = λ z. e-next (p.derived z); over = λ z. o-next (p.over z); task = k-next-before p.task e; store = p.store }
-evaluate-good (t-fail l) ρ s g h = sure e-fail (k-failed l) h
-evaluate-good (t-and {a = a} d e l) ρ s g h =
-    let p = evaluate-good d ρ s g h in
-    let q = evaluate-good e ρ _ g p.store in
+pub evaluate_good : {Σ Γ : List Ty} {c : Code} {τ : Ty} → CodeType Σ Γ c τ → (ρ : Env) (s : Store) → ValueTypes ρ Γ → ValueTypes s Σ → GoodTask Σ Γ c ρ s τ (evaluate c ρ s) (overflows_task c ρ s)
+unfolding evaluate overflows_task
+evaluate_good (t_edit d) ρ s g h = let p = eval_good d ρ s g h in record { derived = λ z. e_edit (p.derived z); over = λ z. o_edit (p.over z); task = k_filled d p.typed; store = p.kept }
+evaluate_good (t_enter l) ρ s g h = sure e_enter (k_blank l) h
+evaluate_good (t_update d) ρ s g h = sure e_update (k_shared d) h
+evaluate_good (t_then d e) ρ s g h = let p = evaluate_good d ρ s g h in record { derived = λ z. e_then (p.derived z); over = λ z. o_then (p.over z); task = k_then_before p.task e; store = p.store }
+evaluate_good (t_next d e) ρ s g h = let p = evaluate_good d ρ s g h in record { derived = λ z. e_next (p.derived z); over = λ z. o_next (p.over z); task = k_next_before p.task e; store = p.store }
+evaluate_good (t_fail l) ρ s g h = sure e_fail (k_failed l) h
+evaluate_good (t_and {a = a} d e l) ρ s g h =
+    let p = evaluate_good d ρ s g h in
+    let q = evaluate_good e ρ _ g p.store in
     record {
-      derived = λ z. let (i, j) = or-false (overflowsTask a ρ s) _ z in e-and (p.derived i) (q.derived j);
-      over = λ z. or-true (overflowsTask a ρ s) _ z (λ i. o-and-left (p.over i)) (λ i j. o-and-right (p.derived i) (q.over j));
-      task = k-both p.task q.task l;
+      derived = λ z. let (i, j) = or_false (overflows_task a ρ s) _ z in e_and (p.derived i) (q.derived j);
+      over = λ z. or_true (overflows_task a ρ s) _ z (λ i. o_and_left (p.over i)) (λ i j. o_and_right (p.derived i) (q.over j));
+      task = k_both p.task q.task l;
       store = q.store;
     }
-evaluate-good (t-or {a = a} d e) ρ s g h =
-    let p = evaluate-good d ρ s g h in
-    let q = evaluate-good e ρ _ g p.store in
+evaluate_good (t_or {a = a} d e) ρ s g h =
+    let p = evaluate_good d ρ s g h in
+    let q = evaluate_good e ρ _ g p.store in
     record {
-      derived = λ z. let (i, j) = or-false (overflowsTask a ρ s) _ z in e-or (p.derived i) (q.derived j);
-      over = λ z. or-true (overflowsTask a ρ s) _ z (λ i. o-or-left (p.over i)) (λ i j. o-or-right (p.derived i) (q.over j));
-      task = k-either p.task q.task;
+      derived = λ z. let (i, j) = or_false (overflows_task a ρ s) _ z in e_or (p.derived i) (q.derived j);
+      over = λ z. or_true (overflows_task a ρ s) _ z (λ i. o_or_left (p.over i)) (λ i j. o_or_right (p.derived i) (q.over j));
+      task = k_either p.task q.task;
       store = q.store;
     }
-evaluate-good (t-xor d e) ρ s g h = sure e-xor (k-unpicked d e) h
-evaluate-good (t-view d) ρ s g h = let p = eval-good d ρ s g h in record { derived = λ z. e-view (p.derived z); over = λ z. o-view (p.over z); task = k-viewed d p.typed; store = p.kept }
-evaluate-good (t-gate {n = n} d) ρ s g h = let p = evaluate-good d ρ s g h in record { derived = λ z. e-gate (p.derived z); over = λ z. o-gate (p.over z); task = k-gated {n = n} {k = n} (omega arith) p.task; store = p.store }
-evaluate-good (t-if-task x d e) ρ s g h =
-    let p = eval-good x ρ s g h in
-    if-good _ x d e p p.typed (evaluate-good d ρ _ g p.kept) (evaluate-good e ρ _ g p.kept)
-evaluate-good (t-let-task {e = e} x d) ρ s g h =
-    let p = eval-good x ρ s g h in
-    let q = evaluate-good d _ _ (v-cons p.typed g) p.kept in
+evaluate_good (t_xor d e) ρ s g h = sure e_xor (k_unpicked d e) h
+evaluate_good (t_view d) ρ s g h = let p = eval_good d ρ s g h in record { derived = λ z. e_view (p.derived z); over = λ z. o_view (p.over z); task = k_viewed d p.typed; store = p.kept }
+evaluate_good (t_gate {n = n} d) ρ s g h = let p = evaluate_good d ρ s g h in record { derived = λ z. e_gate (p.derived z); over = λ z. o_gate (p.over z); task = k_gated {n = n} {k = n} (omega arith) p.task; store = p.store }
+evaluate_good (t_if_task x d e) ρ s g h =
+    let p = eval_good x ρ s g h in
+    if_good _ x d e p p.typed (evaluate_good d ρ _ g p.kept) (evaluate_good e ρ _ g p.kept)
+evaluate_good (t_let_task {e = e} x d) ρ s g h =
+    let p = eval_good x ρ s g h in
+    let q = evaluate_good d _ _ (v_cons p.typed g) p.kept in
     record {
-      derived = λ z. let (i, j) = or-false (overflows e ρ s) _ z in e-let-task (p.derived i) (q.derived j);
-      over = λ z. or-true (overflows e ρ s) _ z (λ i. o-let-task (p.over i)) (λ i j. o-let-task-body (p.derived i) (q.over j));
-      task = k-bound x p.typed q.task;
+      derived = λ z. let (i, j) = or_false (overflows e ρ s) _ z in e_let_task (p.derived i) (q.derived j);
+      over = λ z. or_true (overflows e ρ s) _ z (λ i. o_let_task (p.over i)) (λ i j. o_let_task_body (p.derived i) (q.over j));
+      task = k_bound x p.typed q.task;
       store = q.store;
     }
 
 -- completeness, with no types: what is derived is what the functions give, so there is at most one task and one store, and a task
 -- that evaluates does not leave the words
-pub evaluate-is : {c : Code} {ρ : Env} {s s₁ : Store} {t : TaskOf c} → EvaluatesTask c ρ s t s₁ → (evaluate c ρ s ≡ (t, s₁)) × (overflowsTask c ρ s ≡ false)
-unfolding evaluate overflowsTask branch isTrue leaf
-evaluate-is (e-edit d) = let (p, x) = eval-is d in (rw p, x)
-evaluate-is e-enter = (refl, refl)
-evaluate-is e-update = (refl, refl)
-evaluate-is (e-then d) = let (p, x) = evaluate-is d in (rw p, x)
-evaluate-is (e-next d) = let (p, x) = evaluate-is d in (rw p, x)
-evaluate-is e-fail = (refl, refl)
-evaluate-is (e-and d d₁) = let (p, x) = evaluate-is d in let (q, y) = evaluate-is d₁ in (rw (p, q), rw (p, x, y))
-evaluate-is (e-or d d₁) = let (p, x) = evaluate-is d in let (q, y) = evaluate-is d₁ in (rw (p, q), rw (p, x, y))
-evaluate-is e-xor = (refl, refl)
-evaluate-is (e-view d) = let (p, x) = eval-is d in (rw p, x)
-evaluate-is (e-gate d) = let (p, x) = evaluate-is d in (rw p, x)
-evaluate-is (e-if-true-task c d) = let (p, x) = eval-is c in let (q, y) = evaluate-is d in (rw (p, q), rw (p, x, y))
-evaluate-is (e-if-false-task c d) = let (p, x) = eval-is c in let (q, y) = evaluate-is d in (rw (p, q), rw (p, x, y))
-evaluate-is (e-let-task c d) = let (p, x) = eval-is c in let (q, y) = evaluate-is d in (rw (p, q), rw (p, x, y))
+pub evaluate_is : {c : Code} {ρ : Env} {s s₁ : Store} {t : TaskOf c} → EvaluatesTask c ρ s t s₁ → (evaluate c ρ s ≡ (t, s₁)) × (overflows_task c ρ s ≡ false)
+unfolding evaluate overflows_task branch is_true leaf
+evaluate_is (e_edit d) = let (p, x) = eval_is d in (rw p, x)
+evaluate_is e_enter = (refl, refl)
+evaluate_is e_update = (refl, refl)
+evaluate_is (e_then d) = let (p, x) = evaluate_is d in (rw p, x)
+evaluate_is (e_next d) = let (p, x) = evaluate_is d in (rw p, x)
+evaluate_is e_fail = (refl, refl)
+evaluate_is (e_and d d₁) = let (p, x) = evaluate_is d in let (q, y) = evaluate_is d₁ in (rw (p, q), rw (p, x, y))
+evaluate_is (e_or d d₁) = let (p, x) = evaluate_is d in let (q, y) = evaluate_is d₁ in (rw (p, q), rw (p, x, y))
+evaluate_is e_xor = (refl, refl)
+evaluate_is (e_view d) = let (p, x) = eval_is d in (rw p, x)
+evaluate_is (e_gate d) = let (p, x) = evaluate_is d in (rw p, x)
+evaluate_is (e_if_true_task c d) = let (p, x) = eval_is c in let (q, y) = evaluate_is d in (rw (p, q), rw (p, x, y))
+evaluate_is (e_if_false_task c d) = let (p, x) = eval_is c in let (q, y) = evaluate_is d in (rw (p, q), rw (p, x, y))
+evaluate_is (e_let_task c d) = let (p, x) = eval_is c in let (q, y) = evaluate_is d in (rw (p, q), rw (p, x, y))
 
-pub overflows-task-is : {c : Code} {ρ : Env} {s : Store} → OverflowsTask c ρ s → overflowsTask c ρ s ≡ true
-unfolding overflowsTask branch isTrue leaf
-overflows-task-is (o-edit d) = overflows-is d
-overflows-task-is (o-view d) = overflows-is d
-overflows-task-is (o-gate d) = overflows-task-is d
-overflows-task-is (o-then d) = overflows-task-is d
-overflows-task-is (o-next d) = overflows-task-is d
-overflows-task-is (o-and-left d) = let x = overflows-task-is d in rw x
-overflows-task-is (o-and-right d e) = let (p, x) = evaluate-is d in let y = overflows-task-is e in rw (p, x, y)
-overflows-task-is (o-or-left d) = let x = overflows-task-is d in rw x
-overflows-task-is (o-or-right d e) = let (p, x) = evaluate-is d in let y = overflows-task-is e in rw (p, x, y)
-overflows-task-is (o-if-task d) = let x = overflows-is d in rw x
-overflows-task-is (o-if-true-task d e) = let (p, x) = eval-is d in let y = overflows-task-is e in rw (p, x, y)
-overflows-task-is (o-if-false-task d e) = let (p, x) = eval-is d in let y = overflows-task-is e in rw (p, x, y)
-overflows-task-is (o-let-task d) = let x = overflows-is d in rw x
-overflows-task-is (o-let-task-body d e) = let (p, x) = eval-is d in let y = overflows-task-is e in rw (p, x, y)
+pub overflows_task_is : {c : Code} {ρ : Env} {s : Store} → OverflowsTask c ρ s → overflows_task c ρ s ≡ true
+unfolding overflows_task branch is_true leaf
+overflows_task_is (o_edit d) = overflows_is d
+overflows_task_is (o_view d) = overflows_is d
+overflows_task_is (o_gate d) = overflows_task_is d
+overflows_task_is (o_then d) = overflows_task_is d
+overflows_task_is (o_next d) = overflows_task_is d
+overflows_task_is (o_and_left d) = let x = overflows_task_is d in rw x
+overflows_task_is (o_and_right d e) = let (p, x) = evaluate_is d in let y = overflows_task_is e in rw (p, x, y)
+overflows_task_is (o_or_left d) = let x = overflows_task_is d in rw x
+overflows_task_is (o_or_right d e) = let (p, x) = evaluate_is d in let y = overflows_task_is e in rw (p, x, y)
+overflows_task_is (o_if_task d) = let x = overflows_is d in rw x
+overflows_task_is (o_if_true_task d e) = let (p, x) = eval_is d in let y = overflows_task_is e in rw (p, x, y)
+overflows_task_is (o_if_false_task d e) = let (p, x) = eval_is d in let y = overflows_task_is e in rw (p, x, y)
+overflows_task_is (o_let_task d) = let x = overflows_is d in rw x
+overflows_task_is (o_let_task_body d e) = let (p, x) = eval_is d in let y = overflows_task_is e in rw (p, x, y)
 
 -- of a typed code exactly one of the two is derived: a task and a store, or that it leaves the words
-pub evaluates-or-overflows : {Σ Γ : List Ty} {c : Code} {τ : Ty} → CodeType Σ Γ c τ → (ρ : Env) (s : Store) → ValueTypes ρ Γ → ValueTypes s Σ
+pub evaluates_or_overflows : {Σ Γ : List Ty} {c : Code} {τ : Ty} → CodeType Σ Γ c τ → (ρ : Env) (s : Store) → ValueTypes ρ Γ → ValueTypes s Σ
     → ((t : TaskOf c) × (s₁ : Store) × EvaluatesTask c ρ s t s₁) ⊎ OverflowsTask c ρ s
-evaluates-or-overflows {c = c} d ρ s g h = let k = evaluate-good d ρ s g h in by-truth (overflowsTask c ρ s) (λ o. inr (k.over o)) (λ o. inl (_, _, k.derived o))
+evaluates_or_overflows {c = c} d ρ s g h = let k = evaluate_good d ρ s g h in by_truth (overflows_task c ρ s) (λ o. inr (k.over o)) (λ o. inl (_, _, k.derived o))
 
-pub overflows-alone : {c : Code} {ρ : Env} {s s₁ : Store} {t : TaskOf c} → EvaluatesTask c ρ s t s₁ → OverflowsTask c ρ s → ⊥
-overflows-alone d o = apart (overflows-task-is o) (evaluate-is d).1
+pub overflows_alone : {c : Code} {ρ : Env} {s s₁ : Store} {t : TaskOf c} → EvaluatesTask c ρ s t s₁ → OverflowsTask c ρ s → ⊥
+overflows_alone d o = apart (overflows_task_is o) (evaluate_is d).1

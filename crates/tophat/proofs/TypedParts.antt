@@ -3,67 +3,67 @@
 use mathlib.Core.List.{List, ◌∷◌}
 use Prim.Native.Nat.{ℕ, ◌≤◌}
 use Rattle.tophat.specs.Syntax.{Ty, pair, Exp, Code, edit, enter, then, next, and, or, xor, view, gate, if, let', Val}
-use Rattle.tophat.specs.Syntax.{TaskOf, filled, entered, before, after, both, either, orLeft, orRight, pickedLeft, pickedRight, gated, ifTrue, ifFalse, bound}
-use Rattle.tophat.specs.Typing.{ValueType, HasType, CodeType, t-or}
-use Rattle.tophat.specs.Typing.{TaskType, k-filled, k-entered, k-then-before, k-then-after, k-next-before, k-next-after, k-both, k-either, k-or-left, k-or-right}
-use Rattle.tophat.specs.Typing.{k-picked-left, k-picked-right, k-viewed, k-gated, k-if-true, k-if-false, k-bound}
+use Rattle.tophat.specs.Syntax.{TaskOf, filled, entered, before, after, both, either, or_left, or_right, picked_left, picked_right, gated, if_true, if_false, bound}
+use Rattle.tophat.specs.Typing.{ValueType, HasType, CodeType, t_or}
+use Rattle.tophat.specs.Typing.{TaskType, k_filled, k_entered, k_then_before, k_then_after, k_next_before, k_next_after, k_both, k_either, k_or_left, k_or_right}
+use Rattle.tophat.specs.Typing.{k_picked_left, k_picked_right, k_viewed, k_gated, k_if_true, k_if_false, k_bound}
 
 module _ {Σ Γ : List Ty} {τ : Ty} where
-  pub filled-typed : {e : Exp} {v : Val} → TaskType Σ Γ (edit e) (filled v) τ → ValueType v τ
-  filled-typed (k-filled d h) = h
+  pub filled_typed : {e : Exp} {v : Val} → TaskType Σ Γ (edit e) (filled v) τ → ValueType v τ
+  filled_typed (k_filled d h) = h
 
-  pub entered-typed : {υ : Ty} {v : Val} → TaskType Σ Γ (enter υ) (entered v) τ → ValueType v τ
-  entered-typed (k-entered l h) = h
+  pub entered_typed : {υ : Ty} {v : Val} → TaskType Σ Γ (enter υ) (entered v) τ → ValueType v τ
+  entered_typed (k_entered l h) = h
 
-  pub viewed-typed : {e : Exp} {v : Val} → TaskType Σ Γ (view e) (filled v) τ → ValueType v τ
-  viewed-typed (k-viewed d h) = h
+  pub viewed_typed : {e : Exp} {v : Val} → TaskType Σ Γ (view e) (filled v) τ → ValueType v τ
+  viewed_typed (k_viewed d h) = h
 
-  pub gated-typed : {r n k : ℕ} {b : Code} {u : TaskOf b} → TaskType Σ Γ (gate r n b) (gated k u) τ → (k ≤ n) × TaskType Σ Γ b u τ
-  gated-typed (k-gated l d) = (l, d)
+  pub gated_typed : {r n k : ℕ} {b : Code} {u : TaskOf b} → TaskType Σ Γ (gate r n b) (gated k u) τ → (k ≤ n) × TaskType Σ Γ b u τ
+  gated_typed (k_gated l d) = (l, d)
 
-  pub bound-typed : {e : Exp} {b : Code} {v : Val} {u : TaskOf b} → TaskType Σ Γ (let' e b) (bound v u) τ
+  pub bound_typed : {e : Exp} {b : Code} {v : Val} {u : TaskOf b} → TaskType Σ Γ (let' e b) (bound v u) τ
       → (υ : Ty) × HasType Σ Γ e υ × ValueType v υ × TaskType Σ (υ ∷ Γ) b u τ
-  bound-typed (k-bound {τ = υ} d h k) = (υ, d, h, k)
+  bound_typed (k_bound {τ = υ} d h k) = (υ, d, h, k)
 
   module _ {a b : Code} where
-    pub or-typed : CodeType Σ Γ (or a b) τ → CodeType Σ Γ a τ × CodeType Σ Γ b τ
-    or-typed (t-or d e) = (d, e)
+    pub or_typed : CodeType Σ Γ (or a b) τ → CodeType Σ Γ a τ × CodeType Σ Γ b τ
+    or_typed (t_or d e) = (d, e)
 
-    pub then-before-typed : {t : TaskOf a} → TaskType Σ Γ (then a b) (before t) τ → (υ : Ty) × TaskType Σ Γ a t υ
-    then-before-typed (k-then-before {τ = υ} k e) = (υ, k)
+    pub then_before_typed : {t : TaskOf a} → TaskType Σ Γ (then a b) (before t) τ → (υ : Ty) × TaskType Σ Γ a t υ
+    then_before_typed (k_then_before {τ = υ} k e) = (υ, k)
 
-    pub then-after-typed : {v : Val} {u : TaskOf b} → TaskType Σ Γ (then a b) (after v u) τ
+    pub then_after_typed : {v : Val} {u : TaskOf b} → TaskType Σ Γ (then a b) (after v u) τ
         → (υ : Ty) × CodeType Σ Γ a υ × ValueType v υ × TaskType Σ (υ ∷ Γ) b u τ
-    then-after-typed (k-then-after {τ = υ} d h k) = (υ, d, h, k)
+    then_after_typed (k_then_after {τ = υ} d h k) = (υ, d, h, k)
 
-    pub next-before-typed : {t : TaskOf a} → TaskType Σ Γ (next a b) (before t) τ → (υ : Ty) × TaskType Σ Γ a t υ
-    next-before-typed (k-next-before {τ = υ} k e) = (υ, k)
+    pub next_before_typed : {t : TaskOf a} → TaskType Σ Γ (next a b) (before t) τ → (υ : Ty) × TaskType Σ Γ a t υ
+    next_before_typed (k_next_before {τ = υ} k e) = (υ, k)
 
-    pub next-after-typed : {v : Val} {u : TaskOf b} → TaskType Σ Γ (next a b) (after v u) τ
+    pub next_after_typed : {v : Val} {u : TaskOf b} → TaskType Σ Γ (next a b) (after v u) τ
         → (υ : Ty) × CodeType Σ Γ a υ × ValueType v υ × TaskType Σ (υ ∷ Γ) b u τ
-    next-after-typed (k-next-after {τ = υ} d h k) = (υ, d, h, k)
+    next_after_typed (k_next_after {τ = υ} d h k) = (υ, d, h, k)
 
-    pub either-typed : {t : TaskOf a} {u : TaskOf b} → TaskType Σ Γ (or a b) (either t u) τ → TaskType Σ Γ a t τ × TaskType Σ Γ b u τ
-    either-typed (k-either d e) = (d, e)
+    pub either_typed : {t : TaskOf a} {u : TaskOf b} → TaskType Σ Γ (or a b) (either t u) τ → TaskType Σ Γ a t τ × TaskType Σ Γ b u τ
+    either_typed (k_either d e) = (d, e)
 
-    pub left_typed : {t : TaskOf a} → TaskType Σ Γ (or a b) (orLeft t) τ → TaskType Σ Γ a t τ × CodeType Σ Γ b τ
-    left_typed (k-or-left d e) = (d, e)
+    pub left_typed : {t : TaskOf a} → TaskType Σ Γ (or a b) (or_left t) τ → TaskType Σ Γ a t τ × CodeType Σ Γ b τ
+    left_typed (k_or_left d e) = (d, e)
 
-    pub right-typed : {u : TaskOf b} → TaskType Σ Γ (or a b) (orRight u) τ → CodeType Σ Γ a τ × TaskType Σ Γ b u τ
-    right-typed (k-or-right d e) = (d, e)
+    pub right_typed : {u : TaskOf b} → TaskType Σ Γ (or a b) (or_right u) τ → CodeType Σ Γ a τ × TaskType Σ Γ b u τ
+    right_typed (k_or_right d e) = (d, e)
 
-    pub picked-left-typed : {t : TaskOf a} → TaskType Σ Γ (xor a b) (pickedLeft t) τ → TaskType Σ Γ a t τ
-    picked-left-typed (k-picked-left d e) = d
+    pub picked_left_typed : {t : TaskOf a} → TaskType Σ Γ (xor a b) (picked_left t) τ → TaskType Σ Γ a t τ
+    picked_left_typed (k_picked_left d e) = d
 
-    pub picked-right-typed : {u : TaskOf b} → TaskType Σ Γ (xor a b) (pickedRight u) τ → TaskType Σ Γ b u τ
-    picked-right-typed (k-picked-right d e) = e
+    pub picked_right_typed : {u : TaskOf b} → TaskType Σ Γ (xor a b) (picked_right u) τ → TaskType Σ Γ b u τ
+    picked_right_typed (k_picked_right d e) = e
 
-    pub if-true-typed : {e : Exp} {t : TaskOf a} → TaskType Σ Γ (if e a b) (ifTrue t) τ → TaskType Σ Γ a t τ
-    if-true-typed (k-if-true x d e) = d
+    pub if_true_typed : {e : Exp} {t : TaskOf a} → TaskType Σ Γ (if e a b) (if_true t) τ → TaskType Σ Γ a t τ
+    if_true_typed (k_if_true x d e) = d
 
-    pub if-false-typed : {e : Exp} {u : TaskOf b} → TaskType Σ Γ (if e a b) (ifFalse u) τ → TaskType Σ Γ b u τ
-    if-false-typed (k-if-false x d e) = e
+    pub if_false_typed : {e : Exp} {u : TaskOf b} → TaskType Σ Γ (if e a b) (if_false u) τ → TaskType Σ Γ b u τ
+    if_false_typed (k_if_false x d e) = e
 
 pub both_typed : {Σ Γ : List Ty} {a b : Code} {t : TaskOf a} {u : TaskOf b} {τ υ : Ty} → TaskType Σ Γ (and a b) (both t u) (pair τ υ)
     → TaskType Σ Γ a t τ × TaskType Σ Γ b u υ
-both_typed (k-both d e l) = (d, e)
+both_typed (k_both d e l) = (d, e)

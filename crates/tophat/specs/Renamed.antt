@@ -4,27 +4,27 @@
 use Rattle.std.specs.Prelude.{◌≡◌, List, ℕ, ◌<◌, length, get_or}
 use Rattle.tophat.specs.Syntax.{Ty, Exp, eunit, etruth, enumber, ebinder, eop, eif, epair, efst, esnd, ederef, eassign, elet}
 use Rattle.tophat.specs.Syntax.{Code, edit, enter, update, then, next, fail, and, or, xor, view, gate, if, let', vunit, Store}
-use Rattle.tophat.specs.Syntax.{TaskOf, before, after, both, either, orLeft, orRight, unpicked, pickedLeft, pickedRight, gated, ifTrue, ifFalse, bound}
+use Rattle.tophat.specs.Syntax.{TaskOf, before, after, both, either, or_left, or_right, unpicked, picked_left, picked_right, gated, if_true, if_false, bound}
 use Rattle.tophat.specs.Typing.{At}
 
 -- an expression with its cells renamed
-abbrev pub renamedExp : (ℕ → ℕ) → Exp → Exp
-renamedExp π eunit = eunit
-renamedExp π (etruth b) = etruth b
-renamedExp π (enumber n) = enumber n
-renamedExp π (ebinder i) = ebinder i
-renamedExp π (eop o a b) = eop o (renamedExp π a) (renamedExp π b)
-renamedExp π (eif e a b) = eif (renamedExp π e) (renamedExp π a) (renamedExp π b)
-renamedExp π (epair a b) = epair (renamedExp π a) (renamedExp π b)
-renamedExp π (efst a) = efst (renamedExp π a)
-renamedExp π (esnd a) = esnd (renamedExp π a)
-renamedExp π (ederef n) = ederef (π n)
-renamedExp π (eassign n a) = eassign (π n) (renamedExp π a)
-renamedExp π (elet a b) = elet (renamedExp π a) (renamedExp π b)
+abbrev pub renamed_exp : (ℕ → ℕ) → Exp → Exp
+renamed_exp π eunit = eunit
+renamed_exp π (etruth b) = etruth b
+renamed_exp π (enumber n) = enumber n
+renamed_exp π (ebinder i) = ebinder i
+renamed_exp π (eop o a b) = eop o (renamed_exp π a) (renamed_exp π b)
+renamed_exp π (eif e a b) = eif (renamed_exp π e) (renamed_exp π a) (renamed_exp π b)
+renamed_exp π (epair a b) = epair (renamed_exp π a) (renamed_exp π b)
+renamed_exp π (efst a) = efst (renamed_exp π a)
+renamed_exp π (esnd a) = esnd (renamed_exp π a)
+renamed_exp π (ederef n) = ederef (π n)
+renamed_exp π (eassign n a) = eassign (π n) (renamed_exp π a)
+renamed_exp π (elet a b) = elet (renamed_exp π a) (renamed_exp π b)
 
 -- a code with its cells renamed
 abbrev pub renamed : (ℕ → ℕ) → Code → Code
-renamed π (edit e) = edit (renamedExp π e)
+renamed π (edit e) = edit (renamed_exp π e)
 renamed π (enter τ) = enter τ
 renamed π (update n) = update (π n)
 renamed π (then a b) = then (renamed π a) (renamed π b)
@@ -33,33 +33,33 @@ renamed π (fail τ) = fail τ
 renamed π (and a b) = and (renamed π a) (renamed π b)
 renamed π (or a b) = or (renamed π a) (renamed π b)
 renamed π (xor a b) = xor (renamed π a) (renamed π b)
-renamed π (view e) = view (renamedExp π e)
+renamed π (view e) = view (renamed_exp π e)
 renamed π (gate r n b) = gate r n (renamed π b)
-renamed π (if e a b) = if (renamedExp π e) (renamed π a) (renamed π b)
-renamed π (let' e b) = let' (renamedExp π e) (renamed π b)
+renamed π (if e a b) = if (renamed_exp π e) (renamed π a) (renamed π b)
+renamed π (let' e b) = let' (renamed_exp π e) (renamed π b)
 
 -- a running task, the same, as one of the renamed code
-unfoldable pub renamedTask : (π : ℕ → ℕ) (c : Code) → TaskOf c → TaskOf (renamed π c)
-renamedTask π (edit e) t = t
-renamedTask π (enter τ) t = t
-renamedTask π (update n) t = t
-renamedTask π (then a b) (before t) = before (renamedTask π a t)
-renamedTask π (then a b) (after v u) = after v (renamedTask π b u)
-renamedTask π (next a b) (before t) = before (renamedTask π a t)
-renamedTask π (next a b) (after v u) = after v (renamedTask π b u)
-renamedTask π (fail τ) t = t
-renamedTask π (and a b) (both t u) = both (renamedTask π a t) (renamedTask π b u)
-renamedTask π (or a b) (either t u) = either (renamedTask π a t) (renamedTask π b u)
-renamedTask π (or a b) (orLeft t) = orLeft (renamedTask π a t)
-renamedTask π (or a b) (orRight u) = orRight (renamedTask π b u)
-renamedTask π (xor a b) unpicked = unpicked
-renamedTask π (xor a b) (pickedLeft t) = pickedLeft (renamedTask π a t)
-renamedTask π (xor a b) (pickedRight u) = pickedRight (renamedTask π b u)
-renamedTask π (view e) t = t
-renamedTask π (gate r n b) (gated k u) = gated k (renamedTask π b u)
-renamedTask π (if e a b) (ifTrue t) = ifTrue (renamedTask π a t)
-renamedTask π (if e a b) (ifFalse u) = ifFalse (renamedTask π b u)
-renamedTask π (let' e b) (bound v u) = bound v (renamedTask π b u)
+unfoldable pub renamed_task : (π : ℕ → ℕ) (c : Code) → TaskOf c → TaskOf (renamed π c)
+renamed_task π (edit e) t = t
+renamed_task π (enter τ) t = t
+renamed_task π (update n) t = t
+renamed_task π (then a b) (before t) = before (renamed_task π a t)
+renamed_task π (then a b) (after v u) = after v (renamed_task π b u)
+renamed_task π (next a b) (before t) = before (renamed_task π a t)
+renamed_task π (next a b) (after v u) = after v (renamed_task π b u)
+renamed_task π (fail τ) t = t
+renamed_task π (and a b) (both t u) = both (renamed_task π a t) (renamed_task π b u)
+renamed_task π (or a b) (either t u) = either (renamed_task π a t) (renamed_task π b u)
+renamed_task π (or a b) (or_left t) = or_left (renamed_task π a t)
+renamed_task π (or a b) (or_right u) = or_right (renamed_task π b u)
+renamed_task π (xor a b) unpicked = unpicked
+renamed_task π (xor a b) (picked_left t) = picked_left (renamed_task π a t)
+renamed_task π (xor a b) (picked_right u) = picked_right (renamed_task π b u)
+renamed_task π (view e) t = t
+renamed_task π (gate r n b) (gated k u) = gated k (renamed_task π b u)
+renamed_task π (if e a b) (if_true t) = if_true (renamed_task π a t)
+renamed_task π (if e a b) (if_false u) = if_false (renamed_task π b u)
+renamed_task π (let' e b) (bound v u) = bound v (renamed_task π b u)
 
 -- every cell that the expression names is in P
 abbrev pub NamesExp : (ℕ → Type 0) → Exp → Type 0

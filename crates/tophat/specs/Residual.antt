@@ -4,7 +4,7 @@
 -- Believed.
 use Rattle.tophat.specs.Syntax.{Exp, eunit, etruth, enumber, epair, Code, edit, enter, update, then, next, fail, and, or, xor, view, gate, if, let'}
 use Rattle.tophat.specs.Syntax.{Val, vunit, vtruth, vnumber, vpair}
-use Rattle.tophat.specs.Syntax.{TaskOf, filled, blank, entered, before, after, both, either, orLeft, orRight, unpicked, pickedLeft, pickedRight, gated, ifTrue, ifFalse, bound}
+use Rattle.tophat.specs.Syntax.{TaskOf, filled, blank, entered, before, after, both, either, or_left, or_right, unpicked, picked_left, picked_right, gated, if_true, if_false, bound}
 
 -- the expression that is a value
 unfoldable pub quoted : Val → Exp
@@ -25,13 +25,13 @@ residual (next a b) (after v u) = let' (quoted v) (residual b u)
 residual (fail τ) t = fail τ
 residual (and a b) (both t u) = and (residual a t) (residual b u)
 residual (or a b) (either t u) = or (residual a t) (residual b u)
-residual (or a b) (orLeft t) = residual a t
-residual (or a b) (orRight u) = residual b u
+residual (or a b) (or_left t) = residual a t
+residual (or a b) (or_right u) = residual b u
 residual (xor a b) unpicked = xor a b
-residual (xor a b) (pickedLeft t) = residual a t
-residual (xor a b) (pickedRight u) = residual b u
+residual (xor a b) (picked_left t) = residual a t
+residual (xor a b) (picked_right u) = residual b u
 residual (view e) (filled v) = view (quoted v)
 residual (gate r n b) (gated k u) = gate r k (residual b u)
-residual (if e a b) (ifTrue t) = residual a t
-residual (if e a b) (ifFalse u) = residual b u
+residual (if e a b) (if_true t) = residual a t
+residual (if e a b) (if_false u) = residual b u
 residual (let' e b) (bound v u) = let' (quoted v) (residual b u)

@@ -25,16 +25,16 @@ Refuses w c t s p x = (t₁ : TaskOf c) (s₁ : Store) (gs : List Gate) → Hand
 
 -- what one call leaves (the paper's Fig. 13: handle, then normalise)
 pub data Leaves (c : Code) : TaskOf c → Store → Call → TaskOf c → Store → Type 0 where
-  l-look : {t : TaskOf c} {s : Store} → Leaves c t s look t s
-  l-taken : {t t₁ t₂ : TaskOf c} {s s₁ s₂ : Store} {r : ℕ} {p : Path} {x : Action} {gs : List Gate} {n : ℕ}
+  l_look : {t : TaskOf c} {s : Store} → Leaves c t s look t s
+  l_taken : {t t₁ t₂ : TaskOf c} {s s₁ s₂ : Store} {r : ℕ} {p : Path} {x : Action} {gs : List Gate} {n : ℕ}
       → Handles c [] s t p x t₁ s₁ gs → admits (is r) gs ≡ true → Normalises c [] s₁ t₁ t₂ s₂ n → Leaves c t s (touch r p x) t₂ s₂
-  l-refused : {t : TaskOf c} {s : Store} {r : ℕ} {p : Path} {x : Action}
+  l_refused : {t : TaskOf c} {s : Store} {r : ℕ} {p : Path} {x : Action}
       → Refuses (is r) c t s p x → Leaves c t s (touch r p x) t s
 
 -- what a list of calls leaves
 pub data Runs (c : Code) : TaskOf c → Store → List Call → TaskOf c → Store → Type 0 where
-  r-end : {t : TaskOf c} {s : Store} → Runs c t s [] t s
-  r-call : {t t₁ t₂ : TaskOf c} {s s₁ s₂ : Store} {k : Call} {ks : List Call}
+  r_end : {t : TaskOf c} {s : Store} → Runs c t s [] t s
+  r_call : {t t₁ t₂ : TaskOf c} {s s₁ s₂ : Store} {k : Call} {ks : List Call}
       → Leaves c t s k t₁ s₁ → Runs c t₁ s₁ ks t₂ s₂ → Runs c t s (k ∷ ks) t₂ s₂
 
 -- 01: a rest is a state that normalising does not change; here with its type
@@ -58,12 +58,12 @@ pub record Stands (Σ : List Ty) (c : Code) (τ : Ty) (t : TaskOf c) (s : Store)
   pub shows : (w : Who) → Shows w c [] s t (shown w)
   pub sole : (w : Who) (es : List Entry) → Shows w c [] s t es → shown w ≡ es
   -- it covers exactly the accepted events
-  pub accepted-iff-covered : (w : Who) (p : Path) (x : Action) → Accepts w c t s p x ↔ ((i : ℕ) × (e : Entry) × At (shown w) i e × Covers e p x)
+  pub accepted_iff_covered : (w : Who) (p : Path) (x : Action) → Accepts w c t s p x ↔ ((i : ℕ) × (e : Entry) × At (shown w) i e × Covers e p x)
   -- each by just one entry
-  pub covered-once : (w : Who) (i j : ℕ) (e f : Entry) (p : Path) (x : Action) → At (shown w) i e → At (shown w) j f → Covers e p x → Covers f p x → i ≡ j
+  pub covered_once : (w : Who) (i j : ℕ) (e f : Entry) (p : Path) (x : Action) → At (shown w) i e → At (shown w) j f → Covers e p x → Covers f p x → i ≡ j
   -- anyone's is empty exactly when the task is quiet, and then it is for all roles
-  pub empty-iff-quiet : (shown anyone ≡ []) ↔ Quiet c [] s t
-  pub quiet-empty : Quiet c [] s t → (w : Who) → shown w ≡ []
+  pub empty_iff_quiet : (shown anyone ≡ []) ↔ Quiet c [] s t
+  pub quiet_empty : Quiet c [] s t → (w : Who) → shown w ≡ []
   -- the rules say whether the task fails, and one that fails is quiet
-  pub fails-decided : Fails c [] s t true ⊎ Fails c [] s t false
-  pub failing-quiet : Fails c [] s t true → Quiet c [] s t
+  pub fails_decided : Fails c [] s t true ⊎ Fails c [] s t false
+  pub failing_quiet : Fails c [] s t true → Quiet c [] s t

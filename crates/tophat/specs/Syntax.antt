@@ -1,12 +1,12 @@
 -- Types, values, plain expressions and tasks (01, "The sheet"; the paper's Fig. 2 to 4 and 8), and the running task of a
 -- code (01, "A task of a row is"). Rests on nothing.
--- Believed, but for `moves` and `taskRows`: for proofs only, `moves` tied to the rows by `moves-are` (rows' Moves).
+-- Believed, but for `moves` and `task_rows`: for proofs only, `moves` tied to the rows by `moves_are` (rows' Moves).
 use Rattle.std.specs.Prelude.{Bool, List, ℕ, ◌+◌, ℤ}
 use mathlib.Core.HLevel.{Discrete}
 
 -- CR 4: "A type may have 8 leaves"
-abbrev pub maxLeaves : ℕ
-maxLeaves = 8
+abbrev pub max_leaves : ℕ
+max_leaves = 8
 
 -- types: kinds 1 to 4
 pub data Ty : Type 0 where
@@ -22,7 +22,7 @@ leaves (pair τ υ) = leaves τ + leaves υ
 
 -- operators 1 to 8
 pub data Op : Type 0 where
-  sum difference product less lessEqual equal and_op orOp : Op
+  sum difference product less less_equal equal and_op or_op : Op
 
 -- plain expressions: kinds 20 to 31. A binder is counted outward, a cell is named by its place in the store
 pub data Exp : Type 0 where
@@ -100,14 +100,14 @@ pub data AndT (A B : Type 0) : Type 0 where
 -- 47: two, or one named
 pub data OrT (A B : Type 0) : Type 0 where
   either : A → B → OrT A B
-  orLeft : A → OrT A B
-  orRight : B → OrT A B
+  or_left : A → OrT A B
+  or_right : B → OrT A B
 
 -- 48: unpicked, or a side and its task
 pub data XorT (A B : Type 0) : Type 0 where
   unpicked : XorT A B
-  pickedLeft : A → XorT A B
-  pickedRight : B → XorT A B
+  picked_left : A → XorT A B
+  picked_right : B → XorT A B
 
 -- 50: the touches left, and a task of B
 pub data GateT (B : Type 0) : Type 0 where
@@ -115,8 +115,8 @@ pub data GateT (B : Type 0) : Type 0 where
 
 -- 25: a side and its task
 pub data IfT (A B : Type 0) : Type 0 where
-  ifTrue : A → IfT A B
-  ifFalse : B → IfT A B
+  if_true : A → IfT A B
+  if_false : B → IfT A B
 
 -- 31: a value and a task of B
 pub data LetT (B : Type 0) : Type 0 where
@@ -155,17 +155,17 @@ moves (if e a b) = moves a + moves b
 moves (let' e b) = moves b
 
 -- the rows that are tasks, which bound the entries of a list
-unfoldable pub taskRows : Code → ℕ
-taskRows (edit e) = 1
-taskRows (enter τ) = 1
-taskRows (update n) = 1
-taskRows (then a b) = 1 + taskRows a + taskRows b
-taskRows (next a b) = 1 + taskRows a + taskRows b
-taskRows (fail τ) = 1
-taskRows (and a b) = 1 + taskRows a + taskRows b
-taskRows (or a b) = 1 + taskRows a + taskRows b
-taskRows (xor a b) = 1 + taskRows a + taskRows b
-taskRows (view e) = 1
-taskRows (gate r n b) = 1 + taskRows b
-taskRows (if e a b) = 1 + taskRows a + taskRows b
-taskRows (let' e b) = 1 + taskRows b
+unfoldable pub task_rows : Code → ℕ
+task_rows (edit e) = 1
+task_rows (enter τ) = 1
+task_rows (update n) = 1
+task_rows (then a b) = 1 + task_rows a + task_rows b
+task_rows (next a b) = 1 + task_rows a + task_rows b
+task_rows (fail τ) = 1
+task_rows (and a b) = 1 + task_rows a + task_rows b
+task_rows (or a b) = 1 + task_rows a + task_rows b
+task_rows (xor a b) = 1 + task_rows a + task_rows b
+task_rows (view e) = 1
+task_rows (gate r n b) = 1 + task_rows b
+task_rows (if e a b) = 1 + task_rows a + task_rows b
+task_rows (let' e b) = 1 + task_rows b

@@ -6,7 +6,7 @@ use Rattle.std.specs.Prelude.{◌≡◌, Bool, true, false, ◌&&◌, List, [], 
 use Rattle.std.proofs.Math.Option.{some}
 use Rattle.decimal.specs.Path.{first, second, Path}
 use Rattle.tophat.specs.Syntax.{Ty, Exp, Code, edit, enter, update, then, next, fail, and, or, xor, view, gate, if, let', Val, Store}
-use Rattle.tophat.specs.Syntax.{TaskOf, before, after, both, either, orLeft, orRight, unpicked, pickedLeft, pickedRight, gated, ifTrue, ifFalse, bound}
+use Rattle.tophat.specs.Syntax.{TaskOf, before, after, both, either, or_left, or_right, unpicked, picked_left, picked_right, gated, if_true, if_false, bound}
 use Rattle.tophat.specs.Leaves.{Given}
 use Rattle.tophat.specs.Normalising.{value}
 use Rattle.tophat.specs.Roles.{Gate}
@@ -18,45 +18,45 @@ use Rattle.tophat.specs.Handling.{continue, left, right, Action, give, press}
 pub data Operand : Type 0 where
   in_a in_b in_c : Operand
 
-unfoldable pub sameOperand : Operand → Operand → Bool
-sameOperand in_a in_a = true
-sameOperand in_a in_b = false
-sameOperand in_a in_c = false
-sameOperand in_b in_a = false
-sameOperand in_b in_b = true
-sameOperand in_b in_c = false
-sameOperand in_c in_a = false
-sameOperand in_c in_b = false
-sameOperand in_c in_c = true
+unfoldable pub same_operand : Operand → Operand → Bool
+same_operand in_a in_a = true
+same_operand in_a in_b = false
+same_operand in_a in_c = false
+same_operand in_b in_a = false
+same_operand in_b in_b = true
+same_operand in_b in_c = false
+same_operand in_c in_a = false
+same_operand in_c in_b = false
+same_operand in_c in_c = true
 
 -- the place of a row: the operands that lead to it from the last row, which itself is at []
 abbrev pub Place : Type 0
 Place = List Operand
 
 -- the row at q is on the way from the last row to the one at w, both included
-unfoldable pub onWay : Place → Place → Bool
-onWay [] w = true
-onWay (o ∷ q) [] = false
-onWay (o ∷ q) (i ∷ w) = sameOperand o i && onWay q w
+unfoldable pub on_way : Place → Place → Bool
+on_way [] w = true
+on_way (o ∷ q) [] = false
+on_way (o ∷ q) (i ∷ w) = same_operand o i && on_way q w
 
 -- `Part c t m o d u`: operand o of the row is live in t, as the task u of d; events for it have the marks m in front
 pub data Part : (c : Code) → TaskOf c → Path → Operand → (d : Code) → TaskOf d → Type 0 where
-  of-then : {a b : Code} {t : TaskOf a} → Part (then a b) (before t) [] in_a a t
-  of-then-after : {a b : Code} {v : Val} {u : TaskOf b} → Part (then a b) (after v u) [] in_b b u
-  of-next : {a b : Code} {t : TaskOf a} → Part (next a b) (before t) [] in_a a t
-  of-next-after : {a b : Code} {v : Val} {u : TaskOf b} → Part (next a b) (after v u) [] in_b b u
-  of-and-first : {a b : Code} {t : TaskOf a} {u : TaskOf b} → Part (and a b) (both t u) (first ∷ []) in_a a t
-  of-and-second : {a b : Code} {t : TaskOf a} {u : TaskOf b} → Part (and a b) (both t u) (second ∷ []) in_b b u
-  of-or-first : {a b : Code} {t : TaskOf a} {u : TaskOf b} → Part (or a b) (either t u) (first ∷ []) in_a a t
-  of-or-second : {a b : Code} {t : TaskOf a} {u : TaskOf b} → Part (or a b) (either t u) (second ∷ []) in_b b u
-  of-or-left : {a b : Code} {t : TaskOf a} → Part (or a b) (orLeft t) [] in_a a t
-  of-or-right : {a b : Code} {u : TaskOf b} → Part (or a b) (orRight u) [] in_b b u
-  of-xor-left : {a b : Code} {t : TaskOf a} → Part (xor a b) (pickedLeft t) [] in_a a t
-  of-xor-right : {a b : Code} {u : TaskOf b} → Part (xor a b) (pickedRight u) [] in_b b u
-  of-gate : {r n k : ℕ} {b : Code} {u : TaskOf b} → Part (gate r n b) (gated k u) [] in_b b u
-  of-if-true : {e : Exp} {a b : Code} {t : TaskOf a} → Part (if e a b) (ifTrue t) [] in_b a t
-  of-if-false : {e : Exp} {a b : Code} {u : TaskOf b} → Part (if e a b) (ifFalse u) [] in_c b u
-  of-let : {e : Exp} {b : Code} {v : Val} {u : TaskOf b} → Part (let' e b) (bound v u) [] in_b b u
+  of_then : {a b : Code} {t : TaskOf a} → Part (then a b) (before t) [] in_a a t
+  of_then_after : {a b : Code} {v : Val} {u : TaskOf b} → Part (then a b) (after v u) [] in_b b u
+  of_next : {a b : Code} {t : TaskOf a} → Part (next a b) (before t) [] in_a a t
+  of_next_after : {a b : Code} {v : Val} {u : TaskOf b} → Part (next a b) (after v u) [] in_b b u
+  of_and_first : {a b : Code} {t : TaskOf a} {u : TaskOf b} → Part (and a b) (both t u) (first ∷ []) in_a a t
+  of_and_second : {a b : Code} {t : TaskOf a} {u : TaskOf b} → Part (and a b) (both t u) (second ∷ []) in_b b u
+  of_or_first : {a b : Code} {t : TaskOf a} {u : TaskOf b} → Part (or a b) (either t u) (first ∷ []) in_a a t
+  of_or_second : {a b : Code} {t : TaskOf a} {u : TaskOf b} → Part (or a b) (either t u) (second ∷ []) in_b b u
+  of_or_left : {a b : Code} {t : TaskOf a} → Part (or a b) (or_left t) [] in_a a t
+  of_or_right : {a b : Code} {u : TaskOf b} → Part (or a b) (or_right u) [] in_b b u
+  of_xor_left : {a b : Code} {t : TaskOf a} → Part (xor a b) (picked_left t) [] in_a a t
+  of_xor_right : {a b : Code} {u : TaskOf b} → Part (xor a b) (picked_right u) [] in_b b u
+  of_gate : {r n k : ℕ} {b : Code} {u : TaskOf b} → Part (gate r n b) (gated k u) [] in_b b u
+  of_if_true : {e : Exp} {a b : Code} {t : TaskOf a} → Part (if e a b) (if_true t) [] in_b a t
+  of_if_false : {e : Exp} {a b : Code} {u : TaskOf b} → Part (if e a b) (if_false u) [] in_c b u
+  of_let : {e : Exp} {b : Code} {v : Val} {u : TaskOf b} → Part (let' e b) (bound v u) [] in_b b u
 
 -- `LiveGate c t q n k`: the row at q is of kind 50 with the operand C n, and live in t, with k touches left
 pub data LiveGate : (c : Code) → TaskOf c → Place → ℕ → ℕ → Type 0 where
@@ -69,36 +69,36 @@ pub data LiveGate : (c : Code) → TaskOf c → Place → ℕ → ℕ → Type 0
 -- `TakenAt c s t p x w`: the row at w is the one of t in s that takes the action x at the path p, if any does. 01: "A value, Continue, Left and
 -- Right are taken at the path's end"; a 44 whose A has a value takes Continue itself
 pub data TakenAt : (c : Code) → Store → TaskOf c → Path → Action → Place → Type 0 where
-  by-edit : {s : Store} {e : Exp} {t : TaskOf (edit e)} {ls : List Given} → TakenAt (edit e) s t [] (give ls) []
-  by-enter : {s : Store} {τ : Ty} {t : TaskOf (enter τ)} {ls : List Given} → TakenAt (enter τ) s t [] (give ls) []
-  by-update : {s : Store} {n : ℕ} {t : TaskOf (update n)} {ls : List Given} → TakenAt (update n) s t [] (give ls) []
+  by_edit : {s : Store} {e : Exp} {t : TaskOf (edit e)} {ls : List Given} → TakenAt (edit e) s t [] (give ls) []
+  by_enter : {s : Store} {τ : Ty} {t : TaskOf (enter τ)} {ls : List Given} → TakenAt (enter τ) s t [] (give ls) []
+  by_update : {s : Store} {n : ℕ} {t : TaskOf (update n)} {ls : List Given} → TakenAt (update n) s t [] (give ls) []
   by_next : {s : Store} {a b : Code} {t : TaskOf a} {v : Val} → value a t s ≡ some v → TakenAt (next a b) s (before t) [] (press continue) []
-  by-xor-left : {s : Store} {a b : Code} → TakenAt (xor a b) s unpicked [] (press left) []
-  by-xor-right : {s : Store} {a b : Code} → TakenAt (xor a b) s unpicked [] (press right) []
+  by_xor_left : {s : Store} {a b : Code} → TakenAt (xor a b) s unpicked [] (press left) []
+  by_xor_right : {s : Store} {a b : Code} → TakenAt (xor a b) s unpicked [] (press right) []
   by_part : {s : Store} {c d : Code} {t : TaskOf c} {u : TaskOf d} {m p : Path} {x : Action} {o : Operand} {w : Place}
       → Part c t m o d u → TakenAt d s u p x w → TakenAt c s t (m ++ p) x (o ∷ w)
 
 -- the row's own role and touches left, where it is of kind 50
-unfoldable pub ownGate : (c : Code) → TaskOf c → List Gate
-ownGate (edit e) t = []
-ownGate (enter τ) t = []
-ownGate (update n) t = []
-ownGate (then a b) t = []
-ownGate (next a b) t = []
-ownGate (fail τ) t = []
-ownGate (and a b) t = []
-ownGate (or a b) t = []
-ownGate (xor a b) t = []
-ownGate (view e) t = []
-ownGate (gate r n b) (gated k u) = (r, k) ∷ []
-ownGate (if e a b) t = []
-ownGate (let' e b) t = []
+unfoldable pub own_gate : (c : Code) → TaskOf c → List Gate
+own_gate (edit e) t = []
+own_gate (enter τ) t = []
+own_gate (update n) t = []
+own_gate (then a b) t = []
+own_gate (next a b) t = []
+own_gate (fail τ) t = []
+own_gate (and a b) t = []
+own_gate (or a b) t = []
+own_gate (xor a b) t = []
+own_gate (view e) t = []
+own_gate (gate r n b) (gated k u) = (r, k) ∷ []
+own_gate (if e a b) t = []
+own_gate (let' e b) t = []
 
 -- `GatesTo c t w gs`: the rows of kind 50 from the last row to the one at w, both included, are gs, the outermost first
 pub data GatesTo : (c : Code) → TaskOf c → Place → List Gate → Type 0 where
-  gates-end : {c : Code} {t : TaskOf c} → GatesTo c t [] (ownGate c t)
-  gates-below : {c d : Code} {t : TaskOf c} {u : TaskOf d} {m : Path} {o : Operand} {w : Place} {gs : List Gate}
-      → Part c t m o d u → GatesTo d u w gs → GatesTo c t (o ∷ w) (ownGate c t ++ gs)
+  gates_end : {c : Code} {t : TaskOf c} → GatesTo c t [] (own_gate c t)
+  gates_below : {c d : Code} {t : TaskOf c} {u : TaskOf d} {m : Path} {o : Operand} {w : Place} {gs : List Gate}
+      → Part c t m o d u → GatesTo d u w gs → GatesTo c t (o ∷ w) (own_gate c t ++ gs)
 
 -- ---- what an event uses
 
@@ -110,8 +110,8 @@ pub record UsesTouches (c : Code) (s : Store) (t : TaskOf c) (p : Path) (x : Act
   -- the rows passed are those of kind 50 from the last row, itself included, to that row
   pub passed : GatesTo c t taker gs
   -- each of them that is live afterwards is left with one touch less
-  pub used : (q : Place) (n m k j : ℕ) → onWay q taker ≡ true → LiveGate c t q n k → LiveGate c t₁ q m j → j ≡ k - 1
+  pub used : (q : Place) (n m k j : ℕ) → on_way q taker ≡ true → LiveGate c t q n k → LiveGate c t₁ q m j → j ≡ k - 1
   -- every other one that is live before and after is left as it was
-  pub kept : (q : Place) (n m k j : ℕ) → onWay q taker ≡ false → LiveGate c t q n k → LiveGate c t₁ q m j → j ≡ k
+  pub kept : (q : Place) (n m k j : ℕ) → on_way q taker ≡ false → LiveGate c t q n k → LiveGate c t₁ q m j → j ≡ k
   -- one that was not live before has been evaluated, and has C
   pub fresh : (q : Place) (n k : ℕ) → ((m j : ℕ) → LiveGate c t q m j → ⊥) → LiveGate c t₁ q n k → k ≡ n

@@ -8,74 +8,74 @@ use lib.ListN.{replicate}
 use types.Run.{OneOf}
 use borrow.Author.Tests.{not-true}
 use Rattle.match_laws.proofs.Ranges.{one_of, NoneOf, within}
-use Rattle.rows.specs.Kinds.{Sort, taskS, eitherK, ifK, letK, taskK, editK, asksOf, number_of, kindLimit}
-use Rattle.rows.specs.Rows.{word, op_b, sortBy, sortBelow, sortNumber, sameSort}
-use Rattle.rows.specs.Enclosing.{maxBinders}
-use Rattle.rows.proofs.KindNumbers.{no-asks, kind-past}
-use Rattle.rows.proofs.Exists.{sortAt, sort-below, sort-past}
-use Rattle.typing.specs.RowTypes.{type_of, isTask, flowShape}
+use Rattle.rows.specs.Kinds.{Sort, task_s, either_k, if_k, let_k, task_k, edit_k, asks_of, number_of, kind_limit}
+use Rattle.rows.specs.Rows.{word, op_b, sort_by, sort_below, sort_number, same_sort}
+use Rattle.rows.specs.Enclosing.{max_binders}
+use Rattle.rows.proofs.KindNumbers.{no_asks_lem, kind_past}
+use Rattle.rows.proofs.Exists.{sort_at, sort_below_lem, sort_past}
+use Rattle.typing.specs.RowTypes.{type_of, is_task, flow_shape}
 
 -- a kind with a B of sort s is a task
-abbrev taskBy : ℕ → Sort → Bool
-taskBy k s = sameSort (sortBy (asksOf k) s) taskS
+abbrev task_by : ℕ → Sort → Bool
+task_by k s = same_sort (sort_by (asks_of k) s) task_s
 
 -- the two that are what their B is
 abbrev eithers : List ℕ
-eithers = number_of (eitherK ifK) ∷ number_of (eitherK letK) ∷ []
+eithers = number_of (either_k if_k) ∷ number_of (either_k let_k) ∷ []
 
-branch-task : (s : Sort) (k : ℕ) → OneOf eithers k → taskBy k s ≡ sameSort s taskS
-unfolding asksOf sortBy
-branch-task s k h = one_of (λ k. taskBy k s ≡ sameSort s taskS) eithers (refl, (refl, tt)) h
+branch_task : (s : Sort) (k : ℕ) → OneOf eithers k → task_by k s ≡ same_sort s task_s
+unfolding asks_of sort_by
+branch_task s k h = one_of (λ k. task_by k s ≡ same_sort s task_s) eithers (refl, (refl, tt)) h
 
 -- the tasks' own kinds are the last of the table
-own-task : (s : Sort) (k : ℕ) → number_of (taskK editK) ≤ k → k < kindLimit → taskBy k s ≡ true
-unfolding asksOf sortBy sortNumber
-own-task s k l h = within (λ k. taskBy k s) (number_of (taskK editK)) (kindLimit - number_of (taskK editK)) [] k refl l (omega arith) tt
+own_task : (s : Sort) (k : ℕ) → number_of (task_k edit_k) ≤ k → k < kind_limit → task_by k s ≡ true
+unfolding asks_of sort_by sort_number
+own_task s k l h = within (λ k. task_by k s) (number_of (task_k edit_k)) (kind_limit - number_of (task_k edit_k)) [] k refl l (omega arith) tt
 
-no-task : (s : Sort) (k : ℕ) → k < number_of (taskK editK) → NoneOf (eithers ∷ []) k → taskBy k s ≡ false
-unfolding asksOf sortBy sortNumber
-no-task s k h g = not-true _ (within (λ k. not (taskBy k s)) 0 (number_of (taskK editK)) (eithers ∷ []) k refl (omega arith) (omega arith) g)
+no_task : (s : Sort) (k : ℕ) → k < number_of (task_k edit_k) → NoneOf (eithers ∷ []) k → task_by k s ≡ false
+unfolding asks_of sort_by sort_number
+no_task s k h g = not-true _ (within (λ k. not (task_by k s)) 0 (number_of (task_k edit_k)) (eithers ∷ []) k refl (omega arith) (omega arith) g)
 
-past-task : (s : Sort) (k : ℕ) → kindLimit ≤ k → taskBy k s ≡ false
-unfolding sortBy sortNumber
-past-task s k h = ap (λ x. sameSort (sortBy x s) taskS) (no-asks k (kind-past k h))
+past_task : (s : Sort) (k : ℕ) → kind_limit ≤ k → task_by k s ≡ false
+unfolding sort_by sort_number
+past_task s k h = ap (λ x. same_sort (sort_by x s) task_s) (no_asks_lem k (kind_past k h))
 
 module _ (rs : List ℕ) (i : ℕ) where
   -- by the sort of the row, and by its kind and the sort of its B
-  pub task-sort : isTask rs i ≡ sameSort (sortAt rs i) taskS
-  unfolding isTask
-  task-sort = ap (λ s. sameSort s taskS) (sort-below rs (suc i) i (omega arith))
+  pub task_sort : is_task rs i ≡ same_sort (sort_at rs i) task_s
+  unfolding is_task
+  task_sort = ap (λ s. same_sort s task_s) (sort_below_lem rs (suc i) i (omega arith))
 
-  task-by : (k : ℕ) → k ≡ word rs i 0 → isTask rs i ≡ taskBy k (sortBelow rs i (op_b rs i))
-  unfolding sortAt
-  task-by k e = task-sort ∙ sym (ap (λ k. taskBy k (sortBelow rs i (op_b rs i))) e)
+  task_by_lem : (k : ℕ) → k ≡ word rs i 0 → is_task rs i ≡ task_by k (sort_below rs i (op_b rs i))
+  unfolding sort_at
+  task_by_lem k e = task_sort ∙ sym (ap (λ k. task_by k (sort_below rs i (op_b rs i))) e)
 
   module _ (k : ℕ) (e : k ≡ word rs i 0) where
-    pub task-branch : (b : ℕ) (r : Bool) → OneOf eithers k → b ≡ op_b rs i → b < i → r ≡ isTask rs b → r ≡ isTask rs i
-    unfolding isTask
-    task-branch b r h f l g =
-        g ∙ ap (λ s. sameSort s taskS) (sort-below rs (suc b) b (omega arith) ∙ sym (sort-below rs i b l) ∙ ap (sortBelow rs i) f) ∙ sym (task-by k e ∙ branch-task (sortBelow rs i (op_b rs i)) k h)
+    pub task_branch : (b : ℕ) (r : Bool) → OneOf eithers k → b ≡ op_b rs i → b < i → r ≡ is_task rs b → r ≡ is_task rs i
+    unfolding is_task
+    task_branch b r h f l g =
+        g ∙ ap (λ s. same_sort s task_s) (sort_below_lem rs (suc b) b (omega arith) ∙ sym (sort_below_lem rs i b l) ∙ ap (sort_below rs i) f) ∙ sym (task_by_lem k e ∙ branch_task (sort_below rs i (op_b rs i)) k h)
 
-    pub task-high : (b : ℕ) → OneOf eithers k → b ≡ op_b rs i → i ≤ b → false ≡ isTask rs i
-    unfolding sortNumber
-    task-high b h f l = sym (task-by k e ∙ branch-task (sortBelow rs i (op_b rs i)) k h ∙ ap (λ s. sameSort s taskS) (ap (sortBelow rs i) (sym f) ∙ sort-past rs i b l))
+    pub task_high : (b : ℕ) → OneOf eithers k → b ≡ op_b rs i → i ≤ b → false ≡ is_task rs i
+    unfolding sort_number
+    task_high b h f l = sym (task_by_lem k e ∙ branch_task (sort_below rs i (op_b rs i)) k h ∙ ap (λ s. same_sort s task_s) (ap (sort_below rs i) (sym f) ∙ sort_past rs i b l))
 
-    pub task-own : number_of (taskK editK) ≤ k → k < kindLimit → true ≡ isTask rs i
-    task-own l h = sym (task-by k e ∙ own-task (sortBelow rs i (op_b rs i)) k l h)
+    pub task_own : number_of (task_k edit_k) ≤ k → k < kind_limit → true ≡ is_task rs i
+    task_own l h = sym (task_by_lem k e ∙ own_task (sort_below rs i (op_b rs i)) k l h)
 
-    pub task-none : k < number_of (taskK editK) → NoneOf (eithers ∷ []) k → false ≡ isTask rs i
-    task-none h g = sym (task-by k e ∙ no-task (sortBelow rs i (op_b rs i)) k h g)
+    pub task_none : k < number_of (task_k edit_k) → NoneOf (eithers ∷ []) k → false ≡ is_task rs i
+    task_none h g = sym (task_by_lem k e ∙ no_task (sort_below rs i (op_b rs i)) k h g)
 
-    pub task-past : kindLimit ≤ k → false ≡ isTask rs i
-    task-past h = sym (task-by k e ∙ past-task (sortBelow rs i (op_b rs i)) k h)
+    pub task_past : kind_limit ≤ k → false ≡ is_task rs i
+    task_past h = sym (task_by_lem k e ∙ past_task (sort_below rs i (op_b rs i)) k h)
 
 -- ---- flow_type
 
-module _ (rs : List ℕ) (n : ℕ) (b : Bool) (e : b ≡ isTask rs (n - 1)) where
-  pub flow-yes : (r : ℕ) → b ≡ true → r ≡ type_of rs (replicate maxBinders 0) 0 (n - 1) → r ≡ flowShape rs n
-  unfolding flowShape
-  flow-yes r t h = let z = sym e ∙ t in h ∙ sym (rw z)
+module _ (rs : List ℕ) (n : ℕ) (b : Bool) (e : b ≡ is_task rs (n - 1)) where
+  pub flow_yes : (r : ℕ) → b ≡ true → r ≡ type_of rs (replicate max_binders 0) 0 (n - 1) → r ≡ flow_shape rs n
+  unfolding flow_shape
+  flow_yes r t h = let z = sym e ∙ t in h ∙ sym (rw z)
 
-  pub flow-no : b ≡ false → 0 ≡ flowShape rs n
-  unfolding flowShape
-  flow-no t = let z = sym e ∙ t in sym (rw z)
+  pub flow_no : b ≡ false → 0 ≡ flow_shape rs n
+  unfolding flow_shape
+  flow_no t = let z = sym e ∙ t in sym (rw z)

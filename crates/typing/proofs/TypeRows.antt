@@ -5,36 +5,36 @@ use mathlib.Core.List.{List}
 use Prim.Native.Nat.{ℕ, ◌≤◌}
 use native.Mathlib.Omega.{arith}
 use borrow.Author.Tests.{lt-ltb}
-use Rattle.tophat.specs.Syntax.{maxLeaves, Ty, pair, leaves}
-use Rattle.tophat.proofs.TypingAgrees.{type-to}
-use Rattle.shape.specs.Shape.{put, asShape, maybeShape, pairShape}
+use Rattle.tophat.specs.Syntax.{max_leaves, Ty, pair, leaves}
+use Rattle.tophat.proofs.TypingAgrees.{type_to_lem}
+use Rattle.shape.specs.Shape.{put, as_shape, maybe_shape, pair_shape}
 use Rattle.shape.proofs.Shapes.{pair_of}
-use Rattle.rows.specs.Kinds.{Kind, typeK, unitK, truthK, numberK, pairK}
+use Rattle.rows.specs.Kinds.{Kind, type_k, unit_k, truth_k, number_k, pair_k}
 use Rattle.rows.specs.Rows.{op_a, op_b, op_c, OfKind}
-use Rattle.rows.specs.Trees.{ReadsType, r_unit, r-truth, r-number, r-pair}
-use Rattle.rows.proofs.KindNumbers.{kind-at}
+use Rattle.rows.specs.Trees.{ReadsType, r_unit, r_truth, r_number, r_pair}
+use Rattle.rows.proofs.KindNumbers.{kind_at_lem}
 use Rattle.typing.specs.Nodes.{lower2, node_by, node_of}
-use Rattle.typing.specs.RowTypes.{typeNode, type_of}
+use Rattle.typing.specs.RowTypes.{type_node, type_of}
 use Rattle.typing.specs.declared.Node.{Node}
 use Rattle.typing.specs.declared.Node.TheVariants.{Pair}
-use Rattle.typing.proofs.TypeLaws.{type-is}
+use Rattle.typing.proofs.TypeLaws.{type_is}
 
 -- a row is typed as the node of its kind is
-pub row_is : (rs env : List ℕ) (n i : ℕ) (k : Kind) (x : Node) → OfKind rs i k → node_by (some k) i (op_a rs i) (op_b rs i) (op_c rs i) ≡ x → type_of rs env n i ≡ typeNode (λ e m j. type_of rs e m j) env n x
+pub row_is : (rs env : List ℕ) (n i : ℕ) (k : Kind) (x : Node) → OfKind rs i k → node_by (some k) i (op_a rs i) (op_b rs i) (op_c rs i) ≡ x → type_of rs env n i ≡ type_node (λ e m j. type_of rs e m j) env n x
 unfolding node_of
-row_is rs env n i k x e h = type-is rs env n i ∙ ap (typeNode (λ e m j. type_of rs e m j) env n) (ap (λ o. node_by o i (op_a rs i) (op_b rs i) (op_c rs i)) (kind-at rs i k e) ∙ h)
+row_is rs env n i k x e h = type_is rs env n i ∙ ap (type_node (λ e m j. type_of rs e m j) env n) (ap (λ o. node_by o i (op_a rs i) (op_b rs i) (op_c rs i)) (kind_at_lem rs i k e) ∙ h)
 
-pair_is : (τ υ : Ty) → leaves (pair τ υ) ≤ maxLeaves → pairShape (asShape τ) (asShape υ) ≡ asShape (pair τ υ)
-unfolding leaves bind maybeShape
-pair_is τ υ l = pair_of (some τ) (omega arith) (some υ) (omega arith) ∙ ap maybeShape (type-to (pair τ υ) l)
+pair_is : (τ υ : Ty) → leaves (pair τ υ) ≤ max_leaves → pair_shape (as_shape τ) (as_shape υ) ≡ as_shape (pair τ υ)
+unfolding leaves bind maybe_shape
+pair_is τ υ l = pair_of (some τ) (omega arith) (some υ) (omega arith) ∙ ap maybe_shape (type_to_lem (pair τ υ) l)
 
-pub type-shape : {rs : List ℕ} {i : ℕ} {τ : Ty} → ReadsType rs i τ → leaves τ ≤ maxLeaves → (env : List ℕ) (n : ℕ) → type_of rs env n i ≡ asShape τ
-unfolding asShape put leaves
-type-shape {rs} (r_unit {i = i} k) l env n = row_is rs env n i (typeK unitK) _ k refl
-type-shape {rs} (r-truth {i = i} k) l env n = row_is rs env n i (typeK truthK) _ k refl
-type-shape {rs} (r-number {i = i} k) l env n = row_is rs env n i (typeK numberK) _ k refl
-type-shape {rs} (r-pair {i = i} {τ = τ} {υ = υ} k p q d d₁) l env n =
+pub type_shape : {rs : List ℕ} {i : ℕ} {τ : Ty} → ReadsType rs i τ → leaves τ ≤ max_leaves → (env : List ℕ) (n : ℕ) → type_of rs env n i ≡ as_shape τ
+unfolding as_shape put leaves
+type_shape {rs} (r_unit {i = i} k) l env n = row_is rs env n i (type_k unit_k) _ k refl
+type_shape {rs} (r_truth {i = i} k) l env n = row_is rs env n i (type_k truth_k) _ k refl
+type_shape {rs} (r_number {i = i} k) l env n = row_is rs env n i (type_k number_k) _ k refl
+type_shape {rs} (r_pair {i = i} {τ = τ} {υ = υ} k p q d d₁) l env n =
     let e : lower2 i (op_a rs i) (op_b rs i) (Pair (op_a rs i) (op_b rs i)) ≡ Pair (op_a rs i) (op_b rs i) = rw (lt-ltb (op_a rs i) i p, lt-ltb (op_b rs i) i q) in
-    row_is rs env n i (typeK pairK) _ k e
-    ∙ ap₂ pairShape (type-shape d (omega arith) env n) (type-shape d₁ (omega arith) env n)
+    row_is rs env n i (type_k pair_k) _ k e
+    ∙ ap₂ pair_shape (type_shape d (omega arith) env n) (type_shape d₁ (omega arith) env n)
     ∙ pair_is τ υ l

@@ -1,13 +1,13 @@
 // Typing of rows by shapes: each row is decoded once to what typing does with it, then typed by recursion on lower rows.
 
 ghost use Rattle.std.specs.Prelude.{◌≡◌, true, ◌+◌, ◌<◌, ◌≤◌, set};
-ghost use Rattle.shape.specs.Shape.{asShape, maybeShape};
-ghost use Rattle.rows.specs.Rows.{maxRows};
-ghost use Rattle.rows.specs.Enclosing.{maxBinders};
-ghost use Rattle.rows.specs.ComputeTrees.{contentType};
-ghost use Rattle.rows.specs.Ground.{flowType, passes4, passes6};
-ghost use Rattle.typing.specs.Nodes.{lower1, lower2, lower3, nodeFrom, node_of, Below};
-ghost use Rattle.typing.specs.RowTypes.{bothAre, opShape, sameShape, ifShape, assignShape, binderShape, type_of, isTask, flowShape};
+ghost use Rattle.shape.specs.Shape.{as_shape, maybe_shape};
+ghost use Rattle.rows.specs.Rows.{max_rows};
+ghost use Rattle.rows.specs.Enclosing.{max_binders};
+ghost use Rattle.rows.specs.ComputeTrees.{content_type};
+ghost use Rattle.rows.specs.Ground.{flow_type, passes4, passes6};
+ghost use Rattle.typing.specs.Nodes.{lower1, lower2, lower3, node_from, node_of, Below};
+ghost use Rattle.typing.specs.RowTypes.{both_are, op_shape, same_shape, if_shape, assign_shape, binder_shape, type_of, is_task, flow_shape};
 
 use match_laws;
 use rows::{MAX_BINDERS, ROWS_WORDS, get, kind, kinds, operand};
@@ -35,7 +35,7 @@ pub enum Node {
 }
 
 fn both_are(t: u32, u: u32, x: u32, r: u32) -> u32
-    ensures { result ≡ bothAre t u x r }
+    ensures { result ≡ both_are t u x r }
 {
     if t == x {
         if u == x {
@@ -47,7 +47,7 @@ fn both_are(t: u32, u: u32, x: u32, r: u32) -> u32
 }
 
 fn op_shape(o: u32, t: u32, u: u32) -> u32
-    ensures { result ≡ opShape o t u }
+    ensures { result ≡ op_shape o t u }
 {
     match o {
         0..=3 => both_are(t, u, shape::NUMBER, shape::NUMBER),
@@ -58,7 +58,7 @@ fn op_shape(o: u32, t: u32, u: u32) -> u32
 }
 
 fn same_shape(t: u32, u: u32) -> u32
-    ensures { result ≡ sameShape t u }
+    ensures { result ≡ same_shape t u }
 {
     if t == u {
         return t;
@@ -67,7 +67,7 @@ fn same_shape(t: u32, u: u32) -> u32
 }
 
 fn if_shape(x: u32, t: u32, u: u32) -> u32
-    ensures { result ≡ ifShape x t u }
+    ensures { result ≡ if_shape x t u }
 {
     if x == shape::TRUTH {
         return same_shape(t, u);
@@ -76,7 +76,7 @@ fn if_shape(x: u32, t: u32, u: u32) -> u32
 }
 
 fn assign_shape(t: u32, u: u32) -> u32
-    ensures { result ≡ assignShape t u }
+    ensures { result ≡ assign_shape t u }
 {
     if t == 0 {
         return 0;
@@ -88,7 +88,7 @@ fn assign_shape(t: u32, u: u32) -> u32
 }
 
 fn binder_shape(env: [u32; MAX_BINDERS], n: usize, a: usize) -> u32
-    ensures { result ≡ binderShape env n a }
+    ensures { result ≡ binder_shape env n a }
 {
     if a < n {
         if n <= MAX_BINDERS {
@@ -101,7 +101,7 @@ fn binder_shape(env: [u32; MAX_BINDERS], n: usize, a: usize) -> u32
 
 // one binder more, of shape t
 pub fn bound(env: [u32; MAX_BINDERS], n: usize, t: u32) -> [u32; MAX_BINDERS]
-    requires { n < maxBinders }
+    requires { n < max_binders }
     ensures { result ≡ set env n t }
 {
     let mut more = env;
@@ -138,7 +138,7 @@ fn named3(i: usize, a: usize, b: usize, c: usize, x: Node) -> Node
 }
 
 fn node_from(k: u32, i: usize, a: u32, b: u32, c: u32) -> Node
-    ensures { result ≡ nodeFrom k i a b c }
+    ensures { result ≡ node_from k i a b c }
 {
     let p = a as usize;
     let q = b as usize;
@@ -165,7 +165,7 @@ fn node_from(k: u32, i: usize, a: u32, b: u32, c: u32) -> Node
 }
 
 fn node_at(rows: &[u32; ROWS_WORDS], row: usize) -> Node
-    requires { row < maxRows }
+    requires { row < max_rows }
     ensures { (result ≡ node_of rows.now row) × Below result row }
 {
     let k = get(rows, row, 0);
@@ -177,7 +177,7 @@ fn node_at(rows: &[u32; ROWS_WORDS], row: usize) -> Node
 
 // the shape of the type of a row under n binders, 0 for none; linear where each row of kind 20 or more is named once
 pub fn row_type(rows: &[u32; ROWS_WORDS], row: usize, env: [u32; MAX_BINDERS], n: usize) -> u32
-    requires { row < maxRows }
+    requires { row < max_rows }
     ensures { result ≡ type_of rows.now env n row }
 {
     let x = node_at(rows, row);
@@ -232,8 +232,8 @@ pub fn row_type(rows: &[u32; ROWS_WORDS], row: usize, env: [u32; MAX_BINDERS], n
 
 // whether a row is a task: 25 and 31 are what their B is
 pub fn is_task(rows: &[u32; ROWS_WORDS], row: usize) -> bool
-    requires { row < maxRows }
-    ensures { result ≡ isTask rows.now row }
+    requires { row < max_rows }
+    ensures { result ≡ is_task rows.now row }
 {
     let k = get(rows, row, 0);
     match k {
@@ -251,8 +251,8 @@ pub fn is_task(rows: &[u32; ROWS_WORDS], row: usize) -> bool
 
 // the shape of what a cell holds, by the kind of its type row
 pub fn cell_shape(rows: &[u32; ROWS_WORDS], row: usize) -> u32
-    requires { row < maxRows }
-    ensures { result ≡ asShape (contentType rows.now row) }
+    requires { row < max_rows }
+    ensures { result ≡ as_shape (content_type rows.now row) }
 {
     let a = operand(rows, row, 1);
     if kind(rows, a) == kinds::TRUTH {
@@ -263,9 +263,9 @@ pub fn cell_shape(rows: &[u32; ROWS_WORDS], row: usize) -> u32
 
 // the shape of the type of the last of n rows as a task, 0 for none
 pub fn flow_type(rows: &[u32; ROWS_WORDS], n: usize) -> u32
-    requires { (1 ≤ n) × (n ≤ maxRows) }
-    ensures value { result ≡ flowShape rows.now n }
-    ensures value_2 { passes4 rows.now n ≡ true → passes6 rows.now n ≡ true → result ≡ maybeShape (flowType rows.now n) }
+    requires { (1 ≤ n) × (n ≤ max_rows) }
+    ensures value { result ≡ flow_shape rows.now n }
+    ensures value_2 { passes4 rows.now n ≡ true → passes6 rows.now n ≡ true → result ≡ maybe_shape (flow_type rows.now n) }
 {
     if is_task(rows, n - 1) {
         let none = [0; MAX_BINDERS];

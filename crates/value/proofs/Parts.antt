@@ -7,18 +7,18 @@ use native.Mathlib.Omega.{arith}
 use lib.ListN.{length, get_or}
 use borrow.Author.Tests.{le-ltb, lt-ltb}
 use Rattle.match_laws.proofs.Ranges.{past}
-use Rattle.tophat.specs.Syntax.{maxLeaves}
+use Rattle.tophat.specs.Syntax.{max_leaves}
 use Rattle.value.specs.declared.Value.{Value}
-use Rattle.value.specs.Values.{joinedAt}
+use Rattle.value.specs.Values.{joined_at}
 
-pub leaf-past : (l : List ℕ) (i : ℕ) → length l ≡ maxLeaves → maxLeaves ≤ i → 0 ≡ get_or l i 0
-leaf-past l i e h = sym (past l 0 i (omega arith))
+pub leaf_past : (l : List ℕ) (i : ℕ) → length l ≡ max_leaves → max_leaves ≤ i → 0 ≡ get_or l i 0
+leaf_past l i e h = sym (past l 0 i (omega arith))
 
 module _ (xs ys : List ℕ) (n i r : ℕ) where
-  pub joined-front : i < n → r ≡ get_or xs i 0 → r ≡ joinedAt n xs ys i
-  joined-front h e = e ∙ sym (rw (lt-ltb i n h))
+  pub joined_front : i < n → r ≡ get_or xs i 0 → r ≡ joined_at n xs ys i
+  joined_front h e = e ∙ sym (rw (lt-ltb i n h))
 
-  pub joined_back : n ≤ i → r ≡ get_or ys (i - n) 0 → r ≡ joinedAt n xs ys i
+  pub joined_back : n ≤ i → r ≡ get_or ys (i - n) 0 → r ≡ joined_at n xs ys i
   joined_back h e = e ∙ sym (rw (le-ltb i n h))
 
 pub made : {s t : ℕ} {l m : List ℕ} → s ≡ t → l ≡ m → ◌≡◌ {A = Value} (record { shape = s; leaves = l }) (record { shape = t; leaves = m })

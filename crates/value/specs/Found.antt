@@ -5,18 +5,18 @@ use Rattle.std.proofs.Math.Option.{Option, none, some}
 use Rattle.tophat.specs.Syntax.{Val}
 use Rattle.value.specs.declared.Value.{Value}
 use Rattle.value.specs.declared.Found.{Found}
-use Rattle.value.specs.Values.{asValue, noValue, pairValue}
+use Rattle.value.specs.Values.{as_value, no_value, pair_value}
 
-abbrev pub someFound : Value → Found
-someFound v = record { has = true; value = v }
+abbrev pub some_found : Value → Found
+some_found v = record { has = true; value = v }
 
-abbrev pub noneFound : Found
-noneFound = record { has = false; value = noValue }
+abbrev pub none_found : Found
+none_found = record { has = false; value = no_value }
 
 -- a pair, where both are there
-abbrev pub bothFound : Found → Found → Found
-bothFound x y = cond (x.has && y.has) (someFound (pairValue x.value y.value)) noneFound
+abbrev pub both_found : Found → Found → Found
+both_found x y = cond (x.has && y.has) (some_found (pair_value x.value y.value)) none_found
 
-unfoldable pub asFound : Option Val → Found
-asFound none = noneFound
-asFound (some v) = someFound (asValue v)
+unfoldable pub as_found : Option Val → Found
+as_found none = none_found
+as_found (some v) = some_found (as_value v)

@@ -7,14 +7,14 @@ ghost use Rattle.std.specs.Int.{w32};
 ghost use Rattle.std.proofs.Common.{to_z};
 ghost use Rattle.word.specs.Word.{words, AllBits};
 ghost use Rattle.word.specs.Reckoning.{reckoning};
-ghost use Rattle.tophat.specs.Syntax.{maxLeaves, vunit, vtruth, vnumber};
-ghost use Rattle.tophat.specs.Leaves.{leafAt, meetsLeaf};
-ghost use Rattle.tophat.proofs.ComputeEvaluation.{isTrue};
-ghost use Rattle.rows.specs.Trees.{operatorOf};
-ghost use Rattle.value.specs.Fits.{fitsIn};
-ghost use Rattle.value.specs.Values.{asValue, firstNumber, single, joined, leavesFrom, pairValue, firstValue, secondValue};
-ghost use Rattle.value.specs.Found.{someFound, noneFound};
-ghost use Rattle.value.specs.Evaluations.{sureOf, afterOver, exactly, applied};
+ghost use Rattle.tophat.specs.Syntax.{max_leaves, vunit, vtruth, vnumber};
+ghost use Rattle.tophat.specs.Leaves.{leaf_at, meets_leaf};
+ghost use Rattle.tophat.proofs.ComputeEvaluation.{is_true};
+ghost use Rattle.rows.specs.Trees.{operator_of};
+ghost use Rattle.value.specs.Fits.{fits_in};
+ghost use Rattle.value.specs.Values.{as_value, first_number, single, joined, leaves_from, pair_value, first_value, second_value};
+ghost use Rattle.value.specs.Found.{some_found, none_found};
+ghost use Rattle.value.specs.Evaluations.{sure_of, after_over, exactly, applied};
 
 use shape::{first_shape, leaf_kinds, leaves_of, pair_shape, second_shape};
 use tophat::{MAX_LEAVES, NO_LEAF, NUMBER, TRUTH, UNIT};
@@ -46,7 +46,7 @@ pub const NO_VALUE: Value = Value {
 };
 
 pub fn some(v: Value) -> Found
-    ensures { result ≡ someFound v }
+    ensures { result ≡ some_found v }
 {
     Found {
         has: true,
@@ -55,7 +55,7 @@ pub fn some(v: Value) -> Found
 }
 
 pub fn none() -> Found
-    ensures { result ≡ noneFound }
+    ensures { result ≡ none_found }
 {
     Found {
         has: false,
@@ -76,13 +76,13 @@ fn single(shape: u32, w: u32) -> Value
 }
 
 pub fn unit() -> Value
-    ensures { result ≡ asValue vunit }
+    ensures { result ≡ as_value vunit }
 {
     single(UNIT, 0)
 }
 
 pub fn truth(b: bool) -> Value
-    ensures { result ≡ asValue (vtruth b) }
+    ensures { result ≡ as_value (vtruth b) }
 {
     if b {
         return single(TRUTH, 1);
@@ -91,14 +91,14 @@ pub fn truth(b: bool) -> Value
 }
 
 pub fn number(w: u32) -> Value
-    ensures { result ≡ asValue (vnumber (to_z w32 w)) }
+    ensures { result ≡ as_value (vnumber (to_z w32 w)) }
 {
     single(NUMBER, w)
 }
 
 // The number of a value's first leaf is that of true.
 pub fn is_true(a: Value) -> bool
-    ensures { result ≡ isTrue (firstNumber a) }
+    ensures { result ≡ is_true (first_number a) }
 {
     let leaves = a.leaves;
     equal(leaves[0], 1)
@@ -106,7 +106,7 @@ pub fn is_true(a: Value) -> bool
 
 // A value, and no result left the words.
 pub fn sure(v: Value) -> Evaluation
-    ensures { result ≡ sureOf v }
+    ensures { result ≡ sure_of v }
 {
     Evaluation {
         over: false,
@@ -116,7 +116,7 @@ pub fn sure(v: Value) -> Evaluation
 
 // An evaluation after one whose results left the words or did not.
 pub fn after(over: bool, e: Evaluation) -> Evaluation
-    ensures { result ≡ afterOver over e }
+    ensures { result ≡ after_over over e }
 {
     let v = e.value;
     if over {
@@ -144,7 +144,7 @@ fn result(r: Reckoning) -> Evaluation
 // Sum, difference, product.
 fn computed(op: u32, x: u32, y: u32) -> Evaluation
     requires { (1 ≤ op) × (op ≤ 3) }
-    ensures { result ≡ applied (operatorOf op) (vnumber (to_z w32 x)) (vnumber (to_z w32 y)) }
+    ensures { result ≡ applied (operator_of op) (vnumber (to_z w32 x)) (vnumber (to_z w32 y)) }
 {
     match op {
         1 => result(add(x, y)),
@@ -156,7 +156,7 @@ fn computed(op: u32, x: u32, y: u32) -> Evaluation
 // Less, less or equal, equal.
 fn compared(op: u32, x: u32, y: u32) -> bool
     requires { (4 ≤ op) × (op ≤ 6) }
-    ensures { sureOf (asValue (vtruth result)) ≡ applied (operatorOf op) (vnumber (to_z w32 x)) (vnumber (to_z w32 y)) }
+    ensures { sure_of (as_value (vtruth result)) ≡ applied (operator_of op) (vnumber (to_z w32 x)) (vnumber (to_z w32 y)) }
 {
     match op {
         4 => less(x, y),
@@ -168,7 +168,7 @@ fn compared(op: u32, x: u32, y: u32) -> bool
 // And, or.
 fn connected(op: u32, x: u32, y: u32) -> bool
     requires { (7 ≤ op) × (op ≤ 8) }
-    ensures { sureOf (asValue (vtruth result)) ≡ applied (operatorOf op) (vnumber (to_z w32 x)) (vnumber (to_z w32 y)) }
+    ensures { sure_of (as_value (vtruth result)) ≡ applied (operator_of op) (vnumber (to_z w32 x)) (vnumber (to_z w32 y)) }
 {
     let p = equal(x, 1);
     let q = equal(y, 1);
@@ -180,7 +180,7 @@ fn connected(op: u32, x: u32, y: u32) -> bool
 
 // An operator on the first leaves of two values; what is no operator is the sum.
 pub fn apply(op: u32, a: Value, b: Value) -> Evaluation
-    ensures { result ≡ applied (operatorOf op) (firstNumber a) (firstNumber b) }
+    ensures { result ≡ applied (operator_of op) (first_number a) (first_number b) }
 {
     let xs = a.leaves;
     let ys = b.leaves;
@@ -225,8 +225,8 @@ fn joined(n: usize, xs: [u32; MAX_LEAVES], ys: [u32; MAX_LEAVES]) -> [u32; MAX_L
 
 // The leaves of xs from n on.
 fn leaves_from(n: usize, xs: [u32; MAX_LEAVES]) -> [u32; MAX_LEAVES]
-    requires { n ≤ maxLeaves }
-    ensures { result ≡ leavesFrom n xs }
+    requires { n ≤ max_leaves }
+    ensures { result ≡ leaves_from n xs }
 {
     let mut leaves = xs;
     for i in 0..MAX_LEAVES {
@@ -236,7 +236,7 @@ fn leaves_from(n: usize, xs: [u32; MAX_LEAVES]) -> [u32; MAX_LEAVES]
 }
 
 pub fn pair(a: Value, b: Value) -> Value
-    ensures { result ≡ pairValue a b }
+    ensures { result ≡ pair_value a b }
 {
     let xs = a.leaves;
     let ys = b.leaves;
@@ -249,7 +249,7 @@ pub fn pair(a: Value, b: Value) -> Value
 
 // The first part of a pair.
 pub fn first(a: Value) -> Value
-    ensures { result ≡ firstValue a }
+    ensures { result ≡ first_value a }
 {
     let shape = first_shape(a.shape);
     let xs = a.leaves;
@@ -262,7 +262,7 @@ pub fn first(a: Value) -> Value
 
 // The second part of a pair.
 pub fn second(a: Value) -> Value
-    ensures { result ≡ secondValue a }
+    ensures { result ≡ second_value a }
 {
     let xs = a.leaves;
     let leaves = leaves_from(leaves_of(first_shape(a.shape)), xs);
@@ -274,7 +274,7 @@ pub fn second(a: Value) -> Value
 
 // Is the leaf of that kind? Of a unit, and where none is used, it is 0.
 fn meets(kind: u32, leaf: u32) -> bool
-    ensures { (result ≡ meetsLeaf (leafAt kind) (some (to_z w32 leaf))) × (leaf < words) }
+    ensures { (result ≡ meets_leaf (leaf_at kind) (some (to_z w32 leaf))) × (leaf < words) }
 {
     if kind == NUMBER {
         return true;
@@ -291,7 +291,7 @@ fn meets(kind: u32, leaf: u32) -> bool
 // Is it a value of the type with that shape? A number that is no type's shape has no leaf kinds, and no value. (Of a struct's array
 // nothing says that its elements are words until they are read.)
 pub fn fits(v: Value, shape: u32) -> bool
-    ensures value { result ≡ fitsIn v shape }
+    ensures value { result ≡ fits_in v shape }
     ensures all_bits { result ≡ true → AllBits v.leaves }
 {
     if v.shape != shape {

@@ -5,29 +5,29 @@ use lib.IntN.{pos, negsuc, ◌+ℤ◌, ◌-ℤ◌, ◌*ℤ◌}
 use mir.Syntax.{w32}
 use mir.Val.{to_z, of_z}
 use Rattle.word.specs.declared.Reckoning.TheVariants.{Word, Beyond}
-use Rattle.word.specs.Word.{isWord}
+use Rattle.word.specs.Word.{is_word}
 use Rattle.word.specs.Reckoning.{reckoning}
 use Rattle.word.specs.Laid.{laid}
 
 -- the ends of the words (CR 3, P12)
-greatest-and-one : reckoning (pos 2147483647 +ℤ pos 1) ≡ Beyond
-unfolding reckoning isWord
-greatest-and-one = refl
+greatest_and_one : reckoning (pos 2147483647 +ℤ pos 1) ≡ Beyond
+unfolding reckoning is_word
+greatest_and_one = refl
 
-least-less-none : reckoning (negsuc 2147483647 -ℤ pos 0) ≡ Word 2147483648
-unfolding reckoning isWord
-least-less-none = refl
+least_less_none : reckoning (negsuc 2147483647 -ℤ pos 0) ≡ Word 2147483648
+unfolding reckoning is_word
+least_less_none = refl
 
-least-less-one : reckoning (negsuc 2147483647 -ℤ pos 1) ≡ Beyond
-unfolding reckoning isWord
-least-less-one = refl
+least_less_one : reckoning (negsuc 2147483647 -ℤ pos 1) ≡ Beyond
+unfolding reckoning is_word
+least_less_one = refl
 
-least-negated : reckoning (negsuc 2147483647 *ℤ negsuc 0) ≡ Beyond
-unfolding reckoning isWord
-least-negated = refl
+least_negated : reckoning (negsuc 2147483647 *ℤ negsuc 0) ≡ Beyond
+unfolding reckoning is_word
+least_negated = refl
 
-all-bits : to_z w32 4294967295 ≡ negsuc 0
-all-bits = refl
+all_bits : to_z w32 4294967295 ≡ negsuc 0
+all_bits = refl
 
 sign_bit : of_z w32 (negsuc 2147483647) ≡ 2147483648
 sign_bit = refl

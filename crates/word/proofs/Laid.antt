@@ -35,8 +35,8 @@ module _ {A B : Type 0} (from : List A) (to : List B) (i : ℕ) where
   pub all_read : length from ≤ i → i ≤ length from → i ≤ length to → Done
   all_read h g k = (take_all i from h ∙ sym (take_all (length to) from (omega arith)), ap (λ n. drop n to) {x = i} {y = length from} (omega arith))
 
-  pub all-written : length to ≤ i → i ≤ length to → i ≤ length from → Done
-  all-written h g k = (ap (λ n. take n from) {x = i} {y = length to} (omega arith), drop_of_length-le to {i = i} h ∙ sym (drop_of_length-le to {i = length from} (omega arith)))
+  pub all_written : length to ≤ i → i ≤ length to → i ≤ length from → Done
+  all_written h g k = (ap (λ n. take n from) {x = i} {y = length to} (omega arith), drop_of_length-le to {i = i} h ∙ sym (drop_of_length-le to {i = length from} (omega arith)))
 
   pub laid_done : (f : A → B) (now : List B) → Done → now ≡ map f (take i from) ++ drop i to → now ≡ laid f from to
   unfolding laid
@@ -45,16 +45,16 @@ module _ {A B : Type 0} (from : List A) (to : List B) (i : ℕ) where
 -- what stands where
 module _ {A B : Type 0} (f : A → B) (from : List A) (to : List B) where
   -- all of a shorter list, and the rest of `to`; as much as `to` has of a longer one
-  pub laid-front : length from ≤ length to → laid f from to ≡ map f from ++ drop (length from) to
+  pub laid_front : length from ≤ length to → laid f from to ≡ map f from ++ drop (length from) to
   unfolding laid
-  laid-front h = ap (λ l. map f l ++ drop (length from) to) (take_all (length to) from h)
+  laid_front h = ap (λ l. map f l ++ drop (length from) to) (take_all (length to) from h)
 
-  pub laid-full : length to ≤ length from → laid f from to ≡ map f (take (length to) from)
+  pub laid_full : length to ≤ length from → laid f from to ≡ map f (take (length to) from)
   unfolding laid
-  laid-full h = ap (λ l. map f (take (length to) from) ++ l) (drop_of_length-le to {i = length from} h) ∙ append-nil (map f (take (length to) from))
+  laid_full h = ap (λ l. map f (take (length to) from) ++ l) (drop_of_length-le to {i = length from} h) ∙ append-nil (map f (take (length to) from))
 
-  pub laid-length : length (laid f from to) ≡ length to
+  pub laid_length : length (laid f from to) ≡ length to
   unfolding laid
-  laid-length =
+  laid_length =
       length-append (map f (take (length to) from)) (drop (length from) to)
       ∙ (λ j. length-map (take (length to) from) f j + length-drop (length from) to j) ∙ ap (λ n. n + (length to - length from)) (length-take (length to) from) ∙ omega arith

@@ -12,12 +12,12 @@ use borrow.Author.Tests.{le-ltb}
 use Rattle.word.specs.Word.{words, half, IsWord}
 
 -- -1 - m, of a number that is not negative and of one that is
-pub less-pos : (m : ℕ) → negsuc 0 -ℤ pos m ≡ negsuc m
-less-pos zero = refl
-less-pos (suc m) = ap negsuc (omega arith)
+pub less_pos : (m : ℕ) → negsuc 0 -ℤ pos m ≡ negsuc m
+less_pos zero = refl
+less_pos (suc m) = ap negsuc (omega arith)
 
-less-neg : (n : ℕ) → negsuc 0 -ℤ negsuc n ≡ pos n
-less-neg n = rw (le-ltb (suc n) 1 (omega arith)) (ap pos (omega arith))
+less_neg : (n : ℕ) → negsuc 0 -ℤ negsuc n ≡ pos n
+less_neg n = rw (le-ltb (suc n) 1 (omega arith)) (ap pos (omega arith))
 
 never : {X : Type 0} → false ≡ true → X
 never e = absurd (subst T (sym e) tt)
@@ -25,7 +25,7 @@ never e = absurd (subst T (sym e) tt)
 -- a negative word x: -1 - x is what all bits set exceed x's bits by
 pub negative : (x : ℤ) → IsWord x → lt_z x (pos 0) ≡ true → (negsuc 0 -ℤ x ≡ pos (4294967295 - of_z w32 x)) × (half ≤ of_z w32 x) × (of_z w32 x < words)
 negative (pos n) f e = never (sym (le-ltb n 0 (omega arith)) ∙ e)
-negative (negsuc n) f e = (less-neg n ∙ ap pos (omega arith), omega arith, omega arith)
+negative (negsuc n) f e = (less_neg n ∙ ap pos (omega arith), omega arith, omega arith)
 
 -- a word x that is not: it is its bits
 pub natural : (x : ℤ) → IsWord x → lt_z x (pos 0) ≡ false → (x ≡ pos (of_z w32 x)) × (of_z w32 x < half)

@@ -11,10 +11,10 @@ use lib.Seq.{get_or-set_same, get_or-set_other}
 use Rattle.word.specs.Tabulate.{tabulate}
 
 module _ {A : Type 0} where
-  pub length-tabulate : (n : ℕ) (f : ℕ → A) → length (tabulate n f) ≡ n
+  pub length_tabulate : (n : ℕ) (f : ℕ → A) → length (tabulate n f) ≡ n
   unfolding tabulate
-  length-tabulate zero f = refl
-  length-tabulate (suc n) f = ap suc (length-tabulate n (λ i. f (suc i)))
+  length_tabulate zero f = refl
+  length_tabulate (suc n) f = ap suc (length_tabulate n (λ i. f (suc i)))
 
   pub get_d_tabulate : (n : ℕ) (f : ℕ → A) (i : ℕ) (d : A) → i < n → get_or (tabulate n f) i d ≡ f i
   unfolding tabulate
@@ -23,19 +23,19 @@ module _ {A : Type 0} where
   get_d_tabulate (suc n) f (suc i) d h = get_d_tabulate n (λ i. f (suc i)) i d (le_of_suc-le-suc h)
 
   -- a list of n elements is their table
-  pub tabulate-is : (n : ℕ) (f : ℕ → A) (l : List A) (d : A) → length l ≡ n → ((i : ℕ) → i < n → get_or l i d ≡ f i) → tabulate n f ≡ l
+  pub tabulate_is : (n : ℕ) (f : ℕ → A) (l : List A) (d : A) → length l ≡ n → ((i : ℕ) → i < n → get_or l i d ≡ f i) → tabulate n f ≡ l
   unfolding tabulate
-  tabulate-is zero f [] d e h = refl
-  tabulate-is zero f (x ∷ l) d e h = absurd (omega arith)
-  tabulate-is (suc n) f [] d e h = absurd (omega arith)
-  tabulate-is (suc n) f (x ∷ l) d e h =
-      ap₂ ◌∷◌ (sym (h 0 (suc-le-suc zero-le))) (tabulate-is n (λ i. f (suc i)) l d (omega arith) (λ i g. h (suc i) (suc-le-suc g)))
+  tabulate_is zero f [] d e h = refl
+  tabulate_is zero f (x ∷ l) d e h = absurd (omega arith)
+  tabulate_is (suc n) f [] d e h = absurd (omega arith)
+  tabulate_is (suc n) f (x ∷ l) d e h =
+      ap₂ ◌∷◌ (sym (h 0 (suc-le-suc zero-le))) (tabulate_is n (λ i. f (suc i)) l d (omega arith) (λ i g. h (suc i) (suc-le-suc g)))
 
   -- tables of the same elements are one
-  pub tabulate-same : (n : ℕ) (f g : ℕ → A) → ((i : ℕ) → i < n → f i ≡ g i) → tabulate n f ≡ tabulate n g
+  pub tabulate_same : (n : ℕ) (f g : ℕ → A) → ((i : ℕ) → i < n → f i ≡ g i) → tabulate n f ≡ tabulate n g
   unfolding tabulate
-  tabulate-same zero f g h = refl
-  tabulate-same (suc n) f g h = ap₂ ◌∷◌ (h 0 (suc-le-suc zero-le)) (tabulate-same n (λ i. f (suc i)) (λ i. g (suc i)) (λ i k. h (suc i) (suc-le-suc k)))
+  tabulate_same zero f g h = refl
+  tabulate_same (suc n) f g h = ap₂ ◌∷◌ (h 0 (suc-le-suc zero-le)) (tabulate_same n (λ i. f (suc i)) (λ i. g (suc i)) (λ i k. h (suc i) (suc-le-suc k)))
 
   -- the places below k of a list hold f's: what a loop that fills it place by place knows
   abbrev pub FilledTo : (ℕ → A) → A → ℕ → List A → Type 0
@@ -49,11 +49,11 @@ module _ {A : Type 0} where
       by (no n) = get_or-set_other l k i x d n ∙ g i (omega arith)
 
   -- filled to its end
-  pub filled-all : (f : ℕ → A) (d : A) (n k : ℕ) (l : List A) → length l ≡ n → n ≤ k → FilledTo f d k l → l ≡ tabulate n f
-  filled-all f d n k l e h g = sym (tabulate-is n f l d e (λ i m. g i (omega arith)))
+  pub filled_all : (f : ℕ → A) (d : A) (n k : ℕ) (l : List A) → length l ≡ n → n ≤ k → FilledTo f d k l → l ≡ tabulate n f
+  filled_all f d n k l e h g = sym (tabulate_is n f l d e (λ i m. g i (omega arith)))
 
 -- each element by a function
-pub map-tabulate : {A B : Type 0} (g : A → B) (n : ℕ) (f : ℕ → A) → map g (tabulate n f) ≡ tabulate n (λ i. g (f i))
+pub map_tabulate : {A B : Type 0} (g : A → B) (n : ℕ) (f : ℕ → A) → map g (tabulate n f) ≡ tabulate n (λ i. g (f i))
 unfolding tabulate
-map-tabulate g zero f = refl
-map-tabulate g (suc n) f = ap (λ l. g (f 0) ∷ l) (map-tabulate g n (λ i. f (suc i)))
+map_tabulate g zero f = refl
+map_tabulate g (suc n) f = ap (λ l. g (f 0) ∷ l) (map_tabulate g n (λ i. f (suc i)))

@@ -1,6 +1,6 @@
 -- Words: signed 32-bit numbers (01, "The sheet").
 -- A word's bits are those of two's complement: `to_z w32` reads bits as a number, `of_z w32` gives a number's bits.
--- Believed: `half`, `IsWord` and `eqZ`. The rest is for contracts only: `isWord` is tied to `IsWord` by `word_test` and `test_word` (proofs/Results).
+-- Believed: `half`, `IsWord` and `eq_z`. The rest is for contracts only: `is_word` is tied to `IsWord` by `word_test` and `test_word` (proofs/Results).
 use Rattle.std.specs.Prelude.{ℕ, ◌<◌, Bool, false, List, eqb, ltb, ℤ, pos, negsuc, get_or}
 use Rattle.std.specs.Int.Signed.{mag}
 
@@ -17,8 +17,8 @@ abbrev pub IsWord : ℤ → Type 0
 IsWord z = mag z < half
 
 -- whether it is
-unfoldable pub isWord : ℤ → Bool
-isWord z = ltb (mag z) half
+unfoldable pub is_word : ℤ → Bool
+is_word z = ltb (mag z) half
 
 -- a list of words (past its end a list reads as 0, a word)
 abbrev pub AllWords : List ℤ → Type 0
@@ -29,8 +29,8 @@ abbrev pub AllBits : List ℕ → Type 0
 AllBits l = (i : ℕ) → get_or l i 0 < words
 
 -- whether two numbers are one (beside `lt_z` and `le_z`, the tests of order)
-abbrev pub eqZ : ℤ → ℤ → Bool
-eqZ (pos a) (pos b) = eqb a b
-eqZ (pos a) (negsuc b) = false
-eqZ (negsuc a) (pos b) = false
-eqZ (negsuc a) (negsuc b) = eqb a b
+abbrev pub eq_z : ℤ → ℤ → Bool
+eq_z (pos a) (pos b) = eqb a b
+eq_z (pos a) (negsuc b) = false
+eq_z (negsuc a) (pos b) = false
+eq_z (negsuc a) (negsuc b) = eqb a b

@@ -5,7 +5,7 @@ ghost use Rattle.std.specs.Prelude.{◌≡◌, ◌+◌, ◌%◌, ◌+ℤ◌, ◌
 ghost use Rattle.std.specs.Int.Signed.{lt_z, le_z};
 ghost use Rattle.std.specs.Int.{w32};
 ghost use Rattle.std.proofs.Common.{to_z, of_z};
-ghost use Rattle.word.specs.Word.{words, half, IsWord, eqZ, AllWords};
+ghost use Rattle.word.specs.Word.{words, half, IsWord, eq_z, AllWords};
 ghost use Rattle.word.specs.Reckoning.{reckoning};
 ghost use Rattle.word.specs.Laid.{laid};
 
@@ -85,7 +85,7 @@ pub fn at_most(a: u32, b: u32) -> bool
 
 // Whether a's number is b's.
 pub fn equal(a: u32, b: u32) -> bool
-    ensures { result ≡ eqZ (to_z w32 a) (to_z w32 b) }
+    ensures { result ≡ eq_z (to_z w32 a) (to_z w32 b) }
 {
     a == b
 }

@@ -3,18 +3,18 @@ use Prim.Native.Nat.{◌≤◌}
 use mathlib.Core.Path.{◌≡◌}
 use borrow.Author.Rules.{rules}
 use lib.ListN.{length}
-use Rattle.formats.specs.Touches.{eventBytes}
+use Rattle.formats.specs.Touches.{event_bytes}
 use Rattle.console.proofs.events.Statement.{statement}
 use Rattle.console.proofs.events.Tie as tie
 
 abbrev invariant-loop : tie.invariant-loop
-invariant-loop rows state₀ left event₀ out₀ rest₀ state event out rest = (rest ≤ left) × (length event ≡ eventBytes) × (length state ≡ length state₀)
+invariant-loop rows state₀ left event₀ out₀ rest₀ state event out rest = (rest ≤ left) × (length event ≡ event_bytes) × (length state ≡ length state₀)
 
 abbrev decreases-loop : tie.decreases-loop
 decreases-loop rows state₀ left event₀ out₀ rest₀ state event out rest = rest
 
-pub events-spec : {M : Type 1} → statement M
-events-spec = tie.close (tie.spec invariant-loop decreases-loop
+pub events_spec : {M : Type 1} → statement M
+events_spec = tie.close (tie.spec invariant-loop decreases-loop
     (λ c. search rules)
     (λ c. search rules)
     (λ c κs. search rules)

@@ -3,7 +3,7 @@ use native.Mathlib.Omega.{arith}
 use native.Mathlib.Nat.{le_of_lt}
 use borrow.Author.Rules.{rules}
 use lib.ListN.{drop}
-use Rattle.console.proofs.Fronts.{front, counts-front}
+use Rattle.console.proofs.Fronts.{front, counts_front}
 use Rattle.console.proofs.read.Statement.{statement}
 use Rattle.console.proofs.read.Tie as tie
 
@@ -17,13 +17,13 @@ read_spec = tie.close (tie.spec
     (λ c κs. search rules)
     (λ c. search rules)
     (λ c.
-    let read-full = c.before.before in
-    let if1 = read-full.before.before in
+    let read_full = c.before.before in
+    let if1 = read_full.before.before in
     let start = if1.before.before in
     let a = start.args in
-    let q = read-full.read-full in
+    let q = read_full.read-full in
     let k = front a.left a.to.now (le_of_lt if1.if1.true) in
-    (omega (arith, q.ensures.0, q.auto.0, k), counts-front q.result q.new.0 (drop a.left a.to.now) q.ensures))
+    (omega (arith, q.ensures.0, q.auto.0, k), counts_front q.result q.new.0 (drop a.left a.to.now) q.ensures))
     (λ c κs. search rules)
     (λ c. search rules)
     (λ c. search rules))

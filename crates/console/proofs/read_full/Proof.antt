@@ -13,8 +13,8 @@ invariant-loop to₀ done₀ to done = (done ≤ length to) × (length to ≡ le
 abbrev decreases-loop : tie.decreases-loop
 decreases-loop to₀ done₀ to done = length to - done
 
-pub read-full-spec : {M : Type 1} → statement M
-read-full-spec = tie.close (tie.spec invariant-loop decreases-loop
+pub read_full_spec : {M : Type 1} → statement M
+read_full_spec = tie.close (tie.spec invariant-loop decreases-loop
     (λ c. search rules)
     (λ c. search rules)
     (λ c. search rules)

@@ -11,8 +11,8 @@ invariant-loop left dropped₀ rest₀ dropped rest = 4096 ≡ length dropped
 abbrev decreases-loop : tie.decreases-loop
 decreases-loop left dropped₀ rest₀ dropped rest = rest
 
-pub skip-spec : {M : Type 1} → statement M
-skip-spec = tie.close (tie.spec invariant-loop decreases-loop
+pub skip_spec : {M : Type 1} → statement M
+skip_spec = tie.close (tie.spec invariant-loop decreases-loop
     (λ c κs. search rules)
     (λ c. search rules)
     (λ c. search rules)

@@ -1,19 +1,19 @@
 -- `entries::button` meets its contract, a way by its law. Assumes nothing.
 use borrow.Author.Rules.{rules}
-use Rattle.decimal.specs.Path.{pathOf}
-use Rattle.formats.specs.Lists.{noKinds, numbersEntry}
-use Rattle.entries.proofs.Writing.{no-digits, button-disabled, button-enabled}
+use Rattle.decimal.specs.Path.{path_of}
+use Rattle.formats.specs.Lists.{no_kinds, numbers_entry}
+use Rattle.entries.proofs.Writing.{no_digits, button_disabled, button_enabled}
 use Rattle.entries.proofs.button.Statement.{statement}
 use Rattle.entries.proofs.button.Tie as tie
 
-pub button-spec : {M : Type 1} → statement M
-button-spec = tie.close (tie.spec
-    (λ c. let s = c.before.before in button-disabled s.args.list.now s.args.enabled (numbersEntry (pathOf s.args.marks) s.args.action noKinds) c.if1.true)
-    (λ c κs. let s = c.before.before.before in (s.requires.0, s.requires.1, no-digits))
+pub button_spec : {M : Type 1} → statement M
+button_spec = tie.close (tie.spec
+    (λ c. let s = c.before.before in button_disabled s.args.list.now s.args.enabled (numbers_entry (path_of s.args.marks) s.args.action no_kinds) c.if1.true)
+    (λ c κs. let s = c.before.before.before in (s.requires.0, s.requires.1, no_digits))
     (λ c. search rules)
     (λ c.
-    let write-entry = c.before.before in
-    let if1 = write-entry.before.before in
+    let write_entry = c.before.before in
+    let if1 = write_entry.before.before in
     let start = if1.before.before in
-    button-enabled start.args.list.now write-entry.write-entry.new.0 write-entry.write-entry.result start.args.enabled
-    (numbersEntry (pathOf start.args.marks) start.args.action noKinds) if1.if1.false write-entry.write-entry.ensures))
+    button_enabled start.args.list.now write_entry.write-entry.new.0 write_entry.write-entry.result start.args.enabled
+    (numbers_entry (path_of start.args.marks) start.args.action no_kinds) if1.if1.false write_entry.write-entry.ensures))

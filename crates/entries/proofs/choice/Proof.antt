@@ -3,22 +3,22 @@ use mathlib.Core.Path.{refl}
 use Prim.Native.Nat.{◌+◌}
 use native.Mathlib.Omega.{arith}
 use borrow.Author.Rules.{rules}
-use Rattle.decimal.specs.Path.{pathOf}
-use Rattle.state.proofs.Calls.{low-a, low-b, fine-at}
+use Rattle.decimal.specs.Path.{path_of}
+use Rattle.state.proofs.Calls.{low_a, low_b, fine_at}
 use Rattle.entries.proofs.Fronts.{After}
-use Rattle.entries.proofs.Arms.{entries-choice}
+use Rattle.entries.proofs.Arms.{entries_choice}
 use Rattle.entries.proofs.choice.Statement.{statement}
 use Rattle.entries.proofs.choice.Tie as tie
 
-pub choice-spec : {M : Type 1} → statement M
-choice-spec = tie.close (tie.spec
+pub choice_spec : {M : Type 1} → statement M
+choice_spec = tie.close (tie.spec
     (λ c κs. search rules)
-    (λ c κs. let s = c.before.before in let l = low-a s.requires.0 _ c.operand.result refl c.operand.ensures (omega (arith, s.requires.1)) (omega (arith, s.requires.1)) in fine-at s.requires.0 c.operand.result s.args.depth (omega arith) s.requires.0.room)
+    (λ c κs. let s = c.before.before in let l = low_a s.requires.0 _ c.operand.result refl c.operand.ensures (omega (arith, s.requires.1)) (omega (arith, s.requires.1)) in fine_at s.requires.0 c.operand.result s.args.depth (omega arith) s.requires.0.room)
     (λ c κs. search rules)
     (λ c κs.
     let start = c.before.before.before.before in
-    let l = low-b start.requires.0 _ c.operand2.result refl c.operand2.ensures (omega (arith, start.requires.1)) in
-    fine-at start.requires.0 c.operand2.result start.args.depth (omega arith) start.requires.0.room)
+    let l = low_b start.requires.0 _ c.operand2.result refl c.operand2.ensures (omega (arith, start.requires.1)) in
+    fine_at start.requires.0 c.operand2.result start.args.depth (omega arith) start.requires.0.room)
     (λ c κs. search rules)
     (λ c κs. search rules)
     (λ c. search rules)
@@ -40,4 +40,4 @@ choice-spec = tie.close (tie.spec
     let m₂ = button2.button2.ensures.most in
     let after : After start.args.list.now button.button.new.0 button.button.result button2.button2.result least.least.result (button.button.result + button2.button2.result) =
     record { kept = button.button.auto.0; place = least.least.ensures; sum = record { at_most = omega (arith, m, m₂); first = λ _. refl; second = λ h. absurd (omega (arith, m, m₂, h)) } } in
-    (omega (arith, m, m₂), λ v. entries-choice v start.args.rows.now start.args.state.now start.args.row start.args.env.now start.args.depth (pathOf start.args.marks) start.args.list.now start.requires.2 operand.operand.result operand2.operand2.result tried.tried.result tried2.tried2.result start.requires.1 operand.operand.ensures operand2.operand2.ensures after tried.tried.ensures tried2.tried2.ensures button.button.ensures button2.button2.ensures)))
+    (omega (arith, m, m₂), λ v. entries_choice v start.args.rows.now start.args.state.now start.args.row start.args.env.now start.args.depth (path_of start.args.marks) start.args.list.now start.requires.2 operand.operand.result operand2.operand2.result tried.tried.result tried2.tried2.result start.requires.1 operand.operand.ensures operand2.operand2.ensures after tried.tried.ensures tried2.tried2.ensures button.button.ensures button2.button2.ensures)))

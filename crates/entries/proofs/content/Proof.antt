@@ -2,13 +2,13 @@
 use mathlib.Core.Path.{sym, ◌∙◌}
 use native.Mathlib.Omega.{arith}
 use borrow.Author.Rules.{rules}
-use Rattle.state.proofs.Calls.{low-a}
-use Rattle.entries.proofs.Contents.{content-filled, content-entered, content-shared, shared-kind}
+use Rattle.state.proofs.Calls.{low_a}
+use Rattle.entries.proofs.Contents.{content_filled, content_entered, content_shared, shared_kind}
 use Rattle.entries.proofs.content.Statement.{statement}
 use Rattle.entries.proofs.content.Tie as tie
 
-pub content-spec : {M : Type 1} → statement M
-content-spec = tie.close (tie.spec
+pub content_spec : {M : Type 1} → statement M
+content_spec = tie.close (tie.spec
     (λ c κs. search rules)
     (λ c κs. search rules)
     (λ c κs. search rules)
@@ -16,34 +16,34 @@ content-spec = tie.close (tie.spec
     let operand = c.before in
     let get = operand.before in
     let start = get.before in
-    let l = low-a start.requires.0 get.get.result operand.operand.result get.get.ensures operand.operand.ensures (omega (arith, start.requires.1, get.get.ensures)) (omega (arith, start.requires.2, get.get.ensures)) in
+    let l = low_a start.requires.0 get.get.result operand.operand.result get.get.ensures operand.operand.ensures (omega (arith, start.requires.1, get.get.ensures)) (omega (arith, start.requires.2, get.get.ensures)) in
     let f = start.requires.0.low in
     omega arith)
     (λ c κs.
     let operand = c.before in
     let get = operand.before in
     let start = get.before in
-    let l = low-a start.requires.0 get.get.result operand.operand.result get.get.ensures operand.operand.ensures (omega (arith, start.requires.1, get.get.ensures)) (omega (arith, start.requires.2, get.get.ensures)) in
+    let l = low_a start.requires.0 get.get.result operand.operand.result get.get.ensures operand.operand.ensures (omega (arith, start.requires.1, get.get.ensures)) (omega (arith, start.requires.2, get.get.ensures)) in
     let f = start.requires.0.low in
     (omega arith, omega arith))
     (λ c.
-    let match-at = c.before in
-    let get = match-at.before.before in
+    let match_at = c.before in
+    let get = match_at.before.before in
     let start = get.before in
-    content-filled start.args.rows.now start.args.state.now start.args.row c.read.result
-    (sym get.get.ensures ∙ match-at.match.keys1) c.read.ensures)
+    content_filled start.args.rows.now start.args.state.now start.args.row c.read.result
+    (sym get.get.ensures ∙ match_at.match.keys1) c.read.ensures)
     (λ c.
-    let match-at = c.before in
-    let operand = match-at.before in
+    let match_at = c.before in
+    let operand = match_at.before in
     let get = operand.before in
     let start = get.before in
-    content-entered start.args.rows.now start.args.state.now start.args.row operand.operand.result c.row_type.result _ _
-    (sym get.get.ensures ∙ match-at.match.keys2) operand.operand.ensures c.row_type.ensures)
+    content_entered start.args.rows.now start.args.state.now start.args.row operand.operand.result c.row_type.result _ _
+    (sym get.get.ensures ∙ match_at.match.keys2) operand.operand.ensures c.row_type.ensures)
     (λ c.
-    let match-at = c.before in
-    let operand = match-at.before in
+    let match_at = c.before in
+    let operand = match_at.before in
     let get = operand.before in
     let start = get.before in
-    content-shared start.args.rows.now start.args.state.now start.args.row operand.operand.result c.read2.result
-    (shared-kind start.requires.1 start.requires.2 (λ e. match-at.match.rest.0.1 (get.get.ensures ∙ e)) (λ e. match-at.match.rest.1 (get.get.ensures ∙ e)))
+    content_shared start.args.rows.now start.args.state.now start.args.row operand.operand.result c.read2.result
+    (shared_kind start.requires.1 start.requires.2 (λ e. match_at.match.rest.0.1 (get.get.ensures ∙ e)) (λ e. match_at.match.rest.1 (get.get.ensures ∙ e)))
     operand.operand.ensures c.read2.ensures))

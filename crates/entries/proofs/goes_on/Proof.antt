@@ -2,16 +2,16 @@
 use mathlib.Core.Path.{refl}
 use native.Mathlib.Omega.{arith}
 use borrow.Author.Rules.{rules}
-use Rattle.state.proofs.Calls.{low-a, fine-at}
+use Rattle.state.proofs.Calls.{low_a, fine_at}
 use borrow.Author.Tests.{not-true, not-false}
-use Rattle.entries.proofs.Going.{goes_none, goes-tried}
+use Rattle.entries.proofs.Going.{goes_none, goes_tried}
 use Rattle.entries.proofs.goes_on.Statement.{statement}
 use Rattle.entries.proofs.goes_on.Tie as tie
 
-pub goes-on-spec : {M : Type 1} → statement M
-goes-on-spec = tie.close (tie.spec
+pub goes_on_spec : {M : Type 1} → statement M
+goes_on_spec = tie.close (tie.spec
     (λ c κs. search rules)
-    (λ c κs. let s = c.before in let l = low-a s.requires.0 _ c.operand.result refl c.operand.ensures s.requires.1 s.requires.2 in fine-at s.requires.0 c.operand.result 0 (omega arith) (omega arith))
+    (λ c κs. let s = c.before in let l = low_a s.requires.0 _ c.operand.result refl c.operand.ensures s.requires.1 s.requires.2 in fine_at s.requires.0 c.operand.result 0 (omega arith) (omega arith))
     (λ c.
     let value = c.before.before in
     let operand = value.before in
@@ -24,6 +24,6 @@ goes-on-spec = tie.close (tie.spec
     let value = if1.before.before in
     let operand = value.before in
     let start = operand.before in
-    goes-tried start.args.rows.now start.args.state.now start.args.row start.args.env.now start.args.depth
+    goes_tried start.args.rows.now start.args.state.now start.args.row start.args.env.now start.args.depth
     operand.operand.result operand.operand.ensures value.value.result value.value.ensures c.attempt.new.1.0
     c.attempt.result (not-false _ if1.if1.false) c.attempt.ensures))

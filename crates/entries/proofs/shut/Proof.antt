@@ -1,15 +1,15 @@
 -- `entries::shut` meets its contract, a way by its law. Assumes nothing.
 use mathlib.Core.Path.{sym, ◌∙◌}
 use native.Mathlib.Omega.{arith}
-use Rattle.entries.proofs.Asking.{shut-other, shut-anyone, shut-role, shut-spent}
+use Rattle.entries.proofs.Asking.{shut_other, shut_anyone, shut_role, shut_spent}
 use Rattle.entries.proofs.shut.Statement.{statement}
 use Rattle.entries.proofs.shut.Tie as tie
 
-pub shut-spec : {M : Type 1} → statement M
-shut-spec = tie.close (tie.spec
+pub shut_spec : {M : Type 1} → statement M
+shut_spec = tie.close (tie.spec
     (λ c κs. (c.requires, omega arith))
-    (λ c. let get = c.before in let s = get.before.args in shut-other s.rows.now s.state.now s.row s.who (λ e. c.if1.true (get.get.ensures ∙ e)))
-    (λ c. let s = c.before.before.before.args in shut-anyone s.rows.now s.state.now s.row s.who c.if2.true)
+    (λ c. let get = c.before in let s = get.before.args in shut_other s.rows.now s.state.now s.row s.who (λ e. c.if1.true (get.get.ensures ∙ e)))
+    (λ c. let s = c.before.before.before.args in shut_anyone s.rows.now s.state.now s.row s.who c.if2.true)
     (λ c κs. (c.before.before.before.requires, omega arith))
     (λ c.
     let get2 = c.before in
@@ -17,7 +17,7 @@ shut-spec = tie.close (tie.spec
     let if1 = if2.before in
     let get = if1.before in
     let s = get.before.args in
-    shut-role s.rows.now s.state.now s.row s.who (sym get.get.ensures ∙ if1.if1.false) if2.if2.false (λ e. c.if3.true (get2.get2.ensures ∙ e)))
+    shut_role s.rows.now s.state.now s.row s.who (sym get.get.ensures ∙ if1.if1.false) if2.if2.false (λ e. c.if3.true (get2.get2.ensures ∙ e)))
     (λ c κs. c.before.before.before.before.before.requires)
     (λ c.
     let if3 = c.before in
@@ -26,4 +26,4 @@ shut-spec = tie.close (tie.spec
     let if1 = if2.before in
     let get = if1.before in
     let s = get.before.args in
-    shut-spent s.rows.now s.state.now s.row s.who (sym get.get.ensures ∙ if1.if1.false) if2.if2.false c.read-touches.result (sym get2.get2.ensures ∙ if3.if3.false) c.read-touches.ensures))
+    shut_spent s.rows.now s.state.now s.row s.who (sym get.get.ensures ∙ if1.if1.false) if2.if2.false c.read-touches.result (sym get2.get2.ensures ∙ if3.if3.false) c.read-touches.ensures))

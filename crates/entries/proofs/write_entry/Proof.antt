@@ -4,39 +4,39 @@ use Prim.Native.Nat.{◌-◌}
 use borrow.Author.Rules.{rules}
 use lib.ListN.{length, length-set}
 use Rattle.decimal.specs.Field.{newline}
-use Rattle.decimal.specs.Path.{pathOf}
-use Rattle.tophat.specs.Syntax.{maxLeaves}
-use Rattle.formats.specs.Touches.{entryBytes}
-use Rattle.entries.proofs.Writing.{wrote-entry, wrote_nothing}
+use Rattle.decimal.specs.Path.{path_of}
+use Rattle.tophat.specs.Syntax.{max_leaves}
+use Rattle.formats.specs.Touches.{entry_bytes}
+use Rattle.entries.proofs.Writing.{wrote_entry, wrote_nothing}
 use Rattle.entries.proofs.write_entry.Statement.{statement}
 use Rattle.entries.proofs.write_entry.Tie as tie
 
 returns : tie.Need-returns
 returns c =
     let start = c.before.before in
-    let kinds : length start.args.kinds ≡ maxLeaves = let g = start.well-formed in search rules in
-    wrote_nothing (pathOf start.args.marks) start.requires.0 start.args.action start.requires.1 start.args.kinds kinds start.requires.2 start.args.list.now c.if1.true
+    let kinds : length start.args.kinds ≡ max_leaves = let g = start.well_formed in search rules in
+    wrote_nothing (path_of start.args.marks) start.requires.0 start.args.action start.requires.1 start.args.kinds kinds start.requires.2 start.args.list.now c.if1.true
 
 same_length : tie.Need-same-length
 same_length c =
-    let write-numbers = c.before.before in
-    let start = write-numbers.before.before.before.before in
+    let write_numbers = c.before.before in
+    let start = write_numbers.before.before.before.before in
     let action = start in
     let path = action.before.before.before.before in
-    length-set write-numbers.write-numbers.new.0 (entryBytes - 1) newline ∙ write-numbers.write-numbers.auto.0 ∙ action.write2.auto.0 ∙
+    length-set write_numbers.write-numbers.new.0 (entry_bytes - 1) newline ∙ write_numbers.write-numbers.auto.0 ∙ action.write2.auto.0 ∙
     path.write.auto.0
 
-returns-2 : tie.Need-returns-2
-returns-2 c =
+returns_2 : tie.Need-returns-2
+returns_2 c =
     let numbers = c.before.before in
     let action = numbers.before.before.before.before in
     let path = action.before.before.before.before in
     let room = path.before.before in
     let start = room.before.before in
-    let kinds : length start.args.kinds ≡ maxLeaves = let g = start.well-formed in search rules in
-    wrote-entry (pathOf start.args.marks) start.requires.0 start.args.action start.requires.1 start.args.kinds kinds start.requires.2
+    let kinds : length start.args.kinds ≡ max_leaves = let g = start.well_formed in search rules in
+    wrote_entry (path_of start.args.marks) start.requires.0 start.args.action start.requires.1 start.args.kinds kinds start.requires.2
     start.args.list.now path.write.new.0 action.write2.new.0 numbers.write-numbers.new.0
     room.if1.false path.write.ensures.1 action.write2.ensures.1 numbers.write-numbers.ensures.0
 
-pub write-entry-spec : {M : Type 1} → statement M
-write-entry-spec = tie.close (tie.spec returns (λ c κs. search rules) (λ c κs. search rules) (λ c κs. search rules) (λ c. search rules) same_length returns-2)
+pub write_entry_spec : {M : Type 1} → statement M
+write_entry_spec = tie.close (tie.spec returns (λ c κs. search rules) (λ c κs. search rules) (λ c κs. search rules) (λ c. search rules) same_length returns_2)

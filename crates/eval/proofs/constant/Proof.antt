@@ -2,32 +2,32 @@
 use mathlib.Core.Path.{sym, ◌∙◌}
 use native.Mathlib.Omega.{arith}
 use borrow.Author.Rules.{rules}
-use Rattle.eval.proofs.Arms.{eval-unit, eval-truth, eval-number, eval-binder}
+use Rattle.eval.proofs.Arms.{eval_unit, eval_truth, eval_number, eval_binder}
 use Rattle.eval.proofs.constant.Statement.{statement}
 use Rattle.eval.proofs.constant.Tie as tie
 
-pub constant-spec : {M : Type 1} → statement M
-constant-spec = tie.close (tie.spec
+pub constant_spec : {M : Type 1} → statement M
+constant_spec = tie.close (tie.spec
     (λ c κs. search rules) (λ c κs. search rules) (λ c κs. search rules) (λ c κs. search rules)
     (λ c κs. search rules) (λ c κs. search rules) (λ c κs. search rules)
-    (λ c. let s = c.before.before in eval-unit s.args.rows.now s.args.row s.args.env.now s.args.depth c.unit.result (sym s.requires.2 ∙ c.before.match.keys1) c.unit.ensures)
+    (λ c. let s = c.before.before in eval_unit s.args.rows.now s.args.row s.args.env.now s.args.depth c.unit.result (sym s.requires.2 ∙ c.before.match.keys1) c.unit.ensures)
     (λ c.
     let get = c.before in
-    let match-at = get.before in
-    let start = match-at.before in
-    eval-truth start.args.rows.now start.args.row start.args.env.now start.args.depth c.truth.result get.get.result
-    (sym start.requires.2 ∙ match-at.match.keys2) get.get.ensures c.truth.ensures)
+    let match_at = get.before in
+    let start = match_at.before in
+    eval_truth start.args.rows.now start.args.row start.args.env.now start.args.depth c.truth.result get.get.result
+    (sym start.requires.2 ∙ match_at.match.keys2) get.get.ensures c.truth.ensures)
     (λ c.
     let get2 = c.before in
-    let match-at = get2.before in
-    let start = match-at.before in
-    eval-number start.args.rows.now start.args.row start.args.env.now start.args.depth c.number.result get2.get2.result
-    (sym start.requires.2 ∙ match-at.match.keys3) get2.get2.ensures c.number.ensures)
+    let match_at = get2.before in
+    let start = match_at.before in
+    eval_number start.args.rows.now start.args.row start.args.env.now start.args.depth c.number.result get2.get2.result
+    (sym start.requires.2 ∙ match_at.match.keys3) get2.get2.ensures c.number.ensures)
     (λ c.
     let operand = c.before in
-    let match-at = operand.before in
-    let start = match-at.before in
-    eval-binder start.args.rows.now start.args.row start.args.env.now start.args.depth c.env-get.result
+    let match_at = operand.before in
+    let start = match_at.before in
+    eval_binder start.args.rows.now start.args.row start.args.env.now start.args.depth c.env-get.result
     operand.operand.result
-    (let p = start.requires in let x = p.2 in let y = p.3 in let z = p.4 in omega (arith, match-at.match.rest.0.0.1, match-at.match.rest.0.1, match-at.match.rest.1))
+    (let p = start.requires in let x = p.2 in let y = p.3 in let z = p.4 in omega (arith, match_at.match.rest.0.0.1, match_at.match.rest.0.1, match_at.match.rest.1))
     operand.operand.ensures c.env-get.ensures))

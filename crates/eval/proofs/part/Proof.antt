@@ -4,8 +4,8 @@ use borrow.Author.Rules.{rules}
 use Rattle.eval.proofs.part.Statement.{statement}
 use Rattle.eval.proofs.part.Tie as tie
 
-pub part-spec : {M : Type 1} → statement M
-part-spec = tie.close (tie.spec
+pub part_spec : {M : Type 1} → statement M
+part_spec = tie.close (tie.spec
     (λ c κs. search rules)
     (λ c. (λ z. c.first.ensures, λ z. absurd (let y = c.before.if1.true in omega arith)))
     (λ c κs. search rules)

@@ -3,8 +3,8 @@ use borrow.Author.Rules.{rules}
 use Rattle.flow_c.proofs.nannyjiffy_handle.Statement.{statement}
 use Rattle.flow_c.proofs.nannyjiffy_handle.Tie as tie
 
-handle-requires : tie.Need-handle-requires
-handle-requires c κs = search rules
+handle_requires : tie.Need-handle-requires
+handle_requires c κs = search rules
 
 same_length : tie.Need-same-length
 same_length c = search rules
@@ -12,5 +12,5 @@ same_length c = search rules
 returns : tie.Need-returns
 returns c = let (answered, bounded) = c.before.handle.ensures in (answered.0, (answered.1, (answered.2, bounded)))
 
-pub nannyjiffy-handle-spec : {M : Type 1} → statement M
-nannyjiffy-handle-spec = tie.close (tie.spec handle-requires same_length returns)
+pub nannyjiffy_handle_spec : {M : Type 1} → statement M
+nannyjiffy_handle_spec = tie.close (tie.spec handle_requires same_length returns)

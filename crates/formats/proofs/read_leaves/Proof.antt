@@ -6,28 +6,28 @@ use native.Mathlib.Omega.{arith}
 use borrow.Author.Rules.{rules}
 use borrow.Author.Tests.{not-true, not-false}
 use lib.ListN.{length, length-set}
-use Rattle.tophat.specs.Syntax.{maxLeaves}
+use Rattle.tophat.specs.Syntax.{max_leaves}
 use Rattle.formats.proofs.Loops.{ReadTo, read_first, read_more, read_none, read_all}
 use Rattle.formats.proofs.read_leaves.Statement.{statement}
 use Rattle.formats.proofs.read_leaves.Tie as tie
 
 abbrev invariant-loop : tie.invariant-loop
-invariant-loop s at width words₀ blank₀ k₀ words blank k = (k ≤ maxLeaves) × (length words ≡ maxLeaves) × (length blank ≡ maxLeaves) × ReadTo s at width words blank k
+invariant-loop s at width words₀ blank₀ k₀ words blank k = (k ≤ max_leaves) × (length words ≡ max_leaves) × (length blank ≡ max_leaves) × ReadTo s at width words blank k
 
 abbrev decreases-loop : tie.decreases-loop
-decreases-loop s at width words₀ blank₀ k₀ words blank k = maxLeaves - k
+decreases-loop s at width words₀ blank₀ k₀ words blank k = max_leaves - k
 
-loop-holds : tie.Need-loop-init invariant-loop decreases-loop
-loop-holds c = let start = c.before in (search rules, refl, refl, read_first start.args.s.now start.args.at start.args.width)
+loop_holds : tie.Need-loop-init invariant-loop decreases-loop
+loop_holds c = let start = c.before in (search rules, refl, refl, read_first start.args.s.now start.args.at start.args.width)
 
-mul-read-leaf : tie.Need-overflow-mul-read-leaf invariant-loop decreases-loop
-mul-read-leaf c =
+mul_read_leaf : tie.Need-overflow-mul-read-leaf invariant-loop decreases-loop
+mul_read_leaf c =
     let loop = c.before in
     let start = loop.before.before in
     omega (arith, mul-le-mul_right start.args.width loop.loop.invariant.0)
 
-add-read-leaf : tie.Need-overflow-add-read-leaf invariant-loop decreases-loop
-add-read-leaf c =
+add_read_leaf : tie.Need-overflow-add-read-leaf invariant-loop decreases-loop
+add_read_leaf c =
     let loop = c.before in
     let start = loop.before.before in
     omega (arith, mul-le-mul_right start.args.width loop.loop.invariant.0)
@@ -40,8 +40,8 @@ returns c =
     let start = loop.before.before in
     read_none start.args.s.now start.args.at start.args.width loop.loop.k (omega arith) leaf.read-leaf.result leaf.read-leaf.ensures (not-true _ c.if1.true)
 
-loop-again : tie.Need-loop-preserved invariant-loop decreases-loop
-loop-again c =
+loop_again : tie.Need-loop-preserved invariant-loop decreases-loop
+loop_again c =
     let leaf = c.before.before in
     let test = leaf.before in
     let loop = test.before in
@@ -53,12 +53,12 @@ loop-again c =
           loop.loop.words loop.loop.blank loop.loop.invariant.3 (not-false _ c.if1.false),
     )
 
-returns-2 : tie.Need-returns-2 invariant-loop decreases-loop
-returns-2 c =
+returns_2 : tie.Need-returns-2 invariant-loop decreases-loop
+returns_2 c =
     let loop = c.before in
     let start = loop.before.before in
     read_all start.args.s.now start.args.at start.args.width loop.loop.words loop.loop.blank loop.loop.k (omega arith) loop.loop.invariant.3
 
-pub read-leaves-spec : {M : Type 1} → statement M
-read-leaves-spec = tie.close (tie.spec invariant-loop decreases-loop loop-holds mul-read-leaf add-read-leaf
-    (λ c κs. search rules) returns (λ c. search rules) (λ c. search rules) (λ c. search rules) (λ c. search rules) (λ c. search rules) loop-again returns-2)
+pub read_leaves_spec : {M : Type 1} → statement M
+read_leaves_spec = tie.close (tie.spec invariant-loop decreases-loop loop_holds mul_read_leaf add_read_leaf
+    (λ c κs. search rules) returns (λ c. search rules) (λ c. search rules) (λ c. search rules) (λ c. search rules) (λ c. search rules) loop_again returns_2)

@@ -1,23 +1,23 @@
 -- `read_role` meets its contract, a variant by its law. Assumes nothing.
 use mathlib.Core.Path.{sym, ◌∙◌}
 use borrow.Author.Rules.{rules}
-use Rattle.formats.proofs.Roles.{role-number, role-blank, role-unread}
+use Rattle.formats.proofs.Roles.{role_number, role_blank, role_unread}
 use Rattle.formats.proofs.read_role.Statement.{statement}
 use Rattle.formats.proofs.read_role.Tie as tie
 
-pub read-role-spec : {M : Type 1} → statement M
-read-role-spec = tie.close (tie.spec
+pub read_role_spec : {M : Type 1} → statement M
+read_role_spec = tie.close (tie.spec
     (λ c κs. search rules) (λ c. search rules) (λ c κs. search rules) (λ c. search rules) (λ c. search rules)
     (λ c.
     let reading = c.before.before in
     let read = reading.before.before in
     let start = read.before.before in
-    role-number start.args.s.now reading.reading.given.0.0 c.as-role.result (sym reading.reading.given.1 ∙ read.read.ensures) c.as-role.ensures)
+    role_number start.args.s.now reading.reading.given.0.0 c.as-role.result (sym reading.reading.given.1 ∙ read.read.ensures) c.as-role.ensures)
     (λ c.
     let read = c.before.before in
     let start = read.before.before in
-    role-blank start.args.s.now (sym c.enum_told.given.1 ∙ read.read.ensures))
+    role_blank start.args.s.now (sym c.enum_told.given.1 ∙ read.read.ensures))
     (λ c.
     let read = c.before.before in
     let start = read.before.before in
-    role-unread start.args.s.now (sym c.enum-told2.given.1 ∙ read.read.ensures)))
+    role_unread start.args.s.now (sym c.enum-told2.given.1 ∙ read.read.ensures)))

@@ -5,50 +5,50 @@ use native.Mathlib.Nat.{mul-le-mul_right}
 use native.Mathlib.Omega.{arith}
 use borrow.Author.Rules.{rules}
 use lib.ListN.{length, take}
-use Rattle.tophat.specs.Syntax.{maxLeaves}
-use Rattle.formats.specs.Records.{putItems, items_of}
-use Rattle.formats.proofs.Loops.{write-more, write-all}
+use Rattle.tophat.specs.Syntax.{max_leaves}
+use Rattle.formats.specs.Records.{put_items, items_of}
+use Rattle.formats.proofs.Loops.{write_more, write_all}
 use Rattle.formats.proofs.write_numbers.Statement.{statement}
 use Rattle.formats.proofs.write_numbers.Tie as tie
 
 abbrev invariant-loop : tie.invariant-loop
-invariant-loop s₀ at width numbers i₀ s i = (i ≤ maxLeaves) × (length s ≡ length s₀) × (s ≡ putItems s₀ at (items_of width (take i numbers)))
+invariant-loop s₀ at width numbers i₀ s i = (i ≤ max_leaves) × (length s ≡ length s₀) × (s ≡ put_items s₀ at (items_of width (take i numbers)))
 
 abbrev decreases-loop : tie.decreases-loop
-decreases-loop s₀ at width numbers i₀ s i = maxLeaves - i
+decreases-loop s₀ at width numbers i₀ s i = max_leaves - i
 
-loop-holds : tie.Need-loop-init invariant-loop decreases-loop
-unfolding putItems
-loop-holds c = (search rules, refl, refl)
+loop_holds : tie.Need-loop-init invariant-loop decreases-loop
+unfolding put_items
+loop_holds c = (search rules, refl, refl)
 
-mul-write : tie.Need-overflow-mul-write invariant-loop decreases-loop
-mul-write c =
+mul_write : tie.Need-overflow-mul-write invariant-loop decreases-loop
+mul_write c =
     let loop = c.before.before in
     let start = loop.before.before in
     omega (arith, mul-le-mul_right start.args.width loop.loop.invariant.0)
 
-add-write : tie.Need-overflow-add-write invariant-loop decreases-loop
-add-write c =
+add_write : tie.Need-overflow-add-write invariant-loop decreases-loop
+add_write c =
     let loop = c.before.before in
     let start = loop.before.before in
     omega (arith, mul-le-mul_right start.args.width loop.loop.invariant.0)
 
-loop-again : tie.Need-loop-preserved invariant-loop decreases-loop
-loop-again c =
+loop_again : tie.Need-loop-preserved invariant-loop decreases-loop
+loop_again c =
     let write = c.before.before in
-    let start-at = write.before.before.before in
-    let loop = start-at in
+    let start_at = write.before.before.before in
+    let loop = start_at in
     let start = loop.before.before in
-    let long : length start.args.t4 ≡ maxLeaves = let g = start.well-formed in search rules in
-    (omega arith, write.write.auto.0 ∙ loop.loop.invariant.1, write-more start.args.s.now start.args.at start.args.width start.args.t4 loop.loop.i loop.loop.s write.write.new.0 (omega (arith, long)) loop.loop.invariant.2 write.write.ensures.1)
+    let long : length start.args.t4 ≡ max_leaves = let g = start.well_formed in search rules in
+    (omega arith, write.write.auto.0 ∙ loop.loop.invariant.1, write_more start.args.s.now start.args.at start.args.width start.args.t4 loop.loop.i loop.loop.s write.write.new.0 (omega (arith, long)) loop.loop.invariant.2 write.write.ensures.1)
 
 returns : tie.Need-returns invariant-loop decreases-loop
 returns c =
     let loop = c.before in
     let start = loop.before.before in
-    let long : length start.args.t4 ≡ maxLeaves = let g = start.well-formed in search rules in
-    (write-all start.args.s.now start.args.at start.args.width start.args.t4 loop.loop.i loop.loop.s (omega (arith, long)) loop.loop.invariant.2, long)
+    let long : length start.args.t4 ≡ max_leaves = let g = start.well_formed in search rules in
+    (write_all start.args.s.now start.args.at start.args.width start.args.t4 loop.loop.i loop.loop.s (omega (arith, long)) loop.loop.invariant.2, long)
 
-pub write-numbers-spec : {M : Type 1} → statement M
-write-numbers-spec = tie.close (tie.spec invariant-loop decreases-loop loop-holds mul-write add-write
-    (λ c. search rules) (λ c. search rules) (λ c κs. search rules) (λ c. search rules) (λ c. search rules) loop-again (λ c. search rules) returns)
+pub write_numbers_spec : {M : Type 1} → statement M
+write_numbers_spec = tie.close (tie.spec invariant-loop decreases-loop loop_holds mul_write add_write
+    (λ c. search rules) (λ c. search rules) (λ c κs. search rules) (λ c. search rules) (λ c. search rules) loop_again (λ c. search rules) returns)

@@ -1,22 +1,22 @@
 -- `ground_of_form`: grounds 3 to 6, one after another.
 use borrow.Author.Rules.{rules}
 use Rattle.rows.specs.Ground.{passes3, passes4, passes5, passes6}
-use Rattle.grounds.proofs.Grounds.{form-3, form-4, form-5, form-6, form-0}
+use Rattle.grounds.proofs.Grounds.{form_3, form_4, form_5, form_6, form_0}
 use Rattle.grounds.proofs.ground_of_form.Statement.{statement}
 use Rattle.grounds.proofs.ground_of_form.Tie as tie
 
-pub ground-of-form-spec : {M : Type 1} → statement M
+pub ground_of_form_spec : {M : Type 1} → statement M
 unfolding passes3 passes4 passes5 passes6
-ground-of-form-spec = tie.close (tie.spec
+ground_of_form_spec = tie.close (tie.spec
     (λ c κs. search rules)
-    (λ c. let s = c.before.before in form-3 s.args.rows.now s.args.n c.before.listed.ensures c.if1.true)
+    (λ c. let s = c.before.before in form_3 s.args.rows.now s.args.n c.before.listed.ensures c.if1.true)
     (λ c κs. search rules)
     (λ c.
     let sorted = c.before in
     let if1 = sorted.before in
     let listed = if1.before in
     let start = listed.before in
-    form-4 start.args.rows.now start.args.n listed.listed.ensures if1.if1.false sorted.sorted.ensures c.if2.true)
+    form_4 start.args.rows.now start.args.n listed.listed.ensures if1.if1.false sorted.sorted.ensures c.if2.true)
     (λ c κs. search rules)
     (λ c.
     let named = c.before in
@@ -25,7 +25,7 @@ ground-of-form-spec = tie.close (tie.spec
     let if1 = sorted.before in
     let listed = if1.before in
     let start = listed.before in
-    form-5 start.args.rows.now start.args.n listed.listed.ensures if1.if1.false sorted.sorted.ensures if2.if2.false
+    form_5 start.args.rows.now start.args.n listed.listed.ensures if1.if1.false sorted.sorted.ensures if2.if2.false
     named.named.ensures c.if3.true)
     (λ c κs. search rules)
     (λ c.
@@ -37,7 +37,7 @@ ground-of-form-spec = tie.close (tie.spec
     let if1 = sorted.before in
     let listed = if1.before in
     let start = listed.before in
-    form-6 start.args.rows.now start.args.n listed.listed.ensures if1.if1.false sorted.sorted.ensures if2.if2.false
+    form_6 start.args.rows.now start.args.n listed.listed.ensures if1.if1.false sorted.sorted.ensures if2.if2.false
     named.named.ensures if3.if3.false small.small.ensures c.if4.true)
     (λ c.
     let small = c.before in
@@ -48,5 +48,5 @@ ground-of-form-spec = tie.close (tie.spec
     let if1 = sorted.before in
     let listed = if1.before in
     let start = listed.before in
-    form-0 start.args.rows.now start.args.n listed.listed.ensures if1.if1.false sorted.sorted.ensures if2.if2.false
+    form_0 start.args.rows.now start.args.n listed.listed.ensures if1.if1.false sorted.sorted.ensures if2.if2.false
     named.named.ensures if3.if3.false small.small.ensures c.if4.false))

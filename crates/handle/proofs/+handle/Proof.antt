@@ -3,16 +3,16 @@
 use mathlib.Core.Path.{sym, ◌∙◌, subst}
 use native.Mathlib.Omega.{arith}
 use borrow.Author.Rules.{rules}
-use Rattle.decimal.specs.Path.{pathOf}
-use Rattle.state.specs.Contracts.{HandleOk}
-use Rattle.state.proofs.Calls.{low-a, fine-at}
-use Rattle.eval.proofs.Arms.{call-a, call-b}
-use Rattle.running.proofs.Handing.{low_part, fine-part}
-use Rattle.handle.specs.Events.{KnownEvent, eventPath, eventAction}
-use Rattle.decimal.proofs.Answers.{front-empty, front-one, front-two}
-use Rattle.handle.proofs.Passing.{handle-then, handle-next, handle-continue, handle-first, handle-second, handle-unmarked}
-use Rattle.handle.proofs.Choosing.{handle-none}
-use Rattle.handle.proofs.Gates.{handle-part}
+use Rattle.decimal.specs.Path.{path_of}
+use Rattle.state.specs.Ensured.{HandleOk}
+use Rattle.state.proofs.Calls.{low_a, fine_at}
+use Rattle.eval.proofs.Arms.{call_a, call_b}
+use Rattle.running.proofs.Handing.{low_part, fine_part}
+use Rattle.handle.specs.Events.{KnownEvent, event_path, event_action}
+use Rattle.decimal.proofs.Answers.{front_empty, front_one, front_two}
+use Rattle.handle.proofs.Passing.{handle_then, handle_next, handle_continue, handle_first, handle_second, handle_unmarked}
+use Rattle.handle.proofs.Choosing.{handle_none}
+use Rattle.handle.proofs.Gates.{handle_part}
 use Prim.Native.Nat.{ℕ, ◌<◌}
 use borrow.Fn.Kinds.{In}
 use borrow.Fn.PlainCycle.{Measures, is, falls, and}
@@ -34,37 +34,37 @@ use Rattle.running.proofs.handed_on.Reads as handed_on-reads
 use Rattle.handle.proofs.+handle.{statement}
 use Rattle.handle.proofs.+handle.Tie.{close}
 
-abbrev μ-handle : Measures 3 handle-kinds.ps ℕ
-μ-handle κs a = a.1.1.0
+abbrev μ_handle : Measures 3 handle-kinds.ps ℕ
+μ_handle κs a = a.1.1.0
 
-abbrev handle-at : ℕ → In 3 handle-kinds.ps
-handle-at t = and 3 handle-kinds.ps (is 3 handle-kinds.ps μ-handle t) handle.Pre
+abbrev handle_at : ℕ → In 3 handle-kinds.ps
+handle_at t = and 3 handle-kinds.ps (is 3 handle-kinds.ps μ_handle t) handle.Pre
 
-abbrev handle-below : ℕ → In 3 handle-kinds.ps
-handle-below t = and 3 handle-kinds.ps (falls 3 handle-kinds.ps ◌<◌ μ-handle t) handle.Pre
+abbrev handle_below : ℕ → In 3 handle-kinds.ps
+handle_below t = and 3 handle-kinds.ps (falls 3 handle-kinds.ps ◌<◌ μ_handle t) handle.Pre
 
-abbrev handle-calls : ℕ → handle-lts.Claims
-handle-calls t = (handed_on-reads.Asked, handed_on-reads.Learnt, enclose-reads.Asked, enclose-reads.Learnt, operand-reads.Asked, operand-reads.Learnt, handle-below t, handle.Post, pass-reads.Asked, pass-reads.Learnt, get-reads.Asked, get-reads.Learnt, going-on-reads.Asked, going-on-reads.Learnt, attempt-reads.Asked, attempt-reads.Learnt, answer-reads.Asked, answer-reads.Learnt, pick-reads.Asked, pick-reads.Learnt, edit-reads.Asked, edit-reads.Learnt, front-mark-reads.Asked, front-mark-reads.Learnt, inside-reads.Asked, inside-reads.Learnt)
+abbrev handle_calls : ℕ → handle-lts.Claims
+handle_calls t = (handed_on-reads.Asked, handed_on-reads.Learnt, enclose-reads.Asked, enclose-reads.Learnt, operand-reads.Asked, operand-reads.Learnt, handle_below t, handle.Post, pass-reads.Asked, pass-reads.Learnt, get-reads.Asked, get-reads.Learnt, going-on-reads.Asked, going-on-reads.Learnt, attempt-reads.Asked, attempt-reads.Learnt, answer-reads.Asked, answer-reads.Learnt, pick-reads.Asked, pick-reads.Learnt, edit-reads.Asked, edit-reads.Learnt, front-mark-reads.Asked, front-mark-reads.Learnt, inside-reads.Asked, inside-reads.Learnt)
 
 pub +handle-spec : {M : Type 1} → statement M
-+handle-spec = close μ-handle λ t. handle-lts.spec (handle-calls t) (handle-at t)
++handle-spec = close μ_handle λ t. handle-lts.spec (handle_calls t) (handle_at t)
     handle.Post
     (λ c κs. c.before.requires.1.0.low)
     (λ c κs.
     let start = c.before.before.before.before.before.before in
     (start.requires.1.0.low, start.requires.1.0.room))
     (λ c κs.
-    let handed-on = c.before.before.before.before.before.before in
-    let start = handed-on.before.before in
-    (start.requires.1.0.low, handed-on.handed-on.ensures.low))
+    let handed_on = c.before.before.before.before.before.before in
+    let start = handed_on.before.before in
+    (start.requires.1.0.low, handed_on.handed-on.ensures.low))
     (λ c κs.
     let operand = c.before in
     let enclose = operand.before.before in
     let if1 = enclose.before.before.before.before in
-    let handed-on = if1.before in
-    let start = handed-on.before.before in
-    let l = low_part start.args.rows.now start.args.row start.requires.1.0 (handed-on.handed-on.ensures.on if1.if1.true) operand.operand.ensures in
-    (omega (arith, start.requires.0), (fine-part start.args.rows.now start.args.row start.requires.1.0 (handed-on.handed-on.ensures.on if1.if1.true) operand.operand.ensures enclose.enclose.ensures.room, start.requires.1.1)))
+    let handed_on = if1.before in
+    let start = handed_on.before.before in
+    let l = low_part start.args.rows.now start.args.row start.requires.1.0 (handed_on.handed-on.ensures.on if1.if1.true) operand.operand.ensures in
+    (omega (arith, start.requires.0), (fine_part start.args.rows.now start.args.row start.requires.1.0 (handed_on.handed-on.ensures.on if1.if1.true) operand.operand.ensures enclose.enclose.ensures.room, start.requires.1.1)))
     (λ c κs.
     let start = c.before.before.before.before.before.before.before.before.before.before.before.before in
     start.requires.1.0.low)
@@ -73,71 +73,71 @@ pub +handle-spec : {M : Type 1} → statement M
     let operand = handle.before.before in
     let enclose = operand.before.before in
     let if1 = enclose.before.before.before.before in
-    let handed-on = if1.before in
-    let start = handed-on.before.before in
-    handle-part start.args.rows.now start.args.state.now handle.handle.new.1.0 c.pass.new.1.0 start.args.row start.args.env.now
-    start.args.depth start.args.e.role (eventPath start.args.e) (eventAction start.args.e) handle.handle.result c.pass.result c.pass.ensures
-    (handed-on.handed-on.ensures.on if1.if1.true) operand.operand.ensures enclose.enclose.new.1.1.1.0 enclose.enclose.result
+    let handed_on = if1.before in
+    let start = handed_on.before.before in
+    handle_part start.args.rows.now start.args.state.now handle.handle.new.1.0 c.pass.new.1.0 start.args.row start.args.env.now
+    start.args.depth start.args.e.role (event_path start.args.e) (event_action start.args.e) handle.handle.result c.pass.result c.pass.ensures
+    (handed_on.handed-on.ensures.on if1.if1.true) operand.operand.ensures enclose.enclose.new.1.1.1.0 enclose.enclose.result
     enclose.enclose.ensures handle.handle.ensures)
     (λ c κs. (c.before.before.before.requires.1.0.low, omega arith))
     (λ c κs.
     let start = c.before.before.before.before in
     (start.requires.1.0.low, omega arith))
     (λ c κs.
-    let match-at = c.before in
-    let operand2 = match-at.before in
+    let match_at = c.before in
+    let operand2 = match_at.before in
     let get = operand2.before in
     let start = get.before.before.before.before in
-    let q = call-a (start.requires.0, start.requires.1.0) get.get.result operand2.operand2.result get.get.ensures operand2.operand2.ensures (omega (arith, match-at.match.keys1)) (omega (arith, match-at.match.keys1)) in
+    let q = call_a (start.requires.0, start.requires.1.0) get.get.result operand2.operand2.result get.get.ensures operand2.operand2.ensures (omega (arith, match_at.match.keys1)) (omega (arith, match_at.match.keys1)) in
     (q.0, (q.1, start.requires.1.1)))
     (λ c κs.
-    let match-at = c.before in
-    let operand2 = match-at.before in
+    let match_at = c.before in
+    let operand2 = match_at.before in
     let get = operand2.before in
     let start = get.before.before.before.before in
-    let h = low-a start.requires.1.0 get.get.result operand2.operand2.result get.get.ensures operand2.operand2.ensures (omega (arith, match-at.match.keys2)) (omega (arith, match-at.match.keys2)) in
-    fine-at start.requires.1.0 operand2.operand2.result 0 (omega arith) (omega arith))
+    let h = low_a start.requires.1.0 get.get.result operand2.operand2.result get.get.ensures operand2.operand2.ensures (omega (arith, match_at.match.keys2)) (omega (arith, match_at.match.keys2)) in
+    fine_at start.requires.1.0 operand2.operand2.result 0 (omega arith) (omega arith))
     (λ c κs.
-    let match-at = c.before.before.before.before in
-    let get = match-at.before.before in
+    let match_at = c.before.before.before.before in
+    let get = match_at.before.before in
     let start = get.before.before.before.before in
-    (start.requires.1.0, omega (arith, get.get.ensures, match-at.match.keys2), omega (arith, get.get.ensures, match-at.match.keys2)))
+    (start.requires.1.0, omega (arith, get.get.ensures, match_at.match.keys2), omega (arith, get.get.ensures, match_at.match.keys2)))
     (λ c κs. search rules)
     (λ c.
     let attempt = c.before in
     let if2 = attempt.before.before in
     let Going-on = if2.before in
-    let match-at = Going-on.before.before in
-    let operand2 = match-at.before in
+    let match_at = Going-on.before.before in
+    let operand2 = match_at.before in
     let get = operand2.before in
     let if1 = get.before in
-    let handed-on = if1.before in
-    let start = handed-on.before.before in
-    handle-continue start.args.rows.now start.args.state.now attempt.attempt.new.1.0 start.args.row start.args.env.now
+    let handed_on = if1.before in
+    let start = handed_on.before.before in
+    handle_continue start.args.rows.now start.args.state.now attempt.attempt.new.1.0 start.args.row start.args.env.now
     start.args.depth c.answer.result start.args.e operand2.operand2.result Going-on.Going-on.result
-    (handed-on.handed-on.ensures.none if1.if1.false) (sym get.get.ensures ∙ match-at.match.keys2) operand2.operand2.ensures
+    (handed_on.handed-on.ensures.none if1.if1.false) (sym get.get.ensures ∙ match_at.match.keys2) operand2.operand2.ensures
     Going-on.Going-on.ensures attempt.attempt.result c.answer.ensures if2.if2.true attempt.attempt.ensures)
     (λ c κs.
-    let match-at = c.before.before.before.before in
-    let operand2 = match-at.before in
+    let match_at = c.before.before.before.before in
+    let operand2 = match_at.before in
     let get = operand2.before in
     let start = get.before.before.before.before in
-    let q = call-a (start.requires.0, start.requires.1.0) get.get.result operand2.operand2.result get.get.ensures operand2.operand2.ensures (omega (arith, match-at.match.keys2)) (omega (arith, match-at.match.keys2)) in
+    let q = call_a (start.requires.0, start.requires.1.0) get.get.result operand2.operand2.result get.get.ensures operand2.operand2.ensures (omega (arith, match_at.match.keys2)) (omega (arith, match_at.match.keys2)) in
     (q.0, (q.1, start.requires.1.1)))
     (λ c κs.
-    let match-at = c.before in
-    let get = match-at.before.before in
+    let match_at = c.before in
+    let get = match_at.before.before in
     let if1 = get.before in
-    let handed-on = if1.before in
-    let start = handed-on.before.before in
-    (start.requires.1.0, sym get.get.ensures ∙ match-at.match.keys3, (handed-on.handed-on.ensures.none if1.if1.false), start.requires.1.1))
+    let handed_on = if1.before in
+    let start = handed_on.before.before in
+    (start.requires.1.0, sym get.get.ensures ∙ match_at.match.keys3, (handed_on.handed-on.ensures.none if1.if1.false), start.requires.1.1))
     (λ c κs. search rules)
     (λ c κs.
     let if4 = c.before in
     let if3 = if4.before in
     let get = if3.before.before.before in
     let start = get.before.before.before.before in
-    (fine-at start.requires.1.0 start.args.row 0 (omega arith) (omega arith), omega (arith, get.get.ensures, if3.if3.false), omega (arith, get.get.ensures, if4.if4.true), start.requires.1.1.2))
+    (fine_at start.requires.1.0 start.args.row 0 (omega arith) (omega arith), omega (arith, get.get.ensures, if3.if3.false), omega (arith, get.get.ensures, if4.if4.true), start.requires.1.1.2))
     (λ c κs. search rules)
     (λ c κs.
     let start = c.before.before.before.before.before.before.before.before.before.before in
@@ -151,7 +151,7 @@ pub +handle-spec : {M : Type 1} → statement M
     let operand2 = if5.before.before.before.before in
     let get = operand2.before in
     let start = get.before.before.before.before in
-    let q = call-a (start.requires.0, start.requires.1.0) get.get.result operand2.operand2.result get.get.ensures operand2.operand2.ensures (omega (arith, if5.if5.false))
+    let q = call_a (start.requires.0, start.requires.1.0) get.get.result operand2.operand2.result get.get.ensures operand2.operand2.ensures (omega (arith, if5.if5.false))
     (omega (arith, c.before.before.before.before.before.before.before.if6.true)) in
     (q.0, (q.1, subst KnownEvent (sym c.inside.ensures) start.requires.1.1)))
     (λ c. search rules)
@@ -161,116 +161,116 @@ pub +handle-spec : {M : Type 1} → statement M
     let if5 = operand3.before.before in
     let get = if5.before.before.before.before.before in
     let start = get.before.before.before.before in
-    let q = call-b (start.requires.0, start.requires.1.0) get.get.result operand3.operand3.result get.get.ensures operand3.operand3.ensures (omega (arith, if5.if5.false)) in
+    let q = call_b (start.requires.0, start.requires.1.0) get.get.result operand3.operand3.result get.get.ensures operand3.operand3.ensures (omega (arith, if5.if5.false)) in
     (q.0, (q.1, subst KnownEvent (sym c.inside2.ensures) start.requires.1.1)))
     (λ c.
-    let match-at = c.before.before in
-    let operand2 = match-at.before in
+    let match_at = c.before.before in
+    let operand2 = match_at.before in
     let get = operand2.before in
     let if1 = get.before in
-    let handed-on = if1.before in
-    let start = handed-on.before.before in
-    handle-then start.args.rows.now start.args.state.now c.handle2.new.1.0 start.args.row start.args.env.now
-    start.args.depth c.handle2.result start.args.e.role operand2.operand2.result (eventPath start.args.e) (eventAction start.args.e)
-    (handed-on.handed-on.ensures.none if1.if1.false) (sym get.get.ensures ∙ match-at.match.keys1) operand2.operand2.ensures
+    let handed_on = if1.before in
+    let start = handed_on.before.before in
+    handle_then start.args.rows.now start.args.state.now c.handle2.new.1.0 start.args.row start.args.env.now
+    start.args.depth c.handle2.result start.args.e.role operand2.operand2.result (event_path start.args.e) (event_action start.args.e)
+    (handed_on.handed-on.ensures.none if1.if1.false) (sym get.get.ensures ∙ match_at.match.keys1) operand2.operand2.ensures
     c.handle2.ensures)
     (λ c.
     let if2 = c.before.before in
     let Going-on = if2.before in
-    let match-at = Going-on.before.before in
-    let operand2 = match-at.before in
+    let match_at = Going-on.before.before in
+    let operand2 = match_at.before in
     let get = operand2.before in
     let if1 = get.before in
-    let handed-on = if1.before in
-    let start = handed-on.before.before in
-    handle-next start.args.rows.now start.args.state.now c.handle3.new.1.0 start.args.row start.args.env.now
+    let handed_on = if1.before in
+    let start = handed_on.before.before in
+    handle_next start.args.rows.now start.args.state.now c.handle3.new.1.0 start.args.row start.args.env.now
     start.args.depth c.handle3.result start.args.e operand2.operand2.result Going-on.Going-on.result
-    (handed-on.handed-on.ensures.none if1.if1.false) (sym get.get.ensures ∙ match-at.match.keys2) operand2.operand2.ensures
+    (handed_on.handed-on.ensures.none if1.if1.false) (sym get.get.ensures ∙ match_at.match.keys2) operand2.operand2.ensures
     Going-on.Going-on.ensures if2.if2.false c.handle3.ensures)
     (λ c.
     let pick = c.before in
     let start = pick.before.before.before.before.before.before.before.before in
-    subst (HandleOk start.args.rows.now start.args.state.now pick.pick.new.1.0 start.args.row start.args.env.now start.args.depth start.args.e.role (eventPath start.args.e) (eventAction start.args.e))
+    subst (HandleOk start.args.rows.now start.args.state.now pick.pick.new.1.0 start.args.row start.args.env.now start.args.depth start.args.e.role (event_path start.args.e) (event_action start.args.e))
     (sym c.answer2.ensures) pick.pick.ensures)
     (λ c.
     let edit = c.before in
     let start = edit.before.before.before.before.before.before.before.before.before.before in
-    subst (HandleOk start.args.rows.now start.args.state.now edit.edit.new.1.0 start.args.row start.args.env.now start.args.depth start.args.e.role (eventPath start.args.e) (eventAction start.args.e))
+    subst (HandleOk start.args.rows.now start.args.state.now edit.edit.new.1.0 start.args.row start.args.env.now start.args.depth start.args.e.role (event_path start.args.e) (event_action start.args.e))
     (sym c.answer3.ensures) (edit.edit.ensures start.args.env.now start.args.depth))
     (λ c.
-    let front-mark = c.before.before in
-    let if6 = front-mark.before.before in
+    let front_mark = c.before.before in
+    let if6 = front_mark.before.before in
     let if5 = if6.before in
     let get = if5.before.before.before.before.before in
     let if1 = get.before in
-    let handed-on = if1.before in
-    let start = handed-on.before.before in
-    handle-unmarked start.args.rows.now start.args.state.now start.args.row start.args.env.now start.args.depth start.args.e.role
-    (eventPath start.args.e) (eventAction start.args.e) (handed-on.handed-on.ensures.none if1.if1.false)
+    let handed_on = if1.before in
+    let start = handed_on.before.before in
+    handle_unmarked start.args.rows.now start.args.state.now start.args.row start.args.env.now start.args.depth start.args.e.role
+    (event_path start.args.e) (event_action start.args.e) (handed_on.handed-on.ensures.none if1.if1.false)
     (omega (arith, get.get.ensures, if5.if5.false)) (omega (arith, get.get.ensures, if6.if6.true))
-    (front-empty (eventPath start.args.e) (sym c.enum_told.given.1 ∙ front-mark.front-mark.ensures)))
+    (front_empty (event_path start.args.e) (sym c.enum_told.given.1 ∙ front_mark.front-mark.ensures)))
     (λ c.
     let inside = c.before in
     let front = inside.before.before.before in
-    let front-mark = front.before.before in
-    let if6 = front-mark.before.before in
+    let front_mark = front.before.before in
+    let if6 = front_mark.before.before in
     let if5 = if6.before in
     let operand2 = if5.before.before.before.before in
     let get = operand2.before in
     let if1 = get.before in
-    let handed-on = if1.before in
-    let start = handed-on.before.before in
-    handle-first start.args.rows.now start.args.state.now c.handle4.new.1.0 start.args.row start.args.env.now
-    start.args.depth c.handle4.result start.args.e.role (eventPath start.args.e) (eventAction start.args.e)
-    (handed-on.handed-on.ensures.none if1.if1.false) (omega (arith, get.get.ensures, if5.if5.false))
-    (omega (arith, get.get.ensures, if6.if6.true)) operand2.operand2.result (pathOf front.front.given.0.0)
+    let handed_on = if1.before in
+    let start = handed_on.before.before in
+    handle_first start.args.rows.now start.args.state.now c.handle4.new.1.0 start.args.row start.args.env.now
+    start.args.depth c.handle4.result start.args.e.role (event_path start.args.e) (event_action start.args.e)
+    (handed_on.handed-on.ensures.none if1.if1.false) (omega (arith, get.get.ensures, if5.if5.false))
+    (omega (arith, get.get.ensures, if6.if6.true)) operand2.operand2.result (path_of front.front.given.0.0)
     operand2.operand2.ensures
-    (front-one (eventPath start.args.e) front.front.given.0.0 (sym front.front.given.1 ∙ front-mark.front-mark.ensures))
-    (subst (λ f. HandleOk start.args.rows.now start.args.state.now c.handle4.new.1.0 operand2.operand2.result start.args.env.now start.args.depth f.role (eventPath f) (eventAction f) c.handle4.result) inside.inside.ensures c.handle4.ensures))
+    (front_one (event_path start.args.e) front.front.given.0.0 (sym front.front.given.1 ∙ front_mark.front-mark.ensures))
+    (subst (λ f. HandleOk start.args.rows.now start.args.state.now c.handle4.new.1.0 operand2.operand2.result start.args.env.now start.args.depth f.role (event_path f) (event_action f) c.handle4.result) inside.inside.ensures c.handle4.ensures))
     (λ c.
     let inside2 = c.before in
     let front2 = inside2.before.before.before in
-    let front-mark = front2.before.before in
-    let operand3 = front-mark.before in
+    let front_mark = front2.before.before in
+    let operand3 = front_mark.before in
     let if6 = operand3.before in
     let if5 = if6.before in
     let get = if5.before.before.before.before.before in
     let if1 = get.before in
-    let handed-on = if1.before in
-    let start = handed-on.before.before in
-    handle-second start.args.rows.now start.args.state.now c.handle5.new.1.0 start.args.row start.args.env.now
-    start.args.depth c.handle5.result start.args.e.role (eventPath start.args.e) (eventAction start.args.e)
-    (handed-on.handed-on.ensures.none if1.if1.false) (omega (arith, get.get.ensures, if5.if5.false))
-    (omega (arith, get.get.ensures, if6.if6.true)) operand3.operand3.result (pathOf front2.front2.given.0.0)
+    let handed_on = if1.before in
+    let start = handed_on.before.before in
+    handle_second start.args.rows.now start.args.state.now c.handle5.new.1.0 start.args.row start.args.env.now
+    start.args.depth c.handle5.result start.args.e.role (event_path start.args.e) (event_action start.args.e)
+    (handed_on.handed-on.ensures.none if1.if1.false) (omega (arith, get.get.ensures, if5.if5.false))
+    (omega (arith, get.get.ensures, if6.if6.true)) operand3.operand3.result (path_of front2.front2.given.0.0)
     operand3.operand3.ensures
-    (front-two (eventPath start.args.e) front2.front2.given.0.0 (sym front2.front2.given.1 ∙ front-mark.front-mark.ensures))
-    (subst (λ f. HandleOk start.args.rows.now start.args.state.now c.handle5.new.1.0 operand3.operand3.result start.args.env.now start.args.depth f.role (eventPath f) (eventAction f) c.handle5.result) inside2.inside2.ensures c.handle5.ensures))
+    (front_two (event_path start.args.e) front2.front2.given.0.0 (sym front2.front2.given.1 ∙ front_mark.front-mark.ensures))
+    (subst (λ f. HandleOk start.args.rows.now start.args.state.now c.handle5.new.1.0 operand3.operand3.result start.args.env.now start.args.depth f.role (event_path f) (event_action f) c.handle5.result) inside2.inside2.ensures c.handle5.ensures))
     (λ c.
     let get = c.before.before.before in
     let if1 = get.before in
-    let handed-on = if1.before in
-    let start = handed-on.before.before in
-    handle-none start.args.rows.now start.args.state.now start.args.row start.args.env.now start.args.depth start.args.e.role
-    (eventPath start.args.e) (eventAction start.args.e) (handed-on.handed-on.ensures.none if1.if1.false)
+    let handed_on = if1.before in
+    let start = handed_on.before.before in
+    handle_none start.args.rows.now start.args.state.now start.args.row start.args.env.now start.args.depth start.args.e.role
+    (event_path start.args.e) (event_action start.args.e) (handed_on.handed-on.ensures.none if1.if1.false)
     (λ l h. omega (arith, get.get.ensures, c.if3.true)) (λ l h. omega (arith, get.get.ensures, c.if3.true)))
     (λ c.
     let if4 = c.before in
-    let match-at = if4.before.before in
-    let get = match-at.before.before in
+    let match_at = if4.before.before in
+    let get = match_at.before.before in
     let if1 = get.before in
-    let handed-on = if1.before in
-    let start = handed-on.before.before in
-    handle-none start.args.rows.now start.args.state.now start.args.row start.args.env.now start.args.depth start.args.e.role
-    (eventPath start.args.e) (eventAction start.args.e) (handed-on.handed-on.ensures.none if1.if1.false)
-    (λ l h. let k = get.get.ensures in let x = if4.if4.false in let m = match-at.match.rest.0.0.1 in let n = match-at.match.rest.0.1 in omega arith)
+    let handed_on = if1.before in
+    let start = handed_on.before.before in
+    handle_none start.args.rows.now start.args.state.now start.args.row start.args.env.now start.args.depth start.args.e.role
+    (event_path start.args.e) (event_action start.args.e) (handed_on.handed-on.ensures.none if1.if1.false)
+    (λ l h. let k = get.get.ensures in let x = if4.if4.false in let m = match_at.match.rest.0.0.1 in let n = match_at.match.rest.0.1 in omega arith)
     (λ l h. omega (arith, get.get.ensures, c.if5.true)))
     (λ c.
-    let match-at = c.before.before.before.before in
-    let get = match-at.before.before in
+    let match_at = c.before.before.before.before in
+    let get = match_at.before.before in
     let if1 = get.before in
-    let handed-on = if1.before in
-    let start = handed-on.before.before in
-    handle-none start.args.rows.now start.args.state.now start.args.row start.args.env.now start.args.depth start.args.e.role
-    (eventPath start.args.e) (eventAction start.args.e) (handed-on.handed-on.ensures.none if1.if1.false)
+    let handed_on = if1.before in
+    let start = handed_on.before.before in
+    handle_none start.args.rows.now start.args.state.now start.args.row start.args.env.now start.args.depth start.args.e.role
+    (event_path start.args.e) (event_action start.args.e) (handed_on.handed-on.ensures.none if1.if1.false)
     (λ l h. omega (arith, get.get.ensures, c.if6.false))
-    (λ l h. let k = get.get.ensures in let x = c.if6.false in let m = match-at.match.rest.1 in omega arith))
+    (λ l h. let k = get.get.ensures in let x = c.if6.false in let m = match_at.match.rest.1 in omega arith))

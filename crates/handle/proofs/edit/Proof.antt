@@ -2,14 +2,14 @@
 use mathlib.Core.Path.{sym, ◌∙◌}
 use native.Mathlib.Omega.{arith}
 use lib.ListN.{replicate}
-use Rattle.rows.specs.Enclosing.{maxBinders}
-use Rattle.state.proofs.Calls.{low-a}
-use Rattle.handle.proofs.Editing.{handle-edit, handle-enter, handle-update}
+use Rattle.rows.specs.Enclosing.{max_binders}
+use Rattle.state.proofs.Calls.{low_a}
+use Rattle.handle.proofs.Editing.{handle_edit, handle_enter, handle_update}
 use Rattle.handle.proofs.edit.Statement.{statement}
 use Rattle.handle.proofs.edit.Tie as tie
 
-pub edit-spec : {M : Type 1} → statement M
-edit-spec = tie.close (tie.spec
+pub edit_spec : {M : Type 1} → statement M
+edit_spec = tie.close (tie.spec
     (λ c κs. (c.requires.0.low, omega arith))
     (λ c κs. (c.before.requires.0.low, omega arith))
     (λ c κs.
@@ -20,45 +20,45 @@ edit-spec = tie.close (tie.spec
     (start.requires.0.low, start.requires.3))
     (λ c.
     let read = c.before.before in
-    let match-at = read.before.before in
-    let get = match-at.before.before in
+    let match_at = read.before.before in
+    let get = match_at.before.before in
     let start = get.before in
-    λ env d. handle-edit start.args.rows.now start.args.state.now c.fill.new.0 start.args.row env d start.args.e
-    c.fill.result read.read.result (sym get.get.ensures ∙ match-at.match.keys1) read.read.ensures c.fill.ensures)
+    λ env d. handle_edit start.args.rows.now start.args.state.now c.fill.new.0 start.args.row env d start.args.e
+    c.fill.result read.read.result (sym get.get.ensures ∙ match_at.match.keys1) read.read.ensures c.fill.ensures)
     (λ c κs.
     let operand = c.before in
     let get = operand.before in
     let start = get.before in
-    (let h = low-a start.requires.0 get.get.result operand.operand.result get.get.ensures operand.operand.ensures (let k = start.requires.1 in let g = get.get.ensures in omega arith) (let k = start.requires.2 in let g = get.get.ensures in omega arith) in let l = start.requires.0.low in omega arith))
+    (let h = low_a start.requires.0 get.get.result operand.operand.result get.get.ensures operand.operand.ensures (let k = start.requires.1 in let g = get.get.ensures in omega arith) (let k = start.requires.2 in let g = get.get.ensures in omega arith) in let l = start.requires.0.low in omega arith))
     (λ c κs.
     let start = c.before.before.before.before.before in
     (start.requires.0.low, start.requires.3))
     (λ c.
     let row_type = c.before.before in
-    let match-at = row_type.before in
-    let operand = match-at.before in
+    let match_at = row_type.before in
+    let operand = match_at.before in
     let get = operand.before in
     let start = get.before in
-    λ env d. handle-enter start.args.rows.now start.args.state.now c.fill2.new.0 start.args.row env d start.args.e
-    c.fill2.result operand.operand.result row_type.row_type.result (replicate maxBinders 0)
-    (sym get.get.ensures ∙ match-at.match.keys2) operand.operand.ensures row_type.row_type.ensures c.fill2.ensures)
+    λ env d. handle_enter start.args.rows.now start.args.state.now c.fill2.new.0 start.args.row env d start.args.e
+    c.fill2.result operand.operand.result row_type.row_type.result (replicate max_binders 0)
+    (sym get.get.ensures ∙ match_at.match.keys2) operand.operand.ensures row_type.row_type.ensures c.fill2.ensures)
     (λ c κs.
     let operand = c.before.before in
     let get = operand.before in
     let start = get.before in
-    ((let h = low-a start.requires.0 get.get.result operand.operand.result get.get.ensures operand.operand.ensures (let k = start.requires.1 in let g = get.get.ensures in omega arith) (let k = start.requires.2 in let g = get.get.ensures in omega arith) in let l = start.requires.0.low in omega arith), omega arith))
+    ((let h = low_a start.requires.0 get.get.result operand.operand.result get.get.ensures operand.operand.ensures (let k = start.requires.1 in let g = get.get.ensures in omega arith) (let k = start.requires.2 in let g = get.get.ensures in omega arith) in let l = start.requires.0.low in omega arith), omega arith))
     (λ c κs.
     let operand = c.before.before.before.before in
     let get = operand.before in
     let start = get.before in
-    ((let h = low-a start.requires.0 get.get.result operand.operand.result get.get.ensures operand.operand.ensures (let k = start.requires.1 in let g = get.get.ensures in omega arith) (let k = start.requires.2 in let g = get.get.ensures in omega arith) in let l = start.requires.0.low in omega arith), start.requires.3))
+    ((let h = low_a start.requires.0 get.get.result operand.operand.result get.get.ensures operand.operand.ensures (let k = start.requires.1 in let g = get.get.ensures in omega arith) (let k = start.requires.2 in let g = get.get.ensures in omega arith) in let l = start.requires.0.low in omega arith), start.requires.3))
     (λ c.
     let read2 = c.before.before in
-    let match-at = read2.before.before in
-    let operand = match-at.before in
+    let match_at = read2.before.before in
+    let operand = match_at.before in
     let get = operand.before in
     let start = get.before in
-    λ env d. handle-update start.args.rows.now start.args.state.now c.fill3.new.0 start.args.row env d start.args.e
+    λ env d. handle_update start.args.rows.now start.args.state.now c.fill3.new.0 start.args.row env d start.args.e
     c.fill3.result operand.operand.result read2.read2.result
-    (let g = get.get.ensures in let k = start.requires.1 in let l = start.requires.2 in let m = match-at.match.rest.0.1 in let n = match-at.match.rest.1 in omega arith)
+    (let g = get.get.ensures in let k = start.requires.1 in let l = start.requires.2 in let m = match_at.match.rest.0.1 in let n = match_at.match.rest.1 in omega arith)
     operand.operand.ensures read2.read2.ensures c.fill3.ensures))

@@ -1,24 +1,24 @@
 -- `handle::fill` meets its contract, a way by its law. Assumes nothing.
 use borrow.Author.Rules.{rules}
 use borrow.Author.Tests.{not-true, not-false}
-use Rattle.handle.proofs.Editing.{fill-not-given, fill-blank, fill-unfit, fill-fits}
+use Rattle.handle.proofs.Editing.{fill_not_given, fill_blank, fill_unfit, fill_fits}
 use Rattle.handle.proofs.fill.Statement.{statement}
 use Rattle.handle.proofs.fill.Tie as tie
 
 pub fill_spec : {M : Type 1} → statement M
 fill_spec = tie.close (tie.spec
     (λ c κs. search rules)
-    (λ c. let s = c.before.before in fill-not-given s.args.state.now s.args.row s.args.tag s.args.shape s.args.e (c.before.ends.ensures.no (not-true _ c.if1.true)))
+    (λ c. let s = c.before.before in fill_not_given s.args.state.now s.args.row s.args.tag s.args.shape s.args.e (c.before.ends.ensures.no (not-true _ c.if1.true)))
     (λ c κs. search rules)
     (λ c κs. c.Leaves-of.ensures.1)
     (λ c.
-    let none-blank = c.before in
-    let Leaves-of = none-blank.before in
+    let none_blank = c.before in
+    let Leaves-of = none_blank.before in
     let if1 = Leaves-of.before.before in
     let ends = if1.before in
     let start = ends.before in
-    fill-blank start.args.state.now start.args.row start.args.tag start.args.shape start.args.e
-    (ends.ends.ensures.yes (not-false _ if1.if1.false)) Leaves-of.Leaves-of.result Leaves-of.Leaves-of.ensures.0 none-blank.none-blank.result none-blank.none-blank.ensures
+    fill_blank start.args.state.now start.args.row start.args.tag start.args.shape start.args.e
+    (ends.ends.ensures.yes (not-false _ if1.if1.false)) Leaves-of.Leaves-of.result Leaves-of.Leaves-of.ensures.0 none_blank.none_blank.result none_blank.none_blank.ensures
     (not-true _ c.if2.true))
     (λ c κs. search rules)
     (λ c κs. search rules)
@@ -26,23 +26,23 @@ fill_spec = tie.close (tie.spec
     let if3 = c.before.before in
     let fits2 = if3.before in
     let if2 = fits2.before.before in
-    let none-blank = if2.before in
-    let Leaves-of = none-blank.before in
+    let none_blank = if2.before in
+    let Leaves-of = none_blank.before in
     let if1 = Leaves-of.before.before in
     let ends = if1.before in
     let start = ends.before in
-    fill-fits start.args.state.now start.args.row start.args.tag start.args.shape start.args.e
-    (ends.ends.ensures.yes (not-false _ if1.if1.false)) Leaves-of.Leaves-of.result Leaves-of.Leaves-of.ensures.0 none-blank.none-blank.result none-blank.none-blank.ensures
+    fill_fits start.args.state.now start.args.row start.args.tag start.args.shape start.args.e
+    (ends.ends.ensures.yes (not-false _ if1.if1.false)) Leaves-of.Leaves-of.result Leaves-of.Leaves-of.ensures.0 none_blank.none_blank.result none_blank.none_blank.ensures
     start.requires.1 (not-false _ if2.if2.false) fits2.fits2.result fits2.fits2.ensures.1 fits2.fits2.ensures.0 c.put-value.new.0
     if3.if3.true c.put-value.ensures)
     (λ c.
     let fits2 = c.before in
     let if2 = fits2.before.before in
-    let none-blank = if2.before in
-    let Leaves-of = none-blank.before in
+    let none_blank = if2.before in
+    let Leaves-of = none_blank.before in
     let if1 = Leaves-of.before.before in
     let ends = if1.before in
     let start = ends.before in
-    fill-unfit start.args.state.now start.args.row start.args.tag start.args.shape start.args.e
-    (ends.ends.ensures.yes (not-false _ if1.if1.false)) Leaves-of.Leaves-of.result Leaves-of.Leaves-of.ensures.0 none-blank.none-blank.result none-blank.none-blank.ensures
+    fill_unfit start.args.state.now start.args.row start.args.tag start.args.shape start.args.e
+    (ends.ends.ensures.yes (not-false _ if1.if1.false)) Leaves-of.Leaves-of.result Leaves-of.Leaves-of.ensures.0 none_blank.none_blank.result none_blank.none_blank.ensures
     start.requires.1 (not-false _ if2.if2.false) fits2.fits2.result fits2.fits2.ensures.1 fits2.fits2.ensures.0 c.if3.false))

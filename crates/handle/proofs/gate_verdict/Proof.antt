@@ -1,19 +1,19 @@
 -- `handle::gate_verdict` meets its contract, a way by its law. Assumes nothing.
-use Rattle.handle.proofs.Gates.{verdict-other, verdict-below, verdict-spent, verdict-open}
+use Rattle.handle.proofs.Gates.{verdict_other, verdict_below, verdict_spent, verdict_open}
 use Rattle.handle.proofs.gate_verdict.Statement.{statement}
 use Rattle.handle.proofs.gate_verdict.Tie as tie
 
-pub gate-verdict-spec : {M : Type 1} → statement M
-gate-verdict-spec = tie.close (tie.spec
-    (λ c. let s = c.before.args in verdict-other s.role s.own s.touches s.verdict c.if1.true)
-    (λ c. let if1 = c.before in let s = if1.before.args in verdict-below s.role s.own s.touches s.verdict if1.if1.false c.if2.true)
+pub gate_verdict_spec : {M : Type 1} → statement M
+gate_verdict_spec = tie.close (tie.spec
+    (λ c. let s = c.before.args in verdict_other s.role s.own s.touches s.verdict c.if1.true)
+    (λ c. let if1 = c.before in let s = if1.before.args in verdict_below s.role s.own s.touches s.verdict if1.if1.false c.if2.true)
     (λ c.
     let if2 = c.before in
     let if1 = if2.before in
     let s = if1.before.args in
-    verdict-spent s.role s.own s.touches s.verdict if1.if1.false if2.if2.false c.if3.true)
+    verdict_spent s.role s.own s.touches s.verdict if1.if1.false if2.if2.false c.if3.true)
     (λ c.
     let if2 = c.before in
     let if1 = if2.before in
     let s = if1.before.args in
-    verdict-open s.role s.own s.touches s.verdict if1.if1.false if2.if2.false c.if3.false))
+    verdict_open s.role s.own s.touches s.verdict if1.if1.false if2.if2.false c.if3.false))

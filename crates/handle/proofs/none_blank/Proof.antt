@@ -6,7 +6,7 @@ use native.Mathlib.Omega.{arith}
 use lib.ListN.{get_or}
 use borrow.Author.Count.{below_more}
 use borrow.Author.Rules.{rules}
-use Rattle.handle.proofs.Blanks.{some-blank, none-blank}
+use Rattle.handle.proofs.Blanks.{some_blank, none_blank}
 use Rattle.handle.proofs.none_blank.Statement.{statement}
 use Rattle.handle.proofs.none_blank.Tie as tie
 
@@ -16,8 +16,8 @@ invariant-loop n blank k₀ k = (k ≤ n) × ((j : ℕ) → j < k → get_or bla
 abbrev decreases-loop : tie.decreases-loop
 decreases-loop n blank k₀ k = n - k
 
-pub none-blank-spec : {M : Type 1} → statement M
-none-blank-spec = tie.close (tie.spec
+pub none_blank_spec : {M : Type 1} → statement M
+none_blank_spec = tie.close (tie.spec
     invariant-loop
     decreases-loop
     (λ c. (omega arith, (λ j l. absurd (omega arith))))
@@ -26,11 +26,11 @@ none-blank-spec = tie.close (tie.spec
     let test = c.before in
     let loop = test.before in
     let start = loop.before in
-    some-blank start.args.t1 start.args.n loop.loop.k test.loop-test.true c.if1.true)
+    some_blank start.args.t1 start.args.n loop.loop.k test.loop-test.true c.if1.true)
     (λ c. search rules)
     (λ c. search rules)
     (λ c. let loop = c.before.before in (omega arith, below_more _ _ loop.loop.invariant.1 c.if1.false))
     (λ c.
     let loop = c.before in
     let start = loop.before in
-    none-blank start.args.t1 start.args.n loop.loop.k (omega arith) loop.loop.invariant.1))
+    none_blank start.args.t1 start.args.n loop.loop.k (omega arith) loop.loop.invariant.1))

@@ -2,15 +2,15 @@
 use mathlib.Core.Path.{sym, ◌∙◌}
 use native.Mathlib.Omega.{arith}
 use borrow.Author.Rules.{rules}
-use Rattle.handle.proofs.Gates.{pass-other, pass-none, pass-gate}
+use Rattle.handle.proofs.Gates.{pass_other, pass_none, pass_gate_lem}
 use Rattle.handle.proofs.pass.Statement.{statement}
 use Rattle.handle.proofs.pass.Tie as tie
 
 pub pass_spec : {M : Type 1} → statement M
 pass_spec = tie.close (tie.spec
     (λ c κs. (c.requires, omega arith))
-    (λ c. pass-other (λ e. c.if1.true (c.before.get.ensures ∙ e)))
-    (λ c. pass-none c.if2.true)
+    (λ c. pass_other (λ e. c.if1.true (c.before.get.ensures ∙ e)))
+    (λ c. pass_none c.if2.true)
     (λ c κs. search rules)
     (λ c κs. search rules)
     (λ c κs. search rules)
@@ -18,11 +18,11 @@ pass_spec = tie.close (tie.spec
     (λ c κs. search rules)
     (λ c.
     let get2 = c.before in
-    let put-touches = get2.before in
-    let less_one = put-touches.before in
-    let read-touches = less_one.before.before in
-    let if2 = read-touches.before.before in
+    let put_touches = get2.before in
+    let less_one = put_touches.before in
+    let read_touches = less_one.before.before in
+    let if2 = read_touches.before.before in
     let if1 = if2.before in
     let get = if1.before in
-    pass-gate (sym get.get.ensures ∙ if1.if1.false) if2.if2.false get2.get2.ensures read-touches.read-touches.ensures
-    less_one.less_one.ensures put-touches.put-touches.ensures c.gate-verdict.ensures))
+    pass_gate_lem (sym get.get.ensures ∙ if1.if1.false) if2.if2.false get2.get2.ensures read_touches.read-touches.ensures
+    less_one.less_one.ensures put_touches.put-touches.ensures c.gate-verdict.ensures))

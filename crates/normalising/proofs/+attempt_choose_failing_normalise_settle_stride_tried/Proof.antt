@@ -22,36 +22,36 @@ use Rattle.normalising.proofs.tried.Reads as tried
 use Rattle.normalising.proofs.+attempt_choose_failing_normalise_settle_stride_tried.Lts-tried as tried-lts
 use Rattle.normalising.proofs.+attempt_choose_failing_normalise_settle_stride_tried.{statement}
 use Rattle.normalising.proofs.+attempt_choose_failing_normalise_settle_stride_tried.Tie.{close}
-use Rattle.normalising.proofs.+attempt_choose_failing_normalise_settle_stride_tried.Proof.Cycle.{μ-attempt, μ-choose, μ-failing, μ-normalise, μ-settle, μ-stride, μ-tried, attempt-at, choose-at, failing-at, normalise-at, settle-at, stride-at, tried-at, attempt-calls, choose-calls, failing-calls, normalise-calls, settle-calls, stride-calls, tried-calls}
-use Rattle.normalising.proofs.+attempt_choose_failing_normalise_settle_stride_tried.Proof.AttemptAnswers.{attempt-returns, attempt-pushed-requires, attempt-operand-requires, attempt-add-evaluate, attempt-evaluate-requires, attempt-returns-2, attempt-add-failing, attempt-failing-requires, attempt-returns-3, attempt-operand-requires-2, attempt-clear-requires, attempt-put-value-requires, attempt-returns-4}
-use Rattle.normalising.proofs.+attempt_choose_failing_normalise_settle_stride_tried.Proof.ChooseAnswers.{choose-operand-requires, choose-operand-requires-2, choose-stride-requires, choose-value-requires, choose-clear-requires, choose-put-tag-requires, choose-returns, choose-stride-requires-2, choose-value-requires-2, choose-clear-requires-2, choose-put-tag-requires-2, choose-returns-2, choose-returns-3, choose-returns-4}
-use Rattle.normalising.proofs.+attempt_choose_failing_normalise_settle_stride_tried.Proof.FailingAnswers.{failing-handed_on-requires, failing-enclose-requires, failing-operand-requires, failing-failing-requires, failing-returns, failing-get-requires, failing-operand-requires-2, failing-tried-requires, failing-operand-requires-3, failing-tried-requires-2, failing-operand-requires-4, failing-failing-requires-2, failing-operand-requires-5, failing-failing-requires-3, failing-operand-requires-6, failing-failing-requires-4, failing-returns-2, failing-returns-3, failing-returns-4, failing-returns-5, failing-returns-6, failing-returns-7, failing-returns-8, failing-returns-9}
-use Rattle.normalising.proofs.+attempt_choose_failing_normalise_settle_stride_tried.Proof.StrideAnswers.{stride-handed_on-requires, stride-enclose-requires, stride-operand-requires, stride-stride-requires, stride-returns, stride-get-requires, stride-operand-requires-2, stride-stride-requires-2, stride-value-requires, stride-returns-2, stride-attempt-requires, stride-operand-requires-3, stride-stride-requires-3, stride-operand-requires-4, stride-stride-requires-4, stride-operand-requires-5, stride-stride-requires-5, stride-choose-requires, stride-returns-3, stride-returns-4, stride-returns-5, stride-returns-6, stride-returns-7, stride-returns-8, stride-returns-9}
-use Rattle.normalising.proofs.+attempt_choose_failing_normalise_settle_stride_tried.Proof.NormaliseAnswers.{normalise-Inv-loop, normalise-μ-loop, normalise-loop-holds, normalise-stride-requires, normalise-add-strides, normalise-returns, normalise-loop-less, normalise-loop-again, normalise-returns-2, settle-evaluate-requires, settle-returns, settle-normalise-requires, settle-returns-2, settle-failing-requires, settle-returns-3, tried-settle-requires, tried-returns}
+use Rattle.normalising.proofs.+attempt_choose_failing_normalise_settle_stride_tried.Proof.Cycle.{μ_attempt, μ_choose, μ_failing, μ_normalise, μ_settle, μ_stride, μ_tried, attempt_at, choose_at, failing_at, normalise_at, settle_at, stride_at, tried_at, attempt_calls, choose_calls, failing_calls, normalise_calls, settle_calls, stride_calls, tried_calls}
+use Rattle.normalising.proofs.+attempt_choose_failing_normalise_settle_stride_tried.Proof.AttemptAnswers.{attempt_returns, attempt_pushed_requires, attempt_operand_requires, attempt_add_evaluate, attempt_evaluate_requires, attempt_returns_2, attempt_add_failing, attempt_failing_requires, attempt_returns_3, attempt_operand_requires_2, attempt_clear_requires, attempt_put_value_requires, attempt_returns_4}
+use Rattle.normalising.proofs.+attempt_choose_failing_normalise_settle_stride_tried.Proof.ChooseAnswers.{choose_operand_requires, choose_operand_requires_2, choose_stride_requires, choose_value_requires, choose_clear_requires, choose_put_tag_requires, choose_returns, choose_stride_requires_2, choose_value_requires_2, choose_clear_requires_2, choose_put_tag_requires_2, choose_returns_2, choose_returns_3, choose_returns_4}
+use Rattle.normalising.proofs.+attempt_choose_failing_normalise_settle_stride_tried.Proof.FailingAnswers.{failing_handed_on_requires, failing_enclose_requires, failing_operand_requires, failing_failing_requires, failing_returns, failing_get_requires, failing_operand_requires_2, failing_tried_requires, failing_operand_requires_3, failing_tried_requires_2, failing_operand_requires_4, failing_failing_requires_2, failing_operand_requires_5, failing_failing_requires_3, failing_operand_requires_6, failing_failing_requires_4, failing_returns_2, failing_returns_3, failing_returns_4, failing_returns_5, failing_returns_6, failing_returns_7, failing_returns_8, failing_returns_9}
+use Rattle.normalising.proofs.+attempt_choose_failing_normalise_settle_stride_tried.Proof.StrideAnswers.{stride_handed_on_requires, stride_enclose_requires, stride_operand_requires, stride_stride_requires, stride_returns, stride_get_requires, stride_operand_requires_2, stride_stride_requires_2, stride_value_requires, stride_returns_2, stride_attempt_requires, stride_operand_requires_3, stride_stride_requires_3, stride_operand_requires_4, stride_stride_requires_4, stride_operand_requires_5, stride_stride_requires_5, stride_choose_requires, stride_returns_3, stride_returns_4, stride_returns_5, stride_returns_6, stride_returns_7, stride_returns_8, stride_returns_9}
+use Rattle.normalising.proofs.+attempt_choose_failing_normalise_settle_stride_tried.Proof.NormaliseAnswers.{normalise_Inv_loop, normalise_μ_loop, normalise_loop_holds, normalise_stride_requires, normalise_add_strides, normalise_returns, normalise_loop_less, normalise_loop_again, normalise_returns_2, settle_evaluate_requires, settle_returns, settle_normalise_requires, settle_returns_2, settle_failing_requires, settle_returns_3, tried_settle_requires, tried_returns}
 
 pub +attempt-choose-failing-normalise-settle-stride-tried-spec : {M : Type 1} → statement M
 +attempt-choose-failing-normalise-settle-stride-tried-spec =
     close
-    μ-attempt
-    μ-choose
-    μ-failing
-    μ-normalise
-    μ-settle
-    μ-stride
-    μ-tried
-    (λ t. attempt-lts.spec (attempt-calls t) (attempt-at t)
-    attempt.Post (attempt-returns t) (attempt-pushed-requires t) (attempt-operand-requires t) (attempt-add-evaluate t) (attempt-evaluate-requires t) (attempt-returns-2 t) (attempt-add-failing t) (attempt-failing-requires t) (attempt-returns-3 t) (attempt-operand-requires-2 t) (attempt-clear-requires t) (attempt-put-value-requires t) (attempt-returns-4 t))
-    (λ t. choose-lts.spec (choose-calls t) (choose-at t)
-    choose.Post (choose-operand-requires t) (choose-operand-requires-2 t) (choose-stride-requires t) (choose-value-requires t) (choose-clear-requires t) (choose-put-tag-requires t) (choose-returns t) (choose-stride-requires-2 t) (choose-value-requires-2 t) (choose-clear-requires-2 t) (choose-put-tag-requires-2 t) (choose-returns-2 t) (choose-returns-3 t) (choose-returns-4 t))
-    (λ t. failing-lts.spec (failing-calls t) (failing-at t)
-    failing.Post (failing-handed_on-requires t) (failing-enclose-requires t) (failing-operand-requires t) (failing-failing-requires t) (failing-returns t) (failing-get-requires t) (failing-operand-requires-2 t) (failing-tried-requires t) (failing-operand-requires-3 t) (failing-tried-requires-2 t) (failing-operand-requires-4 t) (failing-failing-requires-2 t) (failing-operand-requires-5 t) (failing-failing-requires-3 t) (failing-operand-requires-6 t) (failing-failing-requires-4 t) (failing-returns-2 t) (failing-returns-3 t) (failing-returns-4 t) (failing-returns-5 t) (failing-returns-6 t) (failing-returns-7 t) (failing-returns-8 t) (failing-returns-9 t))
-    (λ t. normalise-lts.spec (normalise-calls t) (normalise-at t)
+    μ_attempt
+    μ_choose
+    μ_failing
+    μ_normalise
+    μ_settle
+    μ_stride
+    μ_tried
+    (λ t. attempt-lts.spec (attempt_calls t) (attempt_at t)
+    attempt.Post (attempt_returns t) (attempt_pushed_requires t) (attempt_operand_requires t) (attempt_add_evaluate t) (attempt_evaluate_requires t) (attempt_returns_2 t) (attempt_add_failing t) (attempt_failing_requires t) (attempt_returns_3 t) (attempt_operand_requires_2 t) (attempt_clear_requires t) (attempt_put_value_requires t) (attempt_returns_4 t))
+    (λ t. choose-lts.spec (choose_calls t) (choose_at t)
+    choose.Post (choose_operand_requires t) (choose_operand_requires_2 t) (choose_stride_requires t) (choose_value_requires t) (choose_clear_requires t) (choose_put_tag_requires t) (choose_returns t) (choose_stride_requires_2 t) (choose_value_requires_2 t) (choose_clear_requires_2 t) (choose_put_tag_requires_2 t) (choose_returns_2 t) (choose_returns_3 t) (choose_returns_4 t))
+    (λ t. failing-lts.spec (failing_calls t) (failing_at t)
+    failing.Post (failing_handed_on_requires t) (failing_enclose_requires t) (failing_operand_requires t) (failing_failing_requires t) (failing_returns t) (failing_get_requires t) (failing_operand_requires_2 t) (failing_tried_requires t) (failing_operand_requires_3 t) (failing_tried_requires_2 t) (failing_operand_requires_4 t) (failing_failing_requires_2 t) (failing_operand_requires_5 t) (failing_failing_requires_3 t) (failing_operand_requires_6 t) (failing_failing_requires_4 t) (failing_returns_2 t) (failing_returns_3 t) (failing_returns_4 t) (failing_returns_5 t) (failing_returns_6 t) (failing_returns_7 t) (failing_returns_8 t) (failing_returns_9 t))
+    (λ t. normalise-lts.spec (normalise_calls t) (normalise_at t)
     normalise.Post
-    normalise-Inv-loop
-    normalise-μ-loop (normalise-loop-holds t) (normalise-stride-requires t) (normalise-add-strides t) (normalise-returns t) (normalise-loop-less t) (normalise-loop-again t) (normalise-returns-2 t))
-    (λ t. settle-lts.spec (settle-calls t) (settle-at t)
-    settle.Post (settle-evaluate-requires t) (settle-returns t) (settle-normalise-requires t) (settle-returns-2 t) (settle-failing-requires t) (settle-returns-3 t))
-    (λ t. stride-lts.spec (stride-calls t) (stride-at t)
-    stride.Post (stride-handed_on-requires t) (stride-enclose-requires t) (stride-operand-requires t) (stride-stride-requires t) (stride-returns t) (stride-get-requires t) (stride-operand-requires-2 t) (stride-stride-requires-2 t) (stride-value-requires t) (stride-returns-2 t) (stride-attempt-requires t) (stride-operand-requires-3 t) (stride-stride-requires-3 t) (stride-operand-requires-4 t) (stride-stride-requires-4 t) (stride-operand-requires-5 t) (stride-stride-requires-5 t) (stride-choose-requires t) (stride-returns-3 t) (stride-returns-4 t) (stride-returns-5 t) (stride-returns-6 t) (stride-returns-7 t) (stride-returns-8 t) (stride-returns-9 t))
-    λ t. tried-lts.spec (tried-calls t) (tried-at t)
-    tried.Post (tried-settle-requires t) (tried-returns t)
+    normalise_Inv_loop
+    normalise_μ_loop (normalise_loop_holds t) (normalise_stride_requires t) (normalise_add_strides t) (normalise_returns t) (normalise_loop_less t) (normalise_loop_again t) (normalise_returns_2 t))
+    (λ t. settle-lts.spec (settle_calls t) (settle_at t)
+    settle.Post (settle_evaluate_requires t) (settle_returns t) (settle_normalise_requires t) (settle_returns_2 t) (settle_failing_requires t) (settle_returns_3 t))
+    (λ t. stride-lts.spec (stride_calls t) (stride_at t)
+    stride.Post (stride_handed_on_requires t) (stride_enclose_requires t) (stride_operand_requires t) (stride_stride_requires t) (stride_returns t) (stride_get_requires t) (stride_operand_requires_2 t) (stride_stride_requires_2 t) (stride_value_requires t) (stride_returns_2 t) (stride_attempt_requires t) (stride_operand_requires_3 t) (stride_stride_requires_3 t) (stride_operand_requires_4 t) (stride_stride_requires_4 t) (stride_operand_requires_5 t) (stride_stride_requires_5 t) (stride_choose_requires t) (stride_returns_3 t) (stride_returns_4 t) (stride_returns_5 t) (stride_returns_6 t) (stride_returns_7 t) (stride_returns_8 t) (stride_returns_9 t))
+    λ t. tried-lts.spec (tried_calls t) (tried_at t)
+    tried.Post (tried_settle_requires t) (tried_returns t)

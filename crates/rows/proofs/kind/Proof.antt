@@ -1,13 +1,13 @@
 -- `kind` meets its contract: the row's first word, or past the last row 0. Assumes nothing.
 use borrow.Author.Rules.{rules}
-use Rattle.rows.proofs.LentLaws.{first_word, word-past}
+use Rattle.rows.proofs.LentLaws.{first_word, word_past}
 use Rattle.rows.proofs.kind.Statement.{statement}
 use Rattle.rows.proofs.kind.Tie as tie
 
-pub kind-spec : {M : Type 1} → statement M
-kind-spec = tie.close (tie.spec
+pub kind_spec : {M : Type 1} → statement M
+kind_spec = tie.close (tie.spec
     (λ c. search rules)
     (λ c. search rules)
     (λ c. search rules)
     (λ c. let s = c.before.before.args in first_word s.rows.now s.row)
-    (λ c. let s = c.before in word-past s.args.rows.now s.args.row 0 s.requires c.if1.false))
+    (λ c. let s = c.before in word_past s.args.rows.now s.args.row 0 s.requires c.if1.false))

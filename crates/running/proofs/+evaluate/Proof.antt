@@ -1,8 +1,8 @@
 -- `running::evaluate` meets its contract, an arm by the law of its kind; its measure is the row, which falls. Assumes nothing.
-use Rattle.running.proofs.Evaluating.{evaluate-content, evaluate-step, evaluate-two, evaluate-true, evaluate-false, evaluate-let, evaluate-gate, evaluate-tag}
-use Rattle.running.proofs.Forms.{contentKinds}
-use Rattle.eval.proofs.Arms.{call-a, call-b, call-c}
-use Rattle.state.proofs.Calls.{low-b, fine-at}
+use Rattle.running.proofs.Evaluating.{evaluate_content, evaluate_step, evaluate_two, evaluate_true, evaluate_false, evaluate_let, evaluate_gate, evaluate_tag}
+use Rattle.running.proofs.Forms.{content_kinds}
+use Rattle.eval.proofs.Arms.{call_a, call_b, call_c}
+use Rattle.state.proofs.Calls.{low_b, fine_at}
 use borrow.Author.Rules.{rules}
 use native.Mathlib.Omega.{arith}
 use mathlib.Core.Path.{sym, ◌∙◌, subst}
@@ -25,74 +25,74 @@ use Rattle.value.proofs.is_true.Reads as is-true-reads
 use Rattle.running.proofs.+evaluate.{statement}
 use Rattle.running.proofs.+evaluate.Tie.{close}
 
-abbrev μ-evaluate : Measures 3 evaluate-kinds.ps ℕ
-μ-evaluate κs a = a.1.1.0
+abbrev μ_evaluate : Measures 3 evaluate-kinds.ps ℕ
+μ_evaluate κs a = a.1.1.0
 
-abbrev evaluate-at : ℕ → In 3 evaluate-kinds.ps
-evaluate-at t = and 3 evaluate-kinds.ps (is 3 evaluate-kinds.ps μ-evaluate t) evaluate.Pre
+abbrev evaluate_at : ℕ → In 3 evaluate-kinds.ps
+evaluate_at t = and 3 evaluate-kinds.ps (is 3 evaluate-kinds.ps μ_evaluate t) evaluate.Pre
 
-abbrev evaluate-below : ℕ → In 3 evaluate-kinds.ps
-evaluate-below t =
-    and 3 evaluate-kinds.ps (falls 3 evaluate-kinds.ps ◌<◌ μ-evaluate t) evaluate.Pre
+abbrev evaluate_below : ℕ → In 3 evaluate-kinds.ps
+evaluate_below t =
+    and 3 evaluate-kinds.ps (falls 3 evaluate-kinds.ps ◌<◌ μ_evaluate t) evaluate.Pre
 
-abbrev evaluate-calls : ℕ → evaluate-lts.Claims
-evaluate-calls t = (get-reads.Asked, get-reads.Learnt, operand-reads.Asked, operand-reads.Learnt, eval-reads.Asked, eval-reads.Learnt, is-true-reads.Asked, is-true-reads.Learnt, evaluate-below t, evaluate.Post, put-tag-reads.Asked, put-tag-reads.Learnt, put-value-reads.Asked, put-value-reads.Learnt, bind-reads.Asked, bind-reads.Learnt, put-touches-reads.Asked, put-touches-reads.Learnt)
+abbrev evaluate_calls : ℕ → evaluate-lts.Claims
+evaluate_calls t = (get-reads.Asked, get-reads.Learnt, operand-reads.Asked, operand-reads.Learnt, eval-reads.Asked, eval-reads.Learnt, is-true-reads.Asked, is-true-reads.Learnt, evaluate_below t, evaluate.Post, put-tag-reads.Asked, put-tag-reads.Learnt, put-value-reads.Asked, put-value-reads.Learnt, bind-reads.Asked, bind-reads.Learnt, put-touches-reads.Asked, put-touches-reads.Learnt)
 
 pub +evaluate-spec : {M : Type 1} → statement M
-+evaluate-spec = close μ-evaluate λ t. evaluate-lts.spec (evaluate-calls t) (evaluate-at t)
++evaluate-spec = close μ_evaluate λ t. evaluate-lts.spec (evaluate_calls t) (evaluate_at t)
     evaluate.Post
     (λ c κs. (c.requires.1.low, omega arith))
     (λ c κs. (c.before.before.before.requires.1.low, omega arith))
     (λ c κs.
-    let match-at = c.before.before in
-    let get = match-at.before in
+    let match_at = c.before.before in
+    let get = match_at.before in
     let start = get.before in
-    (call-a start.requires get.get.result c.operand.result get.get.ensures c.operand.ensures (omega (arith, match-at.match.keys1)) (omega (arith, match-at.match.keys1))).1)
+    (call_a start.requires get.get.result c.operand.result get.get.ensures c.operand.ensures (omega (arith, match_at.match.keys1)) (omega (arith, match_at.match.keys1))).1)
     (λ c κs. search rules)
     (λ c κs.
     let start = c.before.before.before.before.before.before.before.before in
     (start.requires.1.low, omega arith))
     (λ c κs.
-    let match-at = c.before.before.before.before.before.before.before in
-    let get = match-at.before in
+    let match_at = c.before.before.before.before.before.before.before in
+    let get = match_at.before in
     let start = get.before in
-    call-b start.requires get.get.result c.operand2.result get.get.ensures c.operand2.ensures (omega (arith, match-at.match.keys1)))
+    call_b start.requires get.get.result c.operand2.result get.get.ensures c.operand2.ensures (omega (arith, match_at.match.keys1)))
     (λ c κs.
     let start = c.before.before.before.before.before.before.before.before.before.before.before in
     start.requires.1.low)
     (λ c.
-    let put-tag = c.before in
-    let evaluate = put-tag.before.before in
+    let put_tag = c.before in
+    let evaluate = put_tag.before.before in
     let operand2 = evaluate.before in
     let if1 = operand2.before.before in
     let is_true = if1.before in
     let eval = is_true.before in
     let operand = eval.before in
-    let match-at = operand.before.before in
-    let get = match-at.before in
+    let match_at = operand.before.before in
+    let get = match_at.before in
     let start = get.before in
-    evaluate-true start.args.rows.now start.args.row start.args.env.now start.args.depth start.args.state.now
-    eval.eval.new.1.0 evaluate.evaluate.new.1.0 put-tag.put-tag.new.0 eval.eval.result evaluate.evaluate.result is_true.is_true.result
-    is_true.is_true.ensures operand.operand.result operand2.operand2.result (sym get.get.ensures ∙ match-at.match.keys1)
+    evaluate_true start.args.rows.now start.args.row start.args.env.now start.args.depth start.args.state.now
+    eval.eval.new.1.0 evaluate.evaluate.new.1.0 put_tag.put-tag.new.0 eval.eval.result evaluate.evaluate.result is_true.is_true.result
+    is_true.is_true.ensures operand.operand.result operand2.operand2.result (sym get.get.ensures ∙ match_at.match.keys1)
     operand.operand.ensures eval.eval.ensures evaluate.evaluate.ensures if1.if1.true operand2.operand2.ensures
-    put-tag.put-tag.ensures)
+    put_tag.put-tag.ensures)
     (λ c κs.
     let start = c.before.before.before.before.before.before.before.before in
     (start.requires.1.low, omega arith))
     (λ c κs.
-    let match-at = c.before.before.before.before.before.before.before in
-    let get = match-at.before in
+    let match_at = c.before.before.before.before.before.before.before in
+    let get = match_at.before in
     let start = get.before in
-    call-c start.requires get.get.result c.operand3.result get.get.ensures c.operand3.ensures (omega (arith, match-at.match.keys1)) (omega (arith, match-at.match.keys1)))
+    call_c start.requires get.get.result c.operand3.result get.get.ensures c.operand3.ensures (omega (arith, match_at.match.keys1)) (omega (arith, match_at.match.keys1)))
     (λ c κs.
     let start = c.before.before.before.before.before.before.before.before.before.before.before in
     start.requires.1.low)
     (λ c κs. (c.before.before.before.requires.1.low, omega arith))
     (λ c κs.
-    let match-at = c.before.before in
-    let get = match-at.before in
+    let match_at = c.before.before in
+    let get = match_at.before in
     let start = get.before in
-    (call-a start.requires get.get.result c.operand4.result get.get.ensures c.operand4.ensures (omega (arith, match-at.match.keys2)) (omega (arith, match-at.match.keys2))
+    (call_a start.requires get.get.result c.operand4.result get.get.ensures c.operand4.ensures (omega (arith, match_at.match.keys2)) (omega (arith, match_at.match.keys2))
     ).1)
     (λ c κs.
     let start = c.before.before.before.before.before.before in
@@ -106,18 +106,18 @@ pub +evaluate-spec : {M : Type 1} → statement M
     (λ c κs.
     let operand5 = c.before in
     let bind = operand5.before.before in
-    let match-at = bind.before.before.before.before.before.before.before.before.before in
-    let get = match-at.before in
+    let match_at = bind.before.before.before.before.before.before.before.before.before in
+    let get = match_at.before in
     let start = get.before in
-    let h = low-b start.requires.1 get.get.result operand5.operand5.result get.get.ensures operand5.operand5.ensures (omega (arith, match-at.match.keys2)) in
-    (omega (arith, start.requires.0), fine-at start.requires.1 operand5.operand5.result bind.bind.result (omega arith) bind.bind.ensures.room))
+    let h = low_b start.requires.1 get.get.result operand5.operand5.result get.get.ensures operand5.operand5.ensures (omega (arith, match_at.match.keys2)) in
+    (omega (arith, start.requires.0), fine_at start.requires.1 operand5.operand5.result bind.bind.result (omega arith) bind.bind.ensures.room))
     (λ c κs. (c.before.before.before.requires.1.low, omega arith))
     (λ c κs.
-    let match-at = c.before.before in
-    let get = match-at.before in
+    let match_at = c.before.before in
+    let get = match_at.before in
     let start = get.before in
-    (call-a start.requires get.get.result c.operand6.result get.get.ensures c.operand6.ensures (⊎_elim (λ e. omega (arith, e)) (λ e. omega (arith, e)) match-at.match.keys3)
-    (⊎_elim (λ e. omega (arith, e)) (λ e. omega (arith, e)) match-at.match.keys3)).1)
+    (call_a start.requires get.get.result c.operand6.result get.get.ensures c.operand6.ensures (⊎_elim (λ e. omega (arith, e)) (λ e. omega (arith, e)) match_at.match.keys3)
+    (⊎_elim (λ e. omega (arith, e)) (λ e. omega (arith, e)) match_at.match.keys3)).1)
     (λ c κs.
     let start = c.before.before.before.before.before.before in
     start.requires.1.low)
@@ -131,10 +131,10 @@ pub +evaluate-spec : {M : Type 1} → statement M
     let start = c.before.before.before.before.before.before in
     (start.requires.1.low, omega arith))
     (λ c κs.
-    let match-at = c.before.before.before.before.before in
-    let get = match-at.before in
+    let match_at = c.before.before.before.before.before in
+    let get = match_at.before in
     let start = get.before in
-    call-b start.requires get.get.result c.operand7.result get.get.ensures c.operand7.ensures (omega (arith, match-at.match.keys4)))
+    call_b start.requires get.get.result c.operand7.result get.get.ensures c.operand7.ensures (omega (arith, match_at.match.keys4)))
     (λ c κs.
     let start = c.before.before.before.before.before in
     (start.requires.1.low, omega arith))
@@ -142,7 +142,7 @@ pub +evaluate-spec : {M : Type 1} → statement M
     let if2 = c.before.before.before in
     let get = if2.before.before in
     let start = get.before in
-    call-a start.requires get.get.result c.operand8.result get.get.ensures c.operand8.ensures (omega (arith, if2.if2.left)) (omega (arith, c.before.before.if3.true)))
+    call_a start.requires get.get.result c.operand8.result get.get.ensures c.operand8.ensures (omega (arith, if2.if2.left)) (omega (arith, c.before.before.if3.true)))
     (λ c κs.
     let start = c.before.before.before.before.before.before.before.before in
     start.requires.1.low)
@@ -157,14 +157,14 @@ pub +evaluate-spec : {M : Type 1} → statement M
     let if2 = operand9.before.before.before.before in
     let get = if2.before.before in
     let start = get.before in
-    call-a start.requires get.get.result operand9.operand9.result get.get.ensures operand9.operand9.ensures
+    call_a start.requires get.get.result operand9.operand9.result get.get.ensures operand9.operand9.ensures
     (omega (arith, if2.if2.left)) (omega (arith, operand9.before.if5.true)))
     (λ c κs.
     let operand10 = c.before.before.before in
     let if2 = operand10.before.before.before.before.before in
     let get = if2.before.before in
     let start = get.before in
-    call-b start.requires get.get.result operand10.operand10.result get.get.ensures operand10.operand10.ensures
+    call_b start.requires get.get.result operand10.operand10.result get.get.ensures operand10.operand10.ensures
     (omega (arith, if2.if2.left)))
     (λ c κs.
     let start = c.before.before.before.before.before.before.before.before.before.before.before.before.before in
@@ -173,55 +173,55 @@ pub +evaluate-spec : {M : Type 1} → statement M
     let start = c.before.before.before.before in
     start.requires.1.low)
     (λ c.
-    let put-tag2 = c.before in
-    let evaluate2 = put-tag2.before.before in
+    let put_tag2 = c.before in
+    let evaluate2 = put_tag2.before.before in
     let operand3 = evaluate2.before in
     let if1 = operand3.before.before in
     let is_true = if1.before in
     let eval = is_true.before in
     let operand = eval.before in
-    let match-at = operand.before.before in
-    let get = match-at.before in
+    let match_at = operand.before.before in
+    let get = match_at.before in
     let start = get.before in
-    evaluate-false start.args.rows.now start.args.row start.args.env.now start.args.depth start.args.state.now
-    eval.eval.new.1.0 evaluate2.evaluate2.new.1.0 put-tag2.put-tag2.new.0 eval.eval.result evaluate2.evaluate2.result is_true.is_true.result
-    is_true.is_true.ensures operand.operand.result operand3.operand3.result (sym get.get.ensures ∙ match-at.match.keys1)
+    evaluate_false start.args.rows.now start.args.row start.args.env.now start.args.depth start.args.state.now
+    eval.eval.new.1.0 evaluate2.evaluate2.new.1.0 put_tag2.put-tag2.new.0 eval.eval.result evaluate2.evaluate2.result is_true.is_true.result
+    is_true.is_true.ensures operand.operand.result operand3.operand3.result (sym get.get.ensures ∙ match_at.match.keys1)
     operand.operand.ensures eval.eval.ensures evaluate2.evaluate2.ensures if1.if1.false operand3.operand3.ensures
-    put-tag2.put-tag2.ensures)
+    put_tag2.put-tag2.ensures)
     (λ c.
     let evaluate3 = c.before in
     let operand5 = evaluate3.before.before in
     let bind = operand5.before.before in
-    let put-value = bind.before.before.before.before in
-    let eval2 = put-value.before.before in
+    let put_value = bind.before.before.before.before in
+    let eval2 = put_value.before.before in
     let operand4 = eval2.before in
-    let match-at = operand4.before.before in
-    let get = match-at.before in
+    let match_at = operand4.before.before in
+    let get = match_at.before in
     let start = get.before in
-    evaluate-let start.args.rows.now start.args.row start.args.env.now start.args.depth start.args.state.now
-    eval2.eval2.new.1.0 put-value.put-value.new.0 evaluate3.evaluate3.new.1.0 bind.bind.new.1.1.0 bind.bind.result
+    evaluate_let start.args.rows.now start.args.row start.args.env.now start.args.depth start.args.state.now
+    eval2.eval2.new.1.0 put_value.put-value.new.0 evaluate3.evaluate3.new.1.0 bind.bind.new.1.1.0 bind.bind.result
     eval2.eval2.result evaluate3.evaluate3.result operand4.operand4.result operand5.operand5.result operand4.operand4.ensures
-    operand5.operand5.ensures eval2.eval2.ensures put-value.put-value.ensures bind.bind.ensures evaluate3.evaluate3.ensures
-    (sym get.get.ensures ∙ match-at.match.keys2))
+    operand5.operand5.ensures eval2.eval2.ensures put_value.put-value.ensures bind.bind.ensures evaluate3.evaluate3.ensures
+    (sym get.get.ensures ∙ match_at.match.keys2))
     (λ c.
     let eval3 = c.before.before in
     let operand6 = eval3.before in
-    let match-at = operand6.before.before in
-    let get = match-at.before in
+    let match_at = operand6.before.before in
+    let get = match_at.before in
     let start = get.before in
-    evaluate-content start.args.rows.now start.args.row start.args.env.now start.args.depth start.args.state.now
+    evaluate_content start.args.rows.now start.args.row start.args.env.now start.args.depth start.args.state.now
     eval3.eval3.new.1.0 c.put-value2.new.0 operand6.operand6.result eval3.eval3.result operand6.operand6.ensures
-    eval3.eval3.ensures c.put-value2.ensures (subst (OneOf contentKinds) get.get.ensures match-at.match.keys3))
+    eval3.eval3.ensures c.put-value2.ensures (subst (OneOf content_kinds) get.get.ensures match_at.match.keys3))
     (λ c.
     let operand7 = c.before in
-    let put-touches = operand7.before.before in
-    let get2 = put-touches.before in
-    let match-at = get2.before.before in
-    let get = match-at.before in
+    let put_touches = operand7.before.before in
+    let get2 = put_touches.before in
+    let match_at = get2.before.before in
+    let get = match_at.before in
     let start = get.before in
-    evaluate-gate start.args.rows.now start.args.row start.args.env.now start.args.depth start.args.state.now
-    put-touches.put-touches.new.0 c.evaluate4.new.1.0 operand7.operand7.result get2.get2.result c.evaluate4.result operand7.operand7.ensures
-    get2.get2.ensures put-touches.put-touches.ensures c.evaluate4.ensures (sym get.get.ensures ∙ match-at.match.keys4))
+    evaluate_gate start.args.rows.now start.args.row start.args.env.now start.args.depth start.args.state.now
+    put_touches.put-touches.new.0 c.evaluate4.new.1.0 operand7.operand7.result get2.get2.result c.evaluate4.result operand7.operand7.ensures
+    get2.get2.ensures put_touches.put-touches.ensures c.evaluate4.ensures (sym get.get.ensures ∙ match_at.match.keys4))
     (λ c.
     let evaluate5 = c.before.before in
     let operand8 = evaluate5.before in
@@ -229,7 +229,7 @@ pub +evaluate-spec : {M : Type 1} → statement M
     let if2 = if3.before in
     let get = if2.before.before in
     let start = get.before in
-    evaluate-step start.args.rows.now start.args.row start.args.env.now start.args.depth start.args.state.now
+    evaluate_step start.args.rows.now start.args.row start.args.env.now start.args.depth start.args.state.now
     evaluate5.evaluate5.new.1.0 c.put-tag3.new.0 operand8.operand8.result evaluate5.evaluate5.result operand8.operand8.ensures
     evaluate5.evaluate5.ensures c.put-tag3.ensures (omega (arith, get.get.ensures, if2.if2.left))
     (omega (arith, get.get.ensures, if3.if3.true)))
@@ -242,19 +242,19 @@ pub +evaluate-spec : {M : Type 1} → statement M
     let if4 = if5.before in
     let get = if4.before.before.before.before in
     let start = get.before in
-    evaluate-two start.args.rows.now start.args.row start.args.env.now start.args.depth start.args.state.now
+    evaluate_two start.args.rows.now start.args.row start.args.env.now start.args.depth start.args.state.now
     evaluate6.evaluate6.new.1.0 evaluate7.evaluate7.new.1.0 c.put-tag4.new.0 operand9.operand9.result
     operand10.operand10.result evaluate6.evaluate6.result evaluate7.evaluate7.result operand9.operand9.ensures operand10.operand10.ensures evaluate6.evaluate6.ensures
     evaluate7.evaluate7.ensures c.put-tag4.ensures (omega (arith, get.get.ensures, if4.if4.false))
     (omega (arith, get.get.ensures, if5.if5.true)))
     (λ c.
     let if2 = c.before.before in
-    let match-at = if2.before in
-    let get = match-at.before in
+    let match_at = if2.before in
+    let get = match_at.before in
     let start = get.before in
     let k = get.get.ensures in
-    evaluate-tag start.args.rows.now start.args.row start.args.env.now start.args.depth start.args.state.now
-    c.put-tag5.new.0 c.put-tag5.ensures (λ e. match-at.match.rest.0.0.0.1 (k ∙ e)) (λ e. match-at.match.rest.0.0.1 (k ∙ e))
-    (λ e. match-at.match.rest.0.1 (subst (OneOf contentKinds) (sym k) e)) (λ e. match-at.match.rest.1 (k ∙ e))
+    evaluate_tag start.args.rows.now start.args.row start.args.env.now start.args.depth start.args.state.now
+    c.put-tag5.new.0 c.put-tag5.ensures (λ e. match_at.match.rest.0.0.0.1 (k ∙ e)) (λ e. match_at.match.rest.0.0.1 (k ∙ e))
+    (λ e. match_at.match.rest.0.1 (subst (OneOf content_kinds) (sym k) e)) (λ e. match_at.match.rest.1 (k ∙ e))
     (λ p q. ⊎_elim (λ z. omega (arith, k, z.taken)) (⊎_elim (λ z. omega (arith, k, z.1.left)) (λ z. omega (arith, k, z.1.left))) if2.if2.branch)
     (λ p q. ⊎_elim (λ z. omega (arith, k, z.taken)) (⊎_elim (λ z. omega (arith, k, z.2.taken)) (λ z. omega (arith, k, z.3.left))) if2.if2.branch))

@@ -1,11 +1,11 @@
 -- `running::value` meets its contract: at a row that hands on by the law of all such rows, else an arm by the law of its form; its
 -- measure is the row, which falls. Assumes nothing.
-use Rattle.running.proofs.Handing.{low_part, fine-part, value-hands}
-use Rattle.running.proofs.Values.{value-content, value-entered, value-blank, value-shared, value-both, value-first, value-else, value_none}
-use Rattle.running.proofs.Forms.{contentKinds}
-use Rattle.eval.proofs.Arms.{call-a, call-b}
-use Rattle.state.specs.Contracts.{ValueOk}
-use Rattle.state.proofs.Calls.{low-a}
+use Rattle.running.proofs.Handing.{low_part, fine_part, value_hands}
+use Rattle.running.proofs.Values.{value_content, value_entered, value_blank, value_shared, value_both, value_first, value_else, value_none}
+use Rattle.running.proofs.Forms.{content_kinds}
+use Rattle.eval.proofs.Arms.{call_a, call_b}
+use Rattle.state.specs.Ensured.{ValueOk}
+use Rattle.state.proofs.Calls.{low_a}
 use borrow.Author.Rules.{rules}
 use native.Mathlib.Omega.{arith}
 use mathlib.Core.Path.{sym, ◌∙◌, subst}
@@ -27,35 +27,35 @@ use Rattle.value.proofs.none.Reads as none_reads
 use Rattle.running.proofs.+value.{statement}
 use Rattle.running.proofs.+value.Tie.{close}
 
-abbrev μ-value : Measures 2 value-kinds.ps ℕ
-μ-value κs a = a.1.1.0
+abbrev μ_value : Measures 2 value-kinds.ps ℕ
+μ_value κs a = a.1.1.0
 
-abbrev value-at : ℕ → In 2 value-kinds.ps
-value-at t = and 2 value-kinds.ps (is 2 value-kinds.ps μ-value t) value.Pre
+abbrev value_at_lem : ℕ → In 2 value-kinds.ps
+value_at_lem t = and 2 value-kinds.ps (is 2 value-kinds.ps μ_value t) value.Pre
 
-abbrev value-below : ℕ → In 2 value-kinds.ps
-value-below t = and 2 value-kinds.ps (falls 2 value-kinds.ps ◌<◌ μ-value t) value.Pre
+abbrev value_below : ℕ → In 2 value-kinds.ps
+value_below t = and 2 value-kinds.ps (falls 2 value-kinds.ps ◌<◌ μ_value t) value.Pre
 
-abbrev value-calls : ℕ → value-lts.Claims
-value-calls t = (handed_on-reads.Asked, handed_on-reads.Learnt, operand-reads.Asked, operand-reads.Learnt, value-below t, value.Post, get-reads.Asked, get-reads.Learnt, read-value-reads.Asked, read-value-reads.Learnt, some-reads.Asked, some-reads.Learnt, read-reads.Asked, read-reads.Learnt, none_reads.Asked, none_reads.Learnt, both-reads.Asked, both-reads.Learnt)
+abbrev value_calls : ℕ → value-lts.Claims
+value_calls t = (handed_on-reads.Asked, handed_on-reads.Learnt, operand-reads.Asked, operand-reads.Learnt, value_below t, value.Post, get-reads.Asked, get-reads.Learnt, read-value-reads.Asked, read-value-reads.Learnt, some-reads.Asked, some-reads.Learnt, read-reads.Asked, read-reads.Learnt, none_reads.Asked, none_reads.Learnt, both-reads.Asked, both-reads.Learnt)
 
 pub +value-spec : {M : Type 1} → statement M
-+value-spec = close μ-value λ t. value-lts.spec (value-calls t) (value-at t)
++value-spec = close μ_value λ t. value-lts.spec (value_calls t) (value_at_lem t)
     value.Post
     (λ c κs. c.requires.1.low)
     (λ c κs. (c.before.before.requires.1.low, c.before.handed-on.ensures.low))
     (λ c κs.
     let if1 = c.before in
-    let handed-on = if1.before in
-    let start = handed-on.before in
-    let l = low_part start.args.rows.now start.args.row start.requires.1 (handed-on.handed-on.ensures.on if1.if1.true) c.operand.ensures in
-    (omega (arith, start.requires.0), fine-part start.args.rows.now start.args.row start.requires.1 (handed-on.handed-on.ensures.on if1.if1.true) c.operand.ensures start.requires.1.room))
+    let handed_on = if1.before in
+    let start = handed_on.before in
+    let l = low_part start.args.rows.now start.args.row start.requires.1 (handed_on.handed-on.ensures.on if1.if1.true) c.operand.ensures in
+    (omega (arith, start.requires.0), fine_part start.args.rows.now start.args.row start.requires.1 (handed_on.handed-on.ensures.on if1.if1.true) c.operand.ensures start.requires.1.room))
     (λ c.
     let operand = c.before in
     let if1 = operand.before in
-    let handed-on = if1.before in
-    let start = handed-on.before in
-    value-hands start.args.rows.now start.args.state.now start.args.row (handed-on.handed-on.ensures.on if1.if1.true)
+    let handed_on = if1.before in
+    let start = handed_on.before in
+    value_hands start.args.rows.now start.args.state.now start.args.row (handed_on.handed-on.ensures.on if1.if1.true)
     operand.operand.ensures c.value.result c.value.ensures)
     (λ c κs. (c.before.before.requires.1.low, omega arith))
     (λ c κs.
@@ -70,23 +70,23 @@ pub +value-spec : {M : Type 1} → statement M
     start.requires.1.low)
     (λ c κs. search rules)
     (λ c.
-    let read-value2 = c.before in
-    let if2 = read-value2.before in
+    let read_value2 = c.before in
+    let if2 = read_value2.before in
     let read = if2.before in
-    let match-at = read.before in
-    let get = match-at.before in
+    let match_at = read.before in
+    let get = match_at.before in
     let start = get.before.before.before in
     subst (ValueOk start.args.rows.now start.args.state.now start.args.row) (sym c.some2.ensures)
-    (value-entered start.args.rows.now start.args.state.now start.args.row read-value2.read-value2.result (sym get.get.ensures ∙ match-at.match.keys2) (sym read.read.ensures ∙ if2.if2.true) read-value2.read-value2.ensures))
+    (value_entered start.args.rows.now start.args.state.now start.args.row read_value2.read-value2.result (sym get.get.ensures ∙ match_at.match.keys2) (sym read.read.ensures ∙ if2.if2.true) read_value2.read-value2.ensures))
     (λ c κs. search rules)
     (λ c κs.
     let start = c.before.before.before.before in
     (start.requires.1.low, omega arith))
     (λ c κs.
-    let match-at = c.before in
-    let get = match-at.before in
+    let match_at = c.before in
+    let get = match_at.before in
     let start = get.before.before.before in
-    let h = low-a start.requires.1 get.get.result c.operand2.result get.get.ensures c.operand2.ensures (omega (arith, match-at.match.keys3)) (omega (arith, match-at.match.keys3)) in
+    let h = low_a start.requires.1 get.get.result c.operand2.result get.get.ensures c.operand2.ensures (omega (arith, match_at.match.keys3)) (omega (arith, match_at.match.keys3)) in
     let l = start.requires.1.low in
     omega arith)
     (λ c κs. search rules)
@@ -94,100 +94,100 @@ pub +value-spec : {M : Type 1} → statement M
     let start = c.before.before.before.before in
     (start.requires.1.low, omega arith))
     (λ c κs.
-    let match-at = c.before in
-    let get = match-at.before in
+    let match_at = c.before in
+    let get = match_at.before in
     let start = get.before.before.before in
-    call-a start.requires get.get.result c.operand3.result get.get.ensures c.operand3.ensures (omega (arith, match-at.match.keys4)) (omega (arith, match-at.match.keys4)))
+    call_a start.requires get.get.result c.operand3.result get.get.ensures c.operand3.ensures (omega (arith, match_at.match.keys4)) (omega (arith, match_at.match.keys4)))
     (λ c κs.
     let start = c.before.before.before.before.before.before in
     (start.requires.1.low, omega arith))
     (λ c κs.
-    let match-at = c.before.before.before in
-    let get = match-at.before in
+    let match_at = c.before.before.before in
+    let get = match_at.before in
     let start = get.before.before.before in
-    call-b start.requires get.get.result c.operand4.result get.get.ensures c.operand4.ensures (omega (arith, match-at.match.keys4)))
+    call_b start.requires get.get.result c.operand4.result get.get.ensures c.operand4.ensures (omega (arith, match_at.match.keys4)))
     (λ c κs. search rules)
     (λ c κs.
     let start = c.before.before.before.before in
     (start.requires.1.low, omega arith))
     (λ c κs.
-    let match-at = c.before in
-    let get = match-at.before in
+    let match_at = c.before in
+    let get = match_at.before in
     let start = get.before.before.before in
-    call-a start.requires get.get.result c.operand5.result get.get.ensures c.operand5.ensures (omega (arith, match-at.match.keys5)) (omega (arith, match-at.match.keys5)))
+    call_a start.requires get.get.result c.operand5.result get.get.ensures c.operand5.ensures (omega (arith, match_at.match.keys5)) (omega (arith, match_at.match.keys5)))
     (λ c.
     let value4 = c.before in
     let operand5 = value4.before in
-    let match-at = operand5.before in
-    let get = match-at.before in
+    let match_at = operand5.before in
+    let get = match_at.before in
     let if1 = get.before in
-    let handed-on = if1.before in
-    let start = handed-on.before in
-    value-first start.args.rows.now start.args.state.now start.args.row operand5.operand5.result operand5.operand5.ensures
-    (handed-on.handed-on.ensures.none if1.if1.false) (sym get.get.ensures ∙ match-at.match.keys5) value4.value4.result
+    let handed_on = if1.before in
+    let start = handed_on.before in
+    value_first start.args.rows.now start.args.state.now start.args.row operand5.operand5.result operand5.operand5.ensures
+    (handed_on.handed-on.ensures.none if1.if1.false) (sym get.get.ensures ∙ match_at.match.keys5) value4.value4.result
     value4.value4.ensures c.if3.true)
     (λ c κs.
     let start = c.before.before.before.before.before.before.before in
     (start.requires.1.low, omega arith))
     (λ c κs.
-    let match-at = c.before.before.before.before in
-    let get = match-at.before in
+    let match_at = c.before.before.before.before in
+    let get = match_at.before in
     let start = get.before.before.before in
-    call-b start.requires get.get.result c.operand6.result get.get.ensures c.operand6.ensures (omega (arith, match-at.match.keys5)))
+    call_b start.requires get.get.result c.operand6.result get.get.ensures c.operand6.ensures (omega (arith, match_at.match.keys5)))
     (λ c κs. search rules)
     (λ c.
-    let read-value = c.before in
-    let match-at = read-value.before in
-    let get = match-at.before in
+    let read_value = c.before in
+    let match_at = read_value.before in
+    let get = match_at.before in
     let start = get.before.before.before in
     subst (ValueOk start.args.rows.now start.args.state.now start.args.row) (sym c.some.ensures)
-    (value-content start.args.rows.now start.args.state.now start.args.row read-value.read-value.result (subst (OneOf contentKinds) get.get.ensures match-at.match.keys1) read-value.read-value.ensures))
+    (value_content start.args.rows.now start.args.state.now start.args.row read_value.read-value.result (subst (OneOf content_kinds) get.get.ensures match_at.match.keys1) read_value.read-value.ensures))
     (λ c.
     let if2 = c.before in
     let read = if2.before in
-    let match-at = read.before in
-    let get = match-at.before in
+    let match_at = read.before in
+    let get = match_at.before in
     let start = get.before.before.before in
     subst (ValueOk start.args.rows.now start.args.state.now start.args.row) (sym c.none.ensures)
-    (value-blank start.args.rows.now start.args.state.now start.args.row (sym get.get.ensures ∙ match-at.match.keys2) (λ e. if2.if2.false (read.read.ensures ∙ e))))
+    (value_blank start.args.rows.now start.args.state.now start.args.row (sym get.get.ensures ∙ match_at.match.keys2) (λ e. if2.if2.false (read.read.ensures ∙ e))))
     (λ c.
-    let read-value3 = c.before in
-    let operand2 = read-value3.before in
-    let match-at = operand2.before in
-    let get = match-at.before in
+    let read_value3 = c.before in
+    let operand2 = read_value3.before in
+    let match_at = operand2.before in
+    let get = match_at.before in
     let start = get.before.before.before in
     subst (ValueOk start.args.rows.now start.args.state.now start.args.row) (sym c.some3.ensures)
-    (value-shared start.args.rows.now start.args.state.now start.args.row operand2.operand2.result read-value3.read-value3.result (sym get.get.ensures ∙ match-at.match.keys3) operand2.operand2.ensures read-value3.read-value3.ensures))
+    (value_shared start.args.rows.now start.args.state.now start.args.row operand2.operand2.result read_value3.read-value3.result (sym get.get.ensures ∙ match_at.match.keys3) operand2.operand2.ensures read_value3.read-value3.ensures))
     (λ c.
     let value3 = c.before in
     let operand4 = value3.before in
     let value2 = operand4.before in
     let operand3 = value2.before in
-    let match-at = operand3.before in
-    let get = match-at.before in
+    let match_at = operand3.before in
+    let get = match_at.before in
     let start = get.before.before.before in
-    value-both start.args.rows.now start.args.state.now start.args.row operand3.operand3.result operand3.operand3.ensures
+    value_both start.args.rows.now start.args.state.now start.args.row operand3.operand3.result operand3.operand3.ensures
     operand4.operand4.result value2.value2.result value3.value3.result c.both.result
-    (sym get.get.ensures ∙ match-at.match.keys4) operand4.operand4.ensures value2.value2.ensures value3.value3.ensures
+    (sym get.get.ensures ∙ match_at.match.keys4) operand4.operand4.ensures value2.value2.ensures value3.value3.ensures
     c.both.ensures)
     (λ c.
     let operand6 = c.before in
     let if3 = operand6.before in
     let value4 = if3.before in
     let operand5 = value4.before in
-    let match-at = operand5.before in
-    let get = match-at.before in
+    let match_at = operand5.before in
+    let get = match_at.before in
     let if1 = get.before in
-    let handed-on = if1.before in
-    let start = handed-on.before in
-    value-else start.args.rows.now start.args.state.now start.args.row operand5.operand5.result operand5.operand5.ensures
-    (handed-on.handed-on.ensures.none if1.if1.false) (sym get.get.ensures ∙ match-at.match.keys5) value4.value4.result
+    let handed_on = if1.before in
+    let start = handed_on.before in
+    value_else start.args.rows.now start.args.state.now start.args.row operand5.operand5.result operand5.operand5.ensures
+    (handed_on.handed-on.ensures.none if1.if1.false) (sym get.get.ensures ∙ match_at.match.keys5) value4.value4.result
     value4.value4.ensures operand6.operand6.result c.value5.result operand6.operand6.ensures if3.if3.false c.value5.ensures)
     (λ c.
-    let match-at = c.before in
-    let get = match-at.before in
+    let match_at = c.before in
+    let get = match_at.before in
     let if1 = get.before in
-    let handed-on = if1.before in
-    let start = handed-on.before in
+    let handed_on = if1.before in
+    let start = handed_on.before in
     subst (ValueOk start.args.rows.now start.args.state.now start.args.row) (sym c.none2.ensures)
-    (value_none start.args.rows.now start.args.state.now start.args.row (handed-on.handed-on.ensures.none if1.if1.false) (λ e. match-at.match.rest.0.0.0.0.1 (subst (OneOf contentKinds) (sym get.get.ensures) e)) (λ e. match-at.match.rest.0.0.0.1 (get.get.ensures ∙ e)) (λ e. match-at.match.rest.0.0.1 (get.get.ensures ∙ e)) (λ e. match-at.match.rest.0.1 (get.get.ensures ∙ e)) (λ e. match-at.match.rest.1 (get.get.ensures ∙ e))))
+    (value_none start.args.rows.now start.args.state.now start.args.row (handed_on.handed-on.ensures.none if1.if1.false) (λ e. match_at.match.rest.0.0.0.0.1 (subst (OneOf content_kinds) (sym get.get.ensures) e)) (λ e. match_at.match.rest.0.0.0.1 (get.get.ensures ∙ e)) (λ e. match_at.match.rest.0.0.1 (get.get.ensures ∙ e)) (λ e. match_at.match.rest.0.1 (get.get.ensures ∙ e)) (λ e. match_at.match.rest.1 (get.get.ensures ∙ e))))

@@ -1,16 +1,16 @@
 -- `running::bind` meets its contract: no room, or one more binder. Assumes nothing.
-use Rattle.running.proofs.Handed.{bound-push}
+use Rattle.running.proofs.Handed.{bound_push}
 use borrow.Author.Rules.{rules}
 use Rattle.running.proofs.bind.Statement.{statement}
 use Rattle.running.proofs.bind.Tie as tie
 
-pub bind-spec : {M : Type 1} → statement M
-bind-spec = tie.close (tie.spec
+pub bind_spec : {M : Type 1} → statement M
+bind_spec = tie.close (tie.spec
     (λ c. search rules)
     (λ c κs. search rules)
     (λ c κs. search rules)
     (λ c. search rules)
     (λ c.
-    let read-value = c.before in
-    let if1 = read-value.before.before in
-    bound-push if1.if1.false read-value.read-value.ensures c.push.ensures))
+    let read_value = c.before in
+    let if1 = read_value.before.before in
+    bound_push if1.if1.false read_value.read-value.ensures c.push.ensures))

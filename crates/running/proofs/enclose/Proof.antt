@@ -1,30 +1,30 @@
 -- `running::enclose` meets its contract, an arm by its law. Assumes nothing.
-use Rattle.running.proofs.Handed.{under-let, under-step, under_none}
+use Rattle.running.proofs.Handed.{under_let, under_step, under_none}
 use mathlib.Core.Path.{sym, ◌∙◌}
 use native.Mathlib.Omega.{arith}
 use borrow.Author.Rules.{rules}
 use Rattle.running.proofs.enclose.Statement.{statement}
 use Rattle.running.proofs.enclose.Tie as tie
 
-pub enclose-spec : {M : Type 1} → statement M
-enclose-spec = tie.close (tie.spec
+pub enclose_spec : {M : Type 1} → statement M
+enclose_spec = tie.close (tie.spec
     (λ c κs. search rules)
     (λ c κs. search rules)
     (λ c κs. search rules)
     (λ c.
-    let match-at = c.before.before in
-    let get = match-at.before in
-    under-let (sym get.get.ensures ∙ match-at.match.keys1) c.bind.ensures)
+    let match_at = c.before.before in
+    let get = match_at.before in
+    under_let (sym get.get.ensures ∙ match_at.match.keys1) c.bind.ensures)
     (λ c.
     let get = c.before.before.before.before.before in
     let g = get.get.ensures in
-    under-step (omega arith) (omega arith) c.bind2.ensures)
+    under_step (omega arith) (omega arith) c.bind2.ensures)
     (λ c.
-    let match-at = c.before in
-    let get = match-at.before in
+    let match_at = c.before in
+    let get = match_at.before in
     let start = get.before in
     let g = get.get.ensures in
-    under_none start.requires.1 (λ z. match-at.match.rest.1 (g ∙ z)) (λ z y. omega arith))
+    under_none start.requires.1 (λ z. match_at.match.rest.1 (g ∙ z)) (λ z y. omega arith))
     (λ c.
     let get = c.before.before.before in
     let start = get.before in

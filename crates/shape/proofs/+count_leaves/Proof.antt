@@ -1,40 +1,40 @@
-use Rattle.shape.proofs.Laws.{count_none, count-short, count-pair, count-leaf}
+use Rattle.shape.proofs.Laws.{count_none, count_short, count_pair, count_leaf}
 use native.Mathlib.Omega.{arith}
 use borrow.Author.Rules.{rules}
 use Prim.Native.Nat.{ℕ, ◌<◌}
 use borrow.Fn.Kinds.{In}
 use borrow.Fn.PlainCycle.{Measures, is, falls, and}
-use Rattle.shape.proofs.count_leaves.Reads as count-leaves
+use Rattle.shape.proofs.count_leaves.Reads as count_leaves
 use Rattle.shape.proofs.count_leaves.Kinds as count-leaves-kinds
 use Rattle.shape.proofs.+count_leaves.Lts-count_leaves as count-leaves-lts
 use Rattle.shape.proofs.+count_leaves.{statement}
 use Rattle.shape.proofs.+count_leaves.Tie.{close}
 
-abbrev μ-count-leaves : Measures 0 count-leaves-kinds.ps ℕ
-μ-count-leaves κs a = a.1.1.0
+abbrev μ_count_leaves : Measures 0 count-leaves-kinds.ps ℕ
+μ_count_leaves κs a = a.1.1.0
 
-abbrev count-leaves-at : ℕ → In 0 count-leaves-kinds.ps
-count-leaves-at t =
-    and 0 count-leaves-kinds.ps (is 0 count-leaves-kinds.ps μ-count-leaves t) count-leaves.Pre
+abbrev count_leaves_at : ℕ → In 0 count-leaves-kinds.ps
+count_leaves_at t =
+    and 0 count-leaves-kinds.ps (is 0 count-leaves-kinds.ps μ_count_leaves t) count_leaves.Pre
 
-abbrev count-leaves-below : ℕ → In 0 count-leaves-kinds.ps
-count-leaves-below t =
+abbrev count_leaves_below : ℕ → In 0 count-leaves-kinds.ps
+count_leaves_below t =
     and
     0
     count-leaves-kinds.ps
-    (falls 0 count-leaves-kinds.ps ◌<◌ μ-count-leaves t)
-    count-leaves.Pre
+    (falls 0 count-leaves-kinds.ps ◌<◌ μ_count_leaves t)
+    count_leaves.Pre
 
 pub +count-leaves-spec : {M : Type 1} → statement M
-+count-leaves-spec = close μ-count-leaves λ t. count-leaves-lts.spec (
-  count-leaves-below t,
-  count-leaves.Post,
++count-leaves-spec = close μ_count_leaves λ t. count-leaves-lts.spec (
+  count_leaves_below t,
+  count_leaves.Post,
 )
-    (count-leaves-at t)
-    count-leaves.Post
+    (count_leaves_at t)
+    count_leaves.Post
     (λ c. let s = c.before in (count_none s.args.d s.args.k s.args.c c.if1.true, omega arith))
     (λ c. search rules)
-    (λ c. let s = c.before.before in (count-short s.args.d s.args.k s.args.c c.before.if1.false c.if2.true, omega arith))
+    (λ c. let s = c.before.before in (count_short s.args.d s.args.k s.args.c c.before.if1.false c.if2.true, omega arith))
     (λ c. search rules)
     (λ c. search rules)
     (λ c κs. search rules)
@@ -43,7 +43,7 @@ pub +count-leaves-spec : {M : Type 1} → statement M
     let if2 = if3.before in
     let if1 = if2.before in
     let start = if1.before in
-    (count-pair start.args.d start.args.k start.args.c c.count-leaves.result if1.if1.false if2.if2.false if3.if3.true c.count-leaves.ensures.0, omega (arith, c.count-leaves.ensures.1, if2.if2.false)))
+    (count_pair start.args.d start.args.k start.args.c c.count-leaves.result if1.if1.false if2.if2.false if3.if3.true c.count-leaves.ensures.0, omega (arith, c.count-leaves.ensures.1, if2.if2.false)))
     (λ c. search rules)
     (λ c. search rules)
     (λ c κs. search rules)
@@ -53,4 +53,4 @@ pub +count-leaves-spec : {M : Type 1} → statement M
     let if2 = if3.before in
     let if1 = if2.before in
     let start = if1.before in
-    (count-leaf start.args.d start.args.k start.args.c c.count-leaves2.result if1.if1.false if2.if2.false if3.if3.false c.count-leaves2.ensures.0, omega (arith, c.count-leaves2.ensures.1, if2.if2.false)))
+    (count_leaf start.args.d start.args.k start.args.c c.count-leaves2.result if1.if1.false if2.if2.false if3.if3.false c.count-leaves2.ensures.0, omega (arith, c.count-leaves2.ensures.1, if2.if2.false)))

@@ -1,5 +1,5 @@
-use Rattle.shape.proofs.LeafKinds.{store-end, store_pair, store-leaf, room-pair, room-leaf}
-use Rattle.tophat.specs.Syntax.{maxLeaves}
+use Rattle.shape.proofs.LeafKinds.{store_end, store_pair, store_leaf, room_pair, room_leaf}
+use Rattle.tophat.specs.Syntax.{max_leaves}
 use native.Mathlib.Omega.{arith}
 use borrow.Author.Rules.{rules}
 use Prim.Native.Nat.{ℕ, ◌<◌}
@@ -11,35 +11,35 @@ use Rattle.shape.proofs.+store_leaves.Lts-store_leaves as store-leaves-lts
 use Rattle.shape.proofs.+store_leaves.{statement}
 use Rattle.shape.proofs.+store_leaves.Tie.{close}
 
-abbrev μ-store-leaves : Measures 0 store-leaves-kinds.ps ℕ
-μ-store-leaves κs a = a.1.1.1.0
+abbrev μ_store_leaves : Measures 0 store-leaves-kinds.ps ℕ
+μ_store_leaves κs a = a.1.1.1.0
 
-abbrev store-leaves-at : ℕ → In 0 store-leaves-kinds.ps
-store-leaves-at t =
-    and 0 store-leaves-kinds.ps (is 0 store-leaves-kinds.ps μ-store-leaves t) store-leaves.Pre
+abbrev store_leaves_at : ℕ → In 0 store-leaves-kinds.ps
+store_leaves_at t =
+    and 0 store-leaves-kinds.ps (is 0 store-leaves-kinds.ps μ_store_leaves t) store-leaves.Pre
 
-abbrev store-leaves-below : ℕ → In 0 store-leaves-kinds.ps
-store-leaves-below t =
+abbrev store_leaves_below : ℕ → In 0 store-leaves-kinds.ps
+store_leaves_below t =
     and
     0
     store-leaves-kinds.ps
-    (falls 0 store-leaves-kinds.ps ◌<◌ μ-store-leaves t)
+    (falls 0 store-leaves-kinds.ps ◌<◌ μ_store_leaves t)
     store-leaves.Pre
 
 pub +store-leaves-spec : {M : Type 1} → statement M
-+store-leaves-spec = close μ-store-leaves λ t. store-leaves-lts.spec (
-  store-leaves-below t,
++store-leaves-spec = close μ_store_leaves λ t. store-leaves-lts.spec (
+  store_leaves_below t,
   store-leaves.Post,
 )
-    (store-leaves-at t)
+    (store_leaves_at t)
     store-leaves.Post
-    (λ c. let q = c.before.args in store-end q.d q.c q.i q.kinds c.if1.true)
+    (λ c. let q = c.before.args in store_end q.d q.c q.i q.kinds c.if1.true)
     (λ c. search rules)
     (λ c κs.
     let if1 = c.before in
     let start = if1.before in
     let q = start.args in
-    (omega (arith, start.requires.0, if1.if1.false), room-pair q.d q.c q.i q.kinds if1.if1.false maxLeaves c.if2.true start.requires.1))
+    (omega (arith, start.requires.0, if1.if1.false), room_pair q.d q.c q.i q.kinds if1.if1.false max_leaves c.if2.true start.requires.1))
     (λ c.
     let if2 = c.before in
     let if1 = if2.before in
@@ -50,20 +50,20 @@ pub +store-leaves-spec : {M : Type 1} → statement M
     (λ c.
     let s = c.before.before in
     let q = s.args in
-    (room-leaf q.d q.c q.i q.kinds c.before.if1.false maxLeaves c.if2.false s.requires.1).0)
+    (room_leaf q.d q.c q.i q.kinds c.before.if1.false max_leaves c.if2.false s.requires.1).0)
     (λ c.
     let s = c.before.before in
     let q = s.args in
-    omega (arith, (room-leaf q.d q.c q.i q.kinds c.before.if1.false maxLeaves c.if2.false s.requires.1).0))
+    omega (arith, (room_leaf q.d q.c q.i q.kinds c.before.if1.false max_leaves c.if2.false s.requires.1).0))
     (λ c. search rules)
     (λ c κs.
     let if1 = c.before in
     let start = if1.before in
     let q = start.args in
-    (omega (arith, start.requires.0, if1.if1.false), (room-leaf q.d q.c q.i q.kinds if1.if1.false maxLeaves c.if2.false start.requires.1).1))
+    (omega (arith, start.requires.0, if1.if1.false), (room_leaf q.d q.c q.i q.kinds if1.if1.false max_leaves c.if2.false start.requires.1).1))
     (λ c.
     let if2 = c.before in
     let if1 = if2.before in
     let start = if1.before in
     let q = start.args in
-    store-leaf q.d q.c q.i q.kinds if1.if1.false c.store-leaves2.result if2.if2.false c.store-leaves2.ensures)
+    store_leaf q.d q.c q.i q.kinds if1.if1.false c.store-leaves2.result if2.if2.false c.store-leaves2.ensures)

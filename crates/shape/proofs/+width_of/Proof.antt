@@ -1,4 +1,4 @@
-use Rattle.shape.proofs.Laws.{width_one, width-more, width_fits}
+use Rattle.shape.proofs.Laws.{width_one, width_more, width_fits}
 use native.Mathlib.Omega.{arith}
 use borrow.Author.Rules.{rules}
 use Prim.Native.Nat.{ℕ, ◌<◌}
@@ -10,23 +10,23 @@ use Rattle.shape.proofs.+width_of.Lts-width_of as width-of-lts
 use Rattle.shape.proofs.+width_of.{statement}
 use Rattle.shape.proofs.+width_of.Tie.{close}
 
-abbrev μ-width-of : Measures 0 width-of-kinds.ps ℕ
-μ-width-of κs a = a.0
+abbrev μ_width_of : Measures 0 width-of-kinds.ps ℕ
+μ_width_of κs a = a.0
 
-abbrev width-of-at : ℕ → In 0 width-of-kinds.ps
-width-of-at t = and 0 width-of-kinds.ps (is 0 width-of-kinds.ps μ-width-of t) width_of_lem.Pre
+abbrev width_of_at : ℕ → In 0 width-of-kinds.ps
+width_of_at t = and 0 width-of-kinds.ps (is 0 width-of-kinds.ps μ_width_of t) width_of_lem.Pre
 
-abbrev width-of-below : ℕ → In 0 width-of-kinds.ps
-width-of-below t =
-    and 0 width-of-kinds.ps (falls 0 width-of-kinds.ps ◌<◌ μ-width-of t) width_of_lem.Pre
+abbrev width_of_below : ℕ → In 0 width-of-kinds.ps
+width_of_below t =
+    and 0 width-of-kinds.ps (falls 0 width-of-kinds.ps ◌<◌ μ_width_of t) width_of_lem.Pre
 
 pub +width-of-spec : {M : Type 1} → statement M
 +width-of-spec =
     close
-    μ-width-of
+    μ_width_of
     λ t. width-of-lts.spec
-    (width-of-below t, width_of_lem.Post)
-    (width-of-at t)
+    (width_of_below t, width_of_lem.Post)
+    (width_of_at t)
     width_of_lem.Post
     (λ c. (width_one c.before.args.n c.if1.true, omega arith))
     (λ c. search rules)
@@ -35,5 +35,5 @@ pub +width-of-spec : {M : Type 1} → statement M
     let if1 = c.before in
     let start = if1.before in
     omega
-    (arith, width_fits start.args.n start.requires.1, width-more start.args.n c.width_of_lem.result if1.if1.false c.width_of_lem.ensures.0))
-    (λ c. (width-more c.before.before.args.n c.width_of_lem.result c.before.if1.false c.width_of_lem.ensures.0, omega arith))
+    (arith, width_fits start.args.n start.requires.1, width_more start.args.n c.width_of_lem.result if1.if1.false c.width_of_lem.ensures.0))
+    (λ c. (width_more c.before.before.args.n c.width_of_lem.result c.before.if1.false c.width_of_lem.ensures.0, omega arith))

@@ -1,17 +1,17 @@
-use Rattle.shape.proofs.LeafKinds.{kinds-none, kinds-room, kinds-yes}
+use Rattle.shape.proofs.LeafKinds.{kinds_none, kinds_room, kinds_yes}
 use mathlib.Core.Path.{sym, ◌∙◌}
 use native.Mathlib.Omega.{arith}
 use borrow.Author.Rules.{rules}
 use Rattle.shape.proofs.leaf_kinds.Statement.{statement}
 use Rattle.shape.proofs.leaf_kinds.Tie as tie
 
-pub leaf-kinds-spec : {M : Type 1} → statement M
-leaf-kinds-spec = tie.close (tie.spec
+pub leaf_kinds_spec : {M : Type 1} → statement M
+leaf_kinds_spec = tie.close (tie.spec
     (λ c κs. search rules)
-    (λ c. kinds-none c.before.before.args.shape (sym c.before.Leaves-of.ensures.0 ∙ c.if1.true))
-    (λ c κs. omega (arith, kinds-room c.before.before.args.shape (λ e. c.if1.false (c.before.Leaves-of.ensures.0 ∙ e))))
+    (λ c. kinds_none c.before.before.args.shape (sym c.before.Leaves-of.ensures.0 ∙ c.if1.true))
+    (λ c κs. omega (arith, kinds_room c.before.before.args.shape (λ e. c.if1.false (c.before.Leaves-of.ensures.0 ∙ e))))
     (λ c.
     let if1 = c.before in
     let Leaves-of = if1.before in
     let start = Leaves-of.before in
-    c.store-leaves.ensures ∙ kinds-yes start.args.shape (λ e. if1.if1.false (Leaves-of.Leaves-of.ensures.0 ∙ e))))
+    c.store-leaves.ensures ∙ kinds_yes start.args.shape (λ e. if1.if1.false (Leaves-of.Leaves-of.ensures.0 ∙ e))))

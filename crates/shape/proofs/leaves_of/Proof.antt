@@ -1,28 +1,28 @@
-use Rattle.shape.proofs.Laws.{leaves-yes, leaves-over, leaves-wide}
+use Rattle.shape.proofs.Laws.{leaves_yes, leaves_over, leaves_wide}
 use native.Mathlib.Omega.{arith}
 use borrow.Author.Rules.{rules}
 use Rattle.shape.proofs.leaves_of.Statement.{statement}
 use Rattle.shape.proofs.leaves_of.Tie as tie
 
-pub leaves-of-spec : {M : Type 1} → statement M
-leaves-of-spec =
+pub leaves_of_spec : {M : Type 1} → statement M
+leaves_of_spec =
     tie.close (tie.spec
     (λ c κs. search rules)
     (λ c.
-    let count-leaves = c.before in
-    let start = count-leaves.before in
-    (leaves-over start.args.shape count-leaves.count-leaves.result count-leaves.count-leaves.ensures.0 c.if1.true, omega arith))
+    let count_leaves = c.before in
+    let start = count_leaves.before in
+    (leaves_over start.args.shape count_leaves.count-leaves.result count_leaves.count-leaves.ensures.0 c.if1.true, omega arith))
     (λ c κs. search rules)
     (λ c.
     let width_of_lem = c.before in
     let if1 = width_of_lem.before in
-    let count-leaves = if1.before in
-    let start = count-leaves.before in
-    let n = count-leaves.count-leaves in
-    (leaves-yes start.args.shape n.result n.ensures.0 if1.if1.false (omega (arith, c.if2.true, width_of_lem.width_of_lem.ensures.0)), if1.if1.false))
+    let count_leaves = if1.before in
+    let start = count_leaves.before in
+    let n = count_leaves.count-leaves in
+    (leaves_yes start.args.shape n.result n.ensures.0 if1.if1.false (omega (arith, c.if2.true, width_of_lem.width_of_lem.ensures.0)), if1.if1.false))
     (λ c.
     let width_of_lem = c.before in
-    let count-leaves = width_of_lem.before.before in
-    let start = count-leaves.before in
-    let n = count-leaves.count-leaves in
-    (leaves-wide start.args.shape n.result n.ensures.0 (omega (arith, c.if2.false, width_of_lem.width_of_lem.ensures.0)), omega arith)))
+    let count_leaves = width_of_lem.before.before in
+    let start = count_leaves.before in
+    let n = count_leaves.count-leaves in
+    (leaves_wide start.args.shape n.result n.ensures.0 (omega (arith, c.if2.false, width_of_lem.width_of_lem.ensures.0)), omega arith)))

@@ -1,11 +1,11 @@
-use Rattle.shape.proofs.Laws.{pair_left, pair-right, pair-over, pair-yes, pair_fits}
+use Rattle.shape.proofs.Laws.{pair_left, pair_right, pair_over, pair_yes, pair_fits}
 use mathlib.Core.Path.{sym, ◌∙◌}
 use borrow.Author.Rules.{rules}
 use Rattle.shape.proofs.pair_shape.Statement.{statement}
 use Rattle.shape.proofs.pair_shape.Tie as tie
 
-pub pair-shape-spec : {M : Type 1} → statement M
-pair-shape-spec =
+pub pair_shape_spec : {M : Type 1} → statement M
+pair_shape_spec =
     tie.close
     (tie.spec
     (λ c κs. search rules)
@@ -15,42 +15,42 @@ pair-shape-spec =
     pair_left start.args.a start.args.b (sym Leaves-of.Leaves-of.ensures.0 ∙ c.if1.true))
     (λ c κs. search rules)
     (λ c.
-    let leaves-of2 = c.before in
-    let start = leaves-of2.before.before.before in
-    pair-right start.args.a start.args.b (sym leaves-of2.leaves-of2.ensures.0 ∙ c.if2.true))
+    let leaves_of2 = c.before in
+    let start = leaves_of2.before.before.before in
+    pair_right start.args.a start.args.b (sym leaves_of2.leaves-of2.ensures.0 ∙ c.if2.true))
     (λ c. search rules)
     (λ c.
     let if2 = c.before in
-    let leaves-of2 = if2.before in
-    let if1 = leaves-of2.before in
+    let leaves_of2 = if2.before in
+    let if1 = leaves_of2.before in
     let Leaves-of = if1.before in
     let start = Leaves-of.before in
     let m = Leaves-of.Leaves-of in
-    let n = leaves-of2.leaves-of2 in
-    pair-over start.args.a start.args.b m.result n.result m.ensures.0 n.ensures.0 if1.if1.false if2.if2.false
+    let n = leaves_of2.leaves-of2 in
+    pair_over start.args.a start.args.b m.result n.result m.ensures.0 n.ensures.0 if1.if1.false if2.if2.false
     c.if3.true)
     (λ c κs. search rules)
     (λ c κs.
     let if3 = c.before in
     let if2 = if3.before in
-    let leaves-of2 = if2.before in
-    let if1 = leaves-of2.before in
+    let leaves_of2 = if2.before in
+    let if1 = leaves_of2.before in
     let Leaves-of = if1.before in
     let start = Leaves-of.before in
     let m = Leaves-of.Leaves-of in
-    let n = leaves-of2.leaves-of2 in
+    let n = leaves_of2.leaves-of2 in
     pair_fits start.args.a start.args.b m.result n.result m.ensures.0 n.ensures.0 if1.if1.false if2.if2.false
     c.width_of_lem.result c.width_of_lem.ensures.0 if3.if3.false)
     (λ c.
     let width_of_lem = c.before in
     let if3 = width_of_lem.before in
     let if2 = if3.before in
-    let leaves-of2 = if2.before in
-    let if1 = leaves-of2.before in
+    let leaves_of2 = if2.before in
+    let if1 = leaves_of2.before in
     let Leaves-of = if1.before in
     let start = Leaves-of.before in
     let m = Leaves-of.Leaves-of in
-    let n = leaves-of2.leaves-of2 in
+    let n = leaves_of2.leaves-of2 in
     let w = width_of_lem.width_of_lem in
-    c.joined.ensures ∙ pair-yes start.args.a start.args.b m.result n.result m.ensures.0 n.ensures.0 if1.if1.false
+    c.joined.ensures ∙ pair_yes start.args.a start.args.b m.result n.result m.ensures.0 n.ensures.0 if1.if1.false
     if2.if2.false w.result w.ensures.0 if3.if3.false))

@@ -1,19 +1,19 @@
-use Rattle.shape.proofs.Laws.{second-no, second-yes}
+use Rattle.shape.proofs.Laws.{second_no, second_yes}
 use native.Mathlib.Omega.{arith}
 use borrow.Author.Rules.{rules}
 use Rattle.shape.proofs.second_shape.Statement.{statement}
 use Rattle.shape.proofs.second_shape.Tie as tie
 
-pub second-shape-spec : {M : Type 1} → statement M
-second-shape-spec =
+pub second_shape_spec : {M : Type 1} → statement M
+second_shape_spec =
     tie.close (tie.spec
     (λ c κs. search rules)
-    (λ c. second-no c.before.before.args.shape (omega (arith, c.if1.true, c.before.Leaves-of.ensures.0)))
+    (λ c. second_no c.before.before.args.shape (omega (arith, c.if1.true, c.before.Leaves-of.ensures.0)))
     (λ c κs. search rules)
     (λ c. search rules)
     (λ c.
     let if1 = c.before in
     let Leaves-of = if1.before in
     let start = Leaves-of.before in
-    second-yes start.args.shape c.first_width.result (omega (arith, if1.if1.false, Leaves-of.Leaves-of.ensures.0))
+    second_yes start.args.shape c.first_width.result (omega (arith, if1.if1.false, Leaves-of.Leaves-of.ensures.0))
     c.first_width.ensures.0))

@@ -3,7 +3,7 @@ use mathlib.Core.Path.{refl, sym}
 use native.Mathlib.Omega.{arith}
 use borrow.Author.Rules.{rules}
 use lib.ListN.{length}
-use Rattle.sheet.proofs.LoadLaws.{yes, nope, is-sized, answers-1, answers-21, answers-2, own-long, answers-rows, answers-0}
+use Rattle.sheet.proofs.LoadLaws.{yes, nope, is_sized, answers_1, answers_21, answers_2, own_long, answers_rows, answers_0}
 use Rattle.sheet.proofs.load.Statement.{statement}
 use Rattle.sheet.proofs.load.Tie as tie
 use Rattle.sheet.proofs.load.Reads as reads
@@ -17,76 +17,76 @@ returns : tie.Need-returns
 returns c =
     let sized = c.before in
     let start = sized.before.before in
-    answers-1 start.args.sheet.now start.args.rows.now (nope sized.is-sized.ensures c.if1.true)
+    answers_1 start.args.sheet.now start.args.rows.now (nope sized.is_sized.ensures c.if1.true)
 
-returns-2 : tie.Need-returns-2
-returns-2 c =
+returns_2 : tie.Need-returns-2
+returns_2 c =
     let if1 = c.before in
-    let is-sized = if1.before in
-    let start-at = is-sized.before.before in
-    let start = start-at in
-    answers-21 start.args.sheet.now start.args.rows.now (yes is-sized.is-sized.ensures if1.if1.false) c.if2.true
+    let is_sized = if1.before in
+    let start_at = is_sized.before.before in
+    let start = start_at in
+    answers_21 start.args.sheet.now start.args.rows.now (yes is_sized.is_sized.ensures if1.if1.false) c.if2.true
 
-read-lines-requires : tie.Need-read-lines-requires
-read-lines-requires c κs =
+read_lines_requires : tie.Need-read-lines-requires
+read_lines_requires c κs =
     let if1 = c.before.before in
-    let start-at = if1.before in
-    let sized = start-at in
+    let start_at = if1.before in
+    let sized = start_at in
     let start = sized.before.before in
-    let z = is-sized (length start.args.sheet.now) (yes sized.is-sized.ensures if1.if1.false) in
+    let z = is_sized (length start.args.sheet.now) (yes sized.is_sized.ensures if1.if1.false) in
     ((z.few, omega (arith, z.whole)), refl)
 
-returns-3 : tie.Need-returns-3
-returns-3 c =
-    let read-lines = c.before in
-    let start-at = read-lines.before.before in
-    let room = start-at in
+returns_3 : tie.Need-returns-3
+returns_3 c =
+    let read_lines = c.before in
+    let start_at = read_lines.before.before in
+    let room = start_at in
     let left = room.before in
     let sized = left.before in
     let start = sized.before.before in
-    answers-2 start.args.sheet.now start.args.rows.now (yes sized.is-sized.ensures left.if1.false) room.if2.false
-    read-lines.read-lines.new.1.1.0 read-lines.read-lines.result read-lines.read-lines.ensures c.if3.true
+    answers_2 start.args.sheet.now start.args.rows.now (yes sized.is_sized.ensures left.if1.false) room.if2.false
+    read_lines.read-lines.new.1.1.0 read_lines.read-lines.result read_lines.read-lines.ensures c.if3.true
 
-ground-of-rows-requires : tie.Need-ground-of-rows-requires
-ground-of-rows-requires c κs =
+ground_of_rows_requires : tie.Need-ground-of-rows-requires
+ground_of_rows_requires c κs =
     let if1 = c.before.before.before.before.before in
-    let start-at = if1.before in
-    let sized = start-at in
+    let start_at = if1.before in
+    let sized = start_at in
     let start = sized.before.before in
-    let z = is-sized (length start.args.sheet.now) (yes sized.is-sized.ensures if1.if1.false) in
-    (z.some-lines, z.few)
+    let z = is_sized (length start.args.sheet.now) (yes sized.is_sized.ensures if1.if1.false) in
+    (z.some_lines, z.few)
 
-returns-4 : tie.Need-returns-4
-returns-4 c =
-    let ground-of-rows = c.before in
-    let start-at = ground-of-rows.before.before in
-    let scanned = start-at in
+returns_4 : tie.Need-returns-4
+returns_4 c =
+    let ground_of_rows = c.before in
+    let start_at = ground_of_rows.before.before in
+    let scanned = start_at in
     let read = scanned.before in
     let room = read.before.before in
     let left = room.before in
     let sized = left.before in
     let start = sized.before.before in
-    answers-rows start.args.sheet.now start.args.rows.now (yes sized.is-sized.ensures left.if1.false) room.if2.false
+    answers_rows start.args.sheet.now start.args.rows.now (yes sized.is_sized.ensures left.if1.false) room.if2.false
     read.read-lines.new.1.1.0 read.read-lines.result read.read-lines.ensures scanned.if3.false
-    ground-of-rows.ground-of-rows.result ground-of-rows.ground-of-rows.ensures c.if4.true
+    ground_of_rows.ground-of-rows.result ground_of_rows.ground-of-rows.ensures c.if4.true
 
-slice-aggregate-copy-out : tie.Need-slice-aggregate-copy-out
-slice-aggregate-copy-out c =
+slice_aggregate_copy_out : tie.Need-slice-aggregate-copy-out
+slice_aggregate_copy_out c =
     let if3 = c.before.before.before.before in
-    let start-at = if3.before in
-    let read = start-at in
+    let start_at = if3.before in
+    let read = start_at in
     let room = read.before.before in
     let left = room.before in
     let sized = left.before in
     let start = sized.before.before in
     sym
-    (own-long start.args.sheet.now start.args.rows.now (yes sized.is-sized.ensures left.if1.false) room.if2.false read.read-lines.new.1.1.0 read.read-lines.result read.read-lines.ensures if3.if3.false)
+    (own_long start.args.sheet.now start.args.rows.now (yes sized.is_sized.ensures left.if1.false) room.if2.false read.read-lines.new.1.1.0 read.read-lines.result read.read-lines.ensures if3.if3.false)
 
-returns-5 : tie.Need-returns-5
-returns-5 c =
-    let copy-out = c.before in
-    let start-at = copy-out.before.before.before in
-    let accepted = start-at in
+returns_5 : tie.Need-returns-5
+returns_5 c =
+    let copy_out = c.before in
+    let start_at = copy_out.before.before.before in
+    let accepted = start_at in
     let ground = accepted.before in
     let scanned = ground.before.before in
     let read = scanned.before in
@@ -94,10 +94,10 @@ returns-5 c =
     let left = room.before in
     let sized = left.before in
     let start = sized.before.before in
-    answers-0 start.args.sheet.now start.args.rows.now (yes sized.is-sized.ensures left.if1.false) room.if2.false
+    answers_0 start.args.sheet.now start.args.rows.now (yes sized.is_sized.ensures left.if1.false) room.if2.false
     read.read-lines.new.1.1.0 read.read-lines.result read.read-lines.ensures scanned.if3.false ground.ground-of-rows.result
-    copy-out.copy-out.new.1.0 ground.ground-of-rows.ensures accepted.if4.false copy-out.copy-out.ensures
+    copy_out.copy-out.new.1.0 ground.ground-of-rows.ensures accepted.if4.false copy_out.copy-out.ensures
 
 pub load_spec : {M : Type 1} → statement M
-load_spec = tie.close (tie.spec (λ c κs. search rules) returns (λ c. search rules) returns-2 read-lines-requires returns-3 ground-of-rows-requires returns-4
-    slice-aggregate-copy-out (λ c κs. search rules) (λ c. search rules) returns-5)
+load_spec = tie.close (tie.spec (λ c κs. search rules) returns (λ c. search rules) returns_2 read_lines_requires returns_3 ground_of_rows_requires returns_4
+    slice_aggregate_copy_out (λ c κs. search rules) (λ c. search rules) returns_5)

@@ -1,6 +1,6 @@
 use borrow.Author.Rules.{rules}
-use Rattle.state.proofs.Calls.{low-a, low-b, low-c, fine-at}
-use Rattle.state.proofs.Clearing.{clear-fork, clear-if, clear-let, clear-gate, clear-leaf}
+use Rattle.state.proofs.Calls.{low_a, low_b, low_c, fine_at}
+use Rattle.state.proofs.Clearing.{clear_fork, clear_if, clear_let, clear_gate, clear_leaf}
 use native.Mathlib.Omega.{arith}
 use mathlib.Core.Path.{sym, ◌∙◌}
 use mathlib.Core.Logic.{inl, inr, ⊎_elim}
@@ -16,22 +16,22 @@ use Rattle.rows.proofs.operand.Reads as operand-reads
 use Rattle.state.proofs.+clear.{statement}
 use Rattle.state.proofs.+clear.Tie.{close}
 
-abbrev μ-clear : Measures 2 clear-kinds.ps ℕ
-μ-clear κs a = a.1.1.0
+abbrev μ_clear : Measures 2 clear-kinds.ps ℕ
+μ_clear κs a = a.1.1.0
 
 abbrev clear_at : ℕ → In 2 clear-kinds.ps
-clear_at t = and 2 clear-kinds.ps (is 2 clear-kinds.ps μ-clear t) clear.Pre
+clear_at t = and 2 clear-kinds.ps (is 2 clear-kinds.ps μ_clear t) clear.Pre
 
-abbrev clear-below : ℕ → In 2 clear-kinds.ps
-clear-below t = and 2 clear-kinds.ps (falls 2 clear-kinds.ps ◌<◌ μ-clear t) clear.Pre
+abbrev clear_below : ℕ → In 2 clear-kinds.ps
+clear_below t = and 2 clear-kinds.ps (falls 2 clear-kinds.ps ◌<◌ μ_clear t) clear.Pre
 
 pub +clear-spec : {M : Type 1} → statement M
-+clear-spec = close μ-clear λ t. clear-lts.spec (
++clear-spec = close μ_clear λ t. clear-lts.spec (
   get-reads.Asked,
   get-reads.Learnt,
   operand-reads.Asked,
   operand-reads.Learnt,
-  clear-below t,
+  clear_below t,
   clear.Post,
   clear-row-reads.Asked,
   clear-row-reads.Learnt,
@@ -42,19 +42,19 @@ pub +clear-spec : {M : Type 1} → statement M
     (λ c κs. search rules)
     (λ c κs.
     let operand = c.before in
-    let match-at = operand.before in
-    let get = match-at.before in
+    let match_at = operand.before in
+    let get = match_at.before in
     let start = get.before in
-    let h = low-b start.requires.1 get.get.result operand.operand.result get.get.ensures operand.operand.ensures (omega (arith, match-at.match.keys1)) in
-    (omega (arith, start.requires.0), fine-at start.requires.1 _ _ (omega arith) start.requires.1.room))
+    let h = low_b start.requires.1 get.get.result operand.operand.result get.get.ensures operand.operand.ensures (omega (arith, match_at.match.keys1)) in
+    (omega (arith, start.requires.0), fine_at start.requires.1 _ _ (omega arith) start.requires.1.room))
     (λ c κs. search rules)
     (λ c κs.
     let operand2 = c.before in
-    let match-at = operand2.before.before.before.before in
-    let get = match-at.before in
+    let match_at = operand2.before.before.before.before in
+    let get = match_at.before in
     let start = get.before in
-    let h = low-c start.requires.1 get.get.result operand2.operand2.result get.get.ensures operand2.operand2.ensures (omega (arith, match-at.match.keys1)) (omega (arith, match-at.match.keys1)) in
-    (omega (arith, start.requires.0), fine-at start.requires.1 _ _ (omega arith) start.requires.1.room))
+    let h = low_c start.requires.1 get.get.result operand2.operand2.result get.get.ensures operand2.operand2.ensures (omega (arith, match_at.match.keys1)) (omega (arith, match_at.match.keys1)) in
+    (omega (arith, start.requires.0), fine_at start.requires.1 _ _ (omega arith) start.requires.1.room))
     (λ c κs.
     let start = c.before.before.before.before.before.before.before.before.before in
     start.requires.1.low)
@@ -63,58 +63,58 @@ pub +clear-spec : {M : Type 1} → statement M
     let operand2 = clear2.before.before in
     let clear = operand2.before in
     let operand = clear.before.before in
-    let match-at = operand.before in
-    let get = match-at.before in
+    let match_at = operand.before in
+    let get = match_at.before in
     let start = get.before in
-    clear-if start.args.rows.now start.args.row (sym get.get.ensures ∙ match-at.match.keys1) operand.operand.ensures
+    clear_if start.args.rows.now start.args.row (sym get.get.ensures ∙ match_at.match.keys1) operand.operand.ensures
     operand2.operand2.ensures clear.clear.ensures clear2.clear2.ensures c.clear-row.ensures)
     (λ c κs. search rules)
     (λ c κs.
     let operand3 = c.before in
-    let match-at = operand3.before in
-    let get = match-at.before in
+    let match_at = operand3.before in
+    let get = match_at.before in
     let start = get.before in
-    let h = low-b start.requires.1 get.get.result operand3.operand3.result get.get.ensures operand3.operand3.ensures (⊎_elim (λ e. omega (arith, e)) (λ e. omega (arith, e)) match-at.match.keys2) in
-    (omega (arith, start.requires.0), fine-at start.requires.1 _ _ (omega arith) start.requires.1.room))
+    let h = low_b start.requires.1 get.get.result operand3.operand3.result get.get.ensures operand3.operand3.ensures (⊎_elim (λ e. omega (arith, e)) (λ e. omega (arith, e)) match_at.match.keys2) in
+    (omega (arith, start.requires.0), fine_at start.requires.1 _ _ (omega arith) start.requires.1.room))
     (λ c κs.
     let start = c.before.before.before.before.before.before in
     start.requires.1.low)
     (λ c.
     let clear3 = c.before.before in
     let operand3 = clear3.before.before in
-    let match-at = operand3.before in
-    let get = match-at.before in
+    let match_at = operand3.before in
+    let get = match_at.before in
     let start = get.before in
     let rs = start.args.rows.now in
     let i = start.args.row in
     let q = sym get.get.ensures in
     ⊎_elim
-    (λ e. clear-let rs i (q ∙ e) operand3.operand3.ensures clear3.clear3.ensures c.clear-row2.ensures)
-    (λ e. clear-gate rs i (q ∙ e) operand3.operand3.ensures clear3.clear3.ensures c.clear-row2.ensures)
-    match-at.match.keys2)
+    (λ e. clear_let rs i (q ∙ e) operand3.operand3.ensures clear3.clear3.ensures c.clear-row2.ensures)
+    (λ e. clear_gate rs i (q ∙ e) operand3.operand3.ensures clear3.clear3.ensures c.clear-row2.ensures)
+    match_at.match.keys2)
     (λ c κs. c.before.before.before.requires.1.low)
     (λ c.
-    let match-at = c.before.before in
-    let get = match-at.before in
+    let match_at = c.before.before in
+    let get = match_at.before in
     let start = get.before in
-    let e = sym get.get.ensures ∙ match-at.match.keys3 in
-    clear-leaf start.args.rows.now start.args.row (λ z. omega arith) (λ z. omega arith) (λ z. omega arith) (λ x y z. z e) c.clear-row3.ensures)
+    let e = sym get.get.ensures ∙ match_at.match.keys3 in
+    clear_leaf start.args.rows.now start.args.row (λ z. omega arith) (λ z. omega arith) (λ z. omega arith) (λ x y z. z e) c.clear-row3.ensures)
     (λ c κs. search rules)
     (λ c κs.
     let operand4 = c.before in
     let if1 = operand4.before.before in
     let get = if1.before.before in
     let start = get.before in
-    let h = low-a start.requires.1 get.get.result operand4.operand4.result get.get.ensures operand4.operand4.ensures (omega (arith, if1.if1.left)) (omega (arith, operand4.before.if2.true)) in
-    (omega (arith, start.requires.0), fine-at start.requires.1 _ _ (omega arith) start.requires.1.room))
+    let h = low_a start.requires.1 get.get.result operand4.operand4.result get.get.ensures operand4.operand4.ensures (omega (arith, if1.if1.left)) (omega (arith, operand4.before.if2.true)) in
+    (omega (arith, start.requires.0), fine_at start.requires.1 _ _ (omega arith) start.requires.1.room))
     (λ c κs. search rules)
     (λ c κs.
     let operand5 = c.before in
     let if1 = operand5.before.before.before.before.before in
     let get = if1.before.before in
     let start = get.before in
-    let h = low-b start.requires.1 get.get.result operand5.operand5.result get.get.ensures operand5.operand5.ensures (omega (arith, if1.if1.left)) in
-    (omega (arith, start.requires.0), fine-at start.requires.1 _ _ (omega arith) start.requires.1.room))
+    let h = low_b start.requires.1 get.get.result operand5.operand5.result get.get.ensures operand5.operand5.ensures (omega (arith, if1.if1.left)) in
+    (omega (arith, start.requires.0), fine_at start.requires.1 _ _ (omega arith) start.requires.1.room))
     (λ c κs.
     let start = c.before.before.before.before.before.before.before.before.before.before.before in
     start.requires.1.low)
@@ -125,21 +125,21 @@ pub +clear-spec : {M : Type 1} → statement M
     let operand4 = clear4.before.before in
     let if2 = operand4.before in
     let if1 = if2.before in
-    let match-at = if1.before in
-    let get = match-at.before in
+    let match_at = if1.before in
+    let get = match_at.before in
     let start = get.before in
-    clear-fork start.args.rows.now start.args.row get.get.result get.get.ensures if1.if1.left (omega (arith, if2.if2.true))
-    (λ e. match-at.match.rest.1 e) operand4.operand4.ensures operand5.operand5.ensures clear4.clear4.ensures clear5.clear5.ensures
+    clear_fork start.args.rows.now start.args.row get.get.result get.get.ensures if1.if1.left (omega (arith, if2.if2.true))
+    (λ e. match_at.match.rest.1 e) operand4.operand4.ensures operand5.operand5.ensures clear4.clear4.ensures clear5.clear5.ensures
     c.clear-row4.ensures)
     (λ c κs.
     let start = c.before.before.before.before in
     start.requires.1.low)
     (λ c.
     let if1 = c.before.before in
-    let match-at = if1.before in
-    let get = match-at.before in
+    let match_at = if1.before in
+    let get = match_at.before in
     let start = get.before in
-    clear-leaf start.args.rows.now start.args.row (λ e. match-at.match.rest.0.0.1 (get.get.ensures ∙ e))
-    (λ e. match-at.match.rest.0.1 (inl (get.get.ensures ∙ e)))
-    (λ e. match-at.match.rest.0.1 (inr (get.get.ensures ∙ e)))
+    clear_leaf start.args.rows.now start.args.row (λ e. match_at.match.rest.0.0.1 (get.get.ensures ∙ e))
+    (λ e. match_at.match.rest.0.1 (inl (get.get.ensures ∙ e)))
+    (λ e. match_at.match.rest.0.1 (inr (get.get.ensures ∙ e)))
     (λ x y z. ⊎_elim (λ a. omega (arith, get.get.ensures)) (λ a. omega (arith, get.get.ensures)) if1.if1.branch) c.clear-row5.ensures)

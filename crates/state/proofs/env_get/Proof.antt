@@ -5,24 +5,24 @@ use native.Mathlib.Omega.{arith}
 use lib.ListN.{length, length-set}
 use borrow.Author.Rules.{rules}
 use Rattle.word.proofs.Tabulate.{FilledTo, filled_more}
-use Rattle.tophat.specs.Syntax.{maxLeaves}
+use Rattle.tophat.specs.Syntax.{max_leaves}
 use Rattle.state.specs.Holds.{slot}
-use Rattle.state.proofs.Words.{value-filled}
-use Rattle.state.proofs.Binders.{binder-in, binder-out}
+use Rattle.state.proofs.Words.{value_filled}
+use Rattle.state.proofs.Binders.{binder_in, binder_out}
 use Rattle.state.proofs.env_get.Statement.{statement}
 use Rattle.state.proofs.env_get.Tie as tie
 
 abbrev invariant-loop : tie.invariant-loop
-invariant-loop env depth k inward shape leaves₀ i₀ leaves i = (i ≤ maxLeaves) × (length leaves ≡ maxLeaves) × FilledTo (λ j. slot env inward (1 + j)) 0 i leaves
+invariant-loop env depth k inward shape leaves₀ i₀ leaves i = (i ≤ max_leaves) × (length leaves ≡ max_leaves) × FilledTo (λ j. slot env inward (1 + j)) 0 i leaves
 
 abbrev decreases-loop : tie.decreases-loop
-decreases-loop env depth k inward shape leaves₀ i₀ leaves i = maxLeaves - i
+decreases-loop env depth k inward shape leaves₀ i₀ leaves i = max_leaves - i
 
-pub env-get-spec : {M : Type 1} → statement M
-env-get-spec = tie.close (tie.spec
+pub env_get_spec : {M : Type 1} → statement M
+env_get_spec = tie.close (tie.spec
     invariant-loop
     decreases-loop
-    (λ c. let a = c.before.args in binder-out a.env.now a.depth a.k c.if1.true)
+    (λ c. let a = c.before.args in binder_out a.env.now a.depth a.k c.if1.true)
     (λ c. search rules) (λ c. search rules) (λ c κs. search rules)
     (λ c. search rules)
     (λ c. search rules) (λ c κs. search rules) (λ c. search rules) (λ c. search rules) (λ c. search rules) (λ c. search rules)
@@ -35,12 +35,12 @@ env-get-spec = tie.close (tie.spec
     (omega arith, length-set l.leaves l.i x ∙ l.invariant.1, filled_more (λ j. slot a.env.now (a.depth - 1 - a.k) (1 + j)) 0 l.leaves l.i x (omega arith) c.read-slot2.ensures l.invariant.2))
     (λ c.
     let loop = c.before in
-    let read-slot = loop.before in
-    let if1 = read-slot.before in
+    let read_slot = loop.before in
+    let if1 = read_slot.before in
     let start = if1.before in
     let l = loop.loop in
-    let r = read-slot.read-slot in
+    let r = read_slot.read-slot in
     let a = start.args in
     let n = a.depth - 1 - a.k in
-    binder-in a.env.now a.depth a.k n _ refl if1.if1.false
-    (value-filled (slot a.env.now n) (λ j. slot a.env.now n (1 + j)) r.result l.i l.leaves r.ensures (λ i. ap (slot a.env.now n) (omega arith)) l.invariant.1 c.loop-test.false l.invariant.2)))
+    binder_in a.env.now a.depth a.k n _ refl if1.if1.false
+    (value_filled (slot a.env.now n) (λ j. slot a.env.now n (1 + j)) r.result l.i l.leaves r.ensures (λ i. ap (slot a.env.now n) (omega arith)) l.invariant.1 c.loop-test.false l.invariant.2)))

@@ -2,14 +2,14 @@
 use mathlib.Core.Path.{refl}
 use native.Mathlib.Omega.{arith}
 use borrow.Author.Rules.{rules}
-use Rattle.shape.specs.Shape.{asShape, put}
+use Rattle.shape.specs.Shape.{as_shape, put}
 use Rattle.state.proofs.Words.{put_is, laid_more}
 use Rattle.state.proofs.put_touches.Statement.{statement}
 use Rattle.state.proofs.put_touches.Tie as tie
 
-pub put-touches-spec : {M : Type 1} → statement M
-unfolding asShape put
-put-touches-spec = tie.close (tie.spec
+pub put_touches_spec : {M : Type 1} → statement M
+unfolding as_shape put
+put_touches_spec = tie.close (tie.spec
     (λ c κs. search rules) (λ c κs. search rules) (λ c κs. search rules)
     (λ c.
     let shape = c.before.before in

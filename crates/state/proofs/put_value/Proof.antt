@@ -5,19 +5,19 @@ use Prim.Native.Nat.{◌-◌, ◌≤◌}
 use native.Mathlib.Omega.{arith}
 use lib.ListN.{length}
 use borrow.Author.Rules.{rules}
-use Rattle.tophat.specs.Syntax.{maxLeaves}
-use Rattle.state.proofs.Words.{put_is, laid_more, LeavesTo, leaves_none, leaves-more, leaves_all}
+use Rattle.tophat.specs.Syntax.{max_leaves}
+use Rattle.state.proofs.Words.{put_is, laid_more, LeavesTo, leaves_none, leaves_more, leaves_all}
 use Rattle.state.proofs.put_value.Statement.{statement}
 use Rattle.state.proofs.put_value.Tie as tie
 
 abbrev invariant-loop : tie.invariant-loop
-invariant-loop state₀ row tag leaves k₀ state k = (k ≤ maxLeaves) × LeavesTo state₀ state row 2 leaves k
+invariant-loop state₀ row tag leaves k₀ state k = (k ≤ max_leaves) × LeavesTo state₀ state row 2 leaves k
 
 abbrev decreases-loop : tie.decreases-loop
-decreases-loop state₀ row tag leaves k₀ state k = maxLeaves - k
+decreases-loop state₀ row tag leaves k₀ state k = max_leaves - k
 
-pub put-value-spec : {M : Type 1} → statement M
-put-value-spec = tie.close (tie.spec
+pub put_value_spec : {M : Type 1} → statement M
+put_value_spec = tie.close (tie.spec
     invariant-loop
     decreases-loop
     (λ c κs. search rules) (λ c κs. search rules)
@@ -26,11 +26,11 @@ put-value-spec = tie.close (tie.spec
     (λ c.
     let l = c.before.before.before.loop in
     let s = c.before.before.before.before.before.before.before.before.before in
-    (omega arith, leaves-more s.args.v.leaves l.k (let e : length s.args.v.leaves ≡ maxLeaves = search rules in omega (arith, c.before.before.loop-test.true)) (put_is (omega arith) c.put2.ensures.0 c.put2.ensures.1) l.invariant.1))
+    (omega arith, leaves_more s.args.v.leaves l.k (let e : length s.args.v.leaves ≡ max_leaves = search rules in omega (arith, c.before.before.loop-test.true)) (put_is (omega arith) c.put2.ensures.0 c.put2.ensures.1) l.invariant.1))
     (λ c.
     let l = c.before.loop in
     let s = c.before.before.before.before.before.before.before in
     let a = s.args in
-    let e : length a.v.leaves ≡ maxLeaves = search rules in
+    let e : length a.v.leaves ≡ max_leaves = search rules in
     leaves_all a.v.leaves l.k (omega (arith, c.loop-test.false)) l.invariant.1 a.state.now (a.tag ∷ a.v.shape ∷ []) refl
     (laid_more refl (put_is (omega arith) c.before.before.put.ensures.0 c.before.before.put.ensures.1) c.before.before.before.before.put-tag.ensures)))

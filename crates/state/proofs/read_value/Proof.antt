@@ -5,20 +5,20 @@ use native.Mathlib.Omega.{arith}
 use lib.ListN.{length, length-set}
 use borrow.Author.Rules.{rules}
 use Rattle.word.proofs.Tabulate.{FilledTo, filled_more}
-use Rattle.tophat.specs.Syntax.{maxLeaves}
+use Rattle.tophat.specs.Syntax.{max_leaves}
 use Rattle.state.specs.Layout.{at}
-use Rattle.state.proofs.Words.{value-filled}
+use Rattle.state.proofs.Words.{value_filled}
 use Rattle.state.proofs.read_value.Statement.{statement}
 use Rattle.state.proofs.read_value.Tie as tie
 
 abbrev invariant-loop : tie.invariant-loop
-invariant-loop state row shape leaves₀ i₀ leaves i = (i ≤ maxLeaves) × (length leaves ≡ maxLeaves) × FilledTo (λ j. at state row (2 + j)) 0 i leaves
+invariant-loop state row shape leaves₀ i₀ leaves i = (i ≤ max_leaves) × (length leaves ≡ max_leaves) × FilledTo (λ j. at state row (2 + j)) 0 i leaves
 
 abbrev decreases-loop : tie.decreases-loop
-decreases-loop state row shape leaves₀ i₀ leaves i = maxLeaves - i
+decreases-loop state row shape leaves₀ i₀ leaves i = max_leaves - i
 
-pub read-value-spec : {M : Type 1} → statement M
-read-value-spec = tie.close (tie.spec
+pub read_value_spec : {M : Type 1} → statement M
+read_value_spec = tie.close (tie.spec
     invariant-loop
     decreases-loop
     (λ c κs. search rules)
@@ -37,5 +37,5 @@ read-value-spec = tie.close (tie.spec
     let start = read.before in
     let l = loop.loop in
     let a = start.args in
-    value-filled (λ m. at a.state.now a.row (suc m)) (λ j. at a.state.now a.row (2 + j)) read.read.result l.i l.leaves
+    value_filled (λ m. at a.state.now a.row (suc m)) (λ j. at a.state.now a.row (2 + j)) read.read.result l.i l.leaves
     read.read.ensures (λ i. ap (at a.state.now a.row) (omega arith)) l.invariant.1 c.loop-test.false l.invariant.2))

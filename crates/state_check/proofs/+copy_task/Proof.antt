@@ -1,13 +1,13 @@
 -- `state_check::copy_task` meets its contract, an arm by the law of its part; its measure is the row, which falls. Assumes nothing.
 use native.Mathlib.Omega.{arith}
 use borrow.Author.Rules.{rules}
-use Rattle.state.proofs.Calls.{fine-at}
-use Rattle.state_check.proofs.PartLaws.{call-lower, lower-as}
-use Rattle.state_check.proofs.Copying.{copy-bad, copy-alone, copy-filled, copy-below, copy-bound, copy-deep, copy-unbound, copy-two, copy-first, copy-gate, copy-ungated}
+use Rattle.state.proofs.Calls.{fine_at}
+use Rattle.state_check.proofs.PartLaws.{call_lower, lower_as}
+use Rattle.state_check.proofs.Copying.{copy_bad, copy_alone, copy_filled, copy_below, copy_bound, copy_deep, copy_unbound, copy_two, copy_first, copy_gate, copy_ungated}
 use Prim.Native.Nat.{ℕ, ◌+◌, ◌<◌}
 use borrow.Fn.Kinds.{In}
 use borrow.Fn.PlainCycle.{Measures, is, falls, and}
-use Rattle.state_check.proofs.copy_task.Reads as copy-task
+use Rattle.state_check.proofs.copy_task.Reads as copy_task
 use Rattle.state_check.proofs.copy_task.Kinds as copy-task-kinds
 use Rattle.state_check.proofs.+copy_task.Lts-copy_task as copy-task-lts
 use Rattle.state_check.proofs.copy_touches.Reads as copy-touches-reads
@@ -20,18 +20,18 @@ use Rattle.typing.proofs.row_type.Reads as row-type-reads
 use Rattle.state_check.proofs.+copy_task.{statement}
 use Rattle.state_check.proofs.+copy_task.Tie.{close}
 
-abbrev μ-copy-task : Measures 3 copy-task-kinds.ps ℕ
-μ-copy-task κs a = a.1.1.1.0
+abbrev μ_copy_task : Measures 3 copy-task-kinds.ps ℕ
+μ_copy_task κs a = a.1.1.1.0
 
-abbrev copy-task-at : ℕ → In 3 copy-task-kinds.ps
-copy-task-at t = and 3 copy-task-kinds.ps (is 3 copy-task-kinds.ps μ-copy-task t) copy-task.Pre
+abbrev copy_task_at : ℕ → In 3 copy-task-kinds.ps
+copy_task_at t = and 3 copy-task-kinds.ps (is 3 copy-task-kinds.ps μ_copy_task t) copy_task.Pre
 
-abbrev copy-task-below : ℕ → In 3 copy-task-kinds.ps
-copy-task-below t =
-    and 3 copy-task-kinds.ps (falls 3 copy-task-kinds.ps ◌<◌ μ-copy-task t) copy-task.Pre
+abbrev copy_task_below : ℕ → In 3 copy-task-kinds.ps
+copy_task_below t =
+    and 3 copy-task-kinds.ps (falls 3 copy-task-kinds.ps ◌<◌ μ_copy_task t) copy_task.Pre
 
 pub +copy-task-spec : {M : Type 1} → statement M
-+copy-task-spec = close μ-copy-task λ t. copy-task-lts.spec (
++copy-task-spec = close μ_copy_task λ t. copy-task-lts.spec (
   read-reads.Asked,
   read-reads.Learnt,
   part-at-reads.Asked,
@@ -42,17 +42,17 @@ pub +copy-task-spec : {M : Type 1} → statement M
   row-type-reads.Learnt,
   copy-value-reads.Asked,
   copy-value-reads.Learnt,
-  copy-task-below t,
-  copy-task.Post,
+  copy_task_below t,
+  copy_task.Post,
   bound-reads.Asked,
   bound-reads.Learnt,
   copy-touches-reads.Asked,
   copy-touches-reads.Learnt,
 )
-    (copy-task-at t)
-    copy-task.Post
+    (copy_task_at t)
+    copy_task.Post
     (λ c κs. (c.requires.1.low, omega arith))
-    (λ c κs. let s = c.before in fine-at s.requires.1 s.args.row 0 (omega arith) (omega arith))
+    (λ c κs. let s = c.before in fine_at s.requires.1 s.args.row 0 (omega arith) (omega arith))
     (λ c. search rules)
     (λ c. search rules)
     (λ c κs.
@@ -63,7 +63,7 @@ pub +copy-task-spec : {M : Type 1} → statement M
     let part = c.before in
     let part_at = part.before.before in
     let start = part_at.before.before in
-    let h = lower-as start.args.row part_at.part_at.ensures.1 part.part.given.1 in
+    let h = lower_as start.args.row part_at.part_at.ensures.1 part.part.given.1 in
     let m = start.requires.1.low in
     omega arith)
     (λ c κs.
@@ -77,14 +77,14 @@ pub +copy-task-spec : {M : Type 1} → statement M
     let part2 = c.before.before.before.before in
     let part_at = part2.before.before in
     let start = part_at.before.before in
-    call-lower start.requires part2.part2.given.0.0 start.args.depth
-    (lower-as start.args.row part_at.part_at.ensures.1 part2.part2.given.1) start.requires.1.room)
+    call_lower start.requires part2.part2.given.0.0 start.args.depth
+    (lower_as start.args.row part_at.part_at.ensures.1 part2.part2.given.1) start.requires.1.room)
     (λ c. search rules)
     (λ c κs.
     let part3 = c.before in
     let part_at = part3.before.before in
     let start = part_at.before.before in
-    let h = (lower-as start.args.row part_at.part_at.ensures.1 part3.part3.given.1).0 in
+    let h = (lower_as start.args.row part_at.part_at.ensures.1 part3.part3.given.1).0 in
     let m = start.requires.1.low in
     omega arith)
     (λ c κs.
@@ -98,30 +98,30 @@ pub +copy-task-spec : {M : Type 1} → statement M
     let part_at = part3.before.before in
     let start = part_at.before.before in
     let m = if2.if2.true in
-    call-lower start.requires part3.part3.given.0.1.0 (start.args.depth + 1)
-    (lower-as start.args.row part_at.part_at.ensures.1 part3.part3.given.1).1 (omega arith))
+    call_lower start.requires part3.part3.given.0.1.0 (start.args.depth + 1)
+    (lower_as start.args.row part_at.part_at.ensures.1 part3.part3.given.1).1 (omega arith))
     (λ c.
     let bound = c.before.before in
     let if1 = bound.before.before in
-    let copy-value2 = if1.before in
-    let row-type2 = copy-value2.before.before in
-    let part3 = row-type2.before.before in
+    let copy_value2 = if1.before in
+    let row_type2 = copy_value2.before.before in
+    let part3 = row_type2.before.before in
     let part_at = part3.before.before in
     let read = part_at.before in
     let start = read.before in
-    copy-bound start.args.rows.now start.args.state.now start.args.work.now start.args.row start.args.env start.args.depth
+    copy_bound start.args.rows.now start.args.state.now start.args.work.now start.args.row start.args.env start.args.depth
     read.read.result part_at.part_at.result read.read.ensures part_at.part_at.ensures.0 part3.part3.given.1
-    row-type2.row-type2.ensures copy-value2.copy-value2.ensures if1.if1.true bound.bound.ensures c.copy-task2.ensures)
+    row_type2.row-type2.ensures copy_value2.copy-value2.ensures if1.if1.true bound.bound.ensures c.copy-task2.ensures)
     (λ c.
-    let copy-value2 = c.before.before in
-    let row-type2 = copy-value2.before.before in
-    let part3 = row-type2.before.before in
+    let copy_value2 = c.before.before in
+    let row_type2 = copy_value2.before.before in
+    let part3 = row_type2.before.before in
     let part_at = part3.before.before in
     let read = part_at.before in
     let start = read.before in
-    copy-deep start.args.rows.now start.args.state.now start.args.work.now start.args.row start.args.env start.args.depth
+    copy_deep start.args.rows.now start.args.state.now start.args.work.now start.args.row start.args.env start.args.depth
     read.read.result part_at.part_at.result read.read.ensures part_at.part_at.ensures.0 part3.part3.given.1
-    row-type2.row-type2.ensures copy-value2.copy-value2.ensures c.if2.false)
+    row_type2.row-type2.ensures copy_value2.copy-value2.ensures c.if2.false)
     (λ c. search rules)
     (λ c κs.
     let start = c.before.before.before.before.before.before in
@@ -130,25 +130,25 @@ pub +copy-task-spec : {M : Type 1} → statement M
     let part4 = c.before.before.before.before in
     let part_at = part4.before.before in
     let start = part_at.before.before in
-    call-lower start.requires part4.part4.given.0.0 start.args.depth
-    (lower-as start.args.row part_at.part_at.ensures.1 part4.part4.given.1).0 start.requires.1.room)
+    call_lower start.requires part4.part4.given.0.0 start.args.depth
+    (lower_as start.args.row part_at.part_at.ensures.1 part4.part4.given.1).0 start.requires.1.room)
     (λ c κs.
     let part4 = c.before.before.before.before.before.before.before in
     let part_at = part4.before.before in
     let start = part_at.before.before in
-    call-lower start.requires part4.part4.given.0.1.0 start.args.depth
-    (lower-as start.args.row part_at.part_at.ensures.1 part4.part4.given.1).1 start.requires.1.room)
+    call_lower start.requires part4.part4.given.0.1.0 start.args.depth
+    (lower_as start.args.row part_at.part_at.ensures.1 part4.part4.given.1).1 start.requires.1.room)
     (λ c.
     let if3 = c.before.before in
-    let copy-task3 = if3.before in
-    let put-tag3 = copy-task3.before.before in
-    let part4 = put-tag3.before.before.before in
+    let copy_task3 = if3.before in
+    let put_tag3 = copy_task3.before.before in
+    let part4 = put_tag3.before.before.before in
     let part_at = part4.before.before in
     let read = part_at.before in
     let start = read.before in
-    copy-two start.args.rows.now start.args.state.now start.args.work.now start.args.row start.args.env start.args.depth
+    copy_two start.args.rows.now start.args.state.now start.args.work.now start.args.row start.args.env start.args.depth
     read.read.result part_at.part_at.result read.read.ensures part_at.part_at.ensures.0 part4.part4.given.1
-    put-tag3.put-tag3.ensures copy-task3.copy-task3.ensures if3.if3.true c.copy-task4.ensures)
+    put_tag3.put-tag3.ensures copy_task3.copy-task3.ensures if3.if3.true c.copy-task4.ensures)
     (λ c. search rules)
     (λ c κs.
     let start = c.before.before.before.before.before.before in
@@ -157,31 +157,31 @@ pub +copy-task-spec : {M : Type 1} → statement M
     let part5 = c.before.before.before.before.before in
     let part_at = part5.before.before in
     let start = part_at.before.before in
-    call-lower start.requires part5.part5.given.0.0 start.args.depth
-    (lower-as start.args.row part_at.part_at.ensures.1 part5.part5.given.1) start.requires.1.room)
+    call_lower start.requires part5.part5.given.0.0 start.args.depth
+    (lower_as start.args.row part_at.part_at.ensures.1 part5.part5.given.1) start.requires.1.room)
     (λ c.
     let if4 = c.before.before in
-    let copy-touches = if4.before in
-    let part5 = copy-touches.before.before.before in
+    let copy_touches = if4.before in
+    let part5 = copy_touches.before.before.before in
     let part_at = part5.before.before in
     let read = part_at.before in
     let start = read.before in
-    copy-gate start.args.rows.now start.args.state.now start.args.work.now start.args.row start.args.env start.args.depth
+    copy_gate start.args.rows.now start.args.state.now start.args.work.now start.args.row start.args.env start.args.depth
     read.read.result part_at.part_at.result read.read.ensures part_at.part_at.ensures.0 part5.part5.given.1
-    copy-touches.copy-touches.ensures if4.if4.true c.copy-task5.ensures)
+    copy_touches.copy-touches.ensures if4.if4.true c.copy-task5.ensures)
     (λ c.
     let part_at = c.before.before in
     let read = part_at.before in
     let start = read.before in
-    copy-bad start.args.rows.now start.args.state.now start.args.work.now start.args.row start.args.env start.args.depth
+    copy_bad start.args.rows.now start.args.state.now start.args.work.now start.args.row start.args.env start.args.depth
     read.read.result part_at.part_at.result read.read.ensures part_at.part_at.ensures.0 c.enum_told.given.1)
     (λ c.
-    let enum-told2 = c.before.before in
-    let part_at = enum-told2.before.before in
+    let enum_told2 = c.before.before in
+    let part_at = enum_told2.before.before in
     let read = part_at.before in
     let start = read.before in
-    copy-alone start.args.rows.now start.args.state.now start.args.work.now start.args.row start.args.env start.args.depth
-    read.read.result part_at.part_at.result read.read.ensures part_at.part_at.ensures.0 enum-told2.enum-told2.given.1
+    copy_alone start.args.rows.now start.args.state.now start.args.work.now start.args.row start.args.env start.args.depth
+    read.read.result part_at.part_at.result read.read.ensures part_at.part_at.ensures.0 enum_told2.enum-told2.given.1
     c.put-tag.ensures)
     (λ c.
     let row_type = c.before.before in
@@ -189,44 +189,44 @@ pub +copy-task-spec : {M : Type 1} → statement M
     let part_at = part.before.before in
     let read = part_at.before in
     let start = read.before in
-    copy-filled start.args.rows.now start.args.state.now start.args.work.now start.args.row start.args.env
+    copy_filled start.args.rows.now start.args.state.now start.args.work.now start.args.row start.args.env
     start.args.depth read.read.result part_at.part_at.result read.read.ensures part_at.part_at.ensures.0 part.part.given.1
     row_type.row_type.ensures c.copy-value.ensures)
     (λ c.
-    let put-tag2 = c.before.before in
-    let part2 = put-tag2.before.before.before in
+    let put_tag2 = c.before.before in
+    let part2 = put_tag2.before.before.before in
     let part_at = part2.before.before in
     let read = part_at.before in
     let start = read.before in
-    copy-below start.args.rows.now start.args.state.now start.args.work.now start.args.row start.args.env start.args.depth
+    copy_below start.args.rows.now start.args.state.now start.args.work.now start.args.row start.args.env start.args.depth
     read.read.result part_at.part_at.result read.read.ensures part_at.part_at.ensures.0 part2.part2.given.1
-    put-tag2.put-tag2.ensures c.copy-task.ensures)
+    put_tag2.put-tag2.ensures c.copy-task.ensures)
     (λ c.
-    let copy-value2 = c.before in
-    let row-type2 = copy-value2.before.before in
-    let part3 = row-type2.before.before in
+    let copy_value2 = c.before in
+    let row_type2 = copy_value2.before.before in
+    let part3 = row_type2.before.before in
     let part_at = part3.before.before in
     let read = part_at.before in
     let start = read.before in
-    copy-unbound start.args.rows.now start.args.state.now start.args.work.now start.args.row start.args.env
+    copy_unbound start.args.rows.now start.args.state.now start.args.work.now start.args.row start.args.env
     start.args.depth read.read.result part_at.part_at.result read.read.ensures part_at.part_at.ensures.0
-    part3.part3.given.1 row-type2.row-type2.ensures copy-value2.copy-value2.ensures c.if1.false)
+    part3.part3.given.1 row_type2.row-type2.ensures copy_value2.copy-value2.ensures c.if1.false)
     (λ c.
-    let copy-task3 = c.before in
-    let put-tag3 = copy-task3.before.before in
-    let part4 = put-tag3.before.before.before in
+    let copy_task3 = c.before in
+    let put_tag3 = copy_task3.before.before in
+    let part4 = put_tag3.before.before.before in
     let part_at = part4.before.before in
     let read = part_at.before in
     let start = read.before in
-    copy-first start.args.rows.now start.args.state.now start.args.work.now start.args.row start.args.env start.args.depth
+    copy_first start.args.rows.now start.args.state.now start.args.work.now start.args.row start.args.env start.args.depth
     read.read.result part_at.part_at.result read.read.ensures part_at.part_at.ensures.0 part4.part4.given.1
-    put-tag3.put-tag3.ensures copy-task3.copy-task3.ensures c.if3.false)
+    put_tag3.put-tag3.ensures copy_task3.copy-task3.ensures c.if3.false)
     (λ c.
-    let copy-touches = c.before in
-    let part5 = copy-touches.before.before.before in
+    let copy_touches = c.before in
+    let part5 = copy_touches.before.before.before in
     let part_at = part5.before.before in
     let read = part_at.before in
     let start = read.before in
-    copy-ungated start.args.rows.now start.args.state.now start.args.work.now start.args.row start.args.env
+    copy_ungated start.args.rows.now start.args.state.now start.args.work.now start.args.row start.args.env
     start.args.depth read.read.result part_at.part_at.result read.read.ensures part_at.part_at.ensures.0
-    part5.part5.given.1 copy-touches.copy-touches.ensures c.if4.false)
+    part5.part5.given.1 copy_touches.copy-touches.ensures c.if4.false)

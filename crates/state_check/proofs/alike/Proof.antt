@@ -3,7 +3,7 @@ use Prim.Native.Nat.{◌-◌, ◌≤◌}
 use native.Mathlib.Omega.{arith}
 use borrow.Author.Rules.{rules}
 use Rattle.state_check.specs.States.{Alike}
-use Rattle.state_check.proofs.Deciding.{alike-none, alike-more, alike-yes, alike-no}
+use Rattle.state_check.proofs.Deciding.{alike_none, alike_more, alike_yes, alike_no}
 use Rattle.state_check.proofs.alike.Statement.{statement}
 use Rattle.state_check.proofs.alike.Tie as tie
 
@@ -15,14 +15,14 @@ decreases-loop x y m k₀ k = m - k
 
 pub alike_spec : {M : Type 1} → statement M
 alike_spec = tie.close (tie.spec invariant-loop decreases-loop
-    (λ c. (omega arith, alike-none c.args.x.now c.args.y.now))
+    (λ c. (omega arith, alike_none c.args.x.now c.args.y.now))
     (λ c. search rules) (λ c. search rules) (λ c. search rules) (λ c. search rules)
     (λ c.
     let test = c.before.before.before in
     let loop = test.before in
     let start = loop.before in
     let s = start.args in
-    alike-no s.x.now s.y.now loop.loop.k s.m test.loop-test.true c.if1.true)
+    alike_no s.x.now s.y.now loop.loop.k s.m test.loop-test.true c.if1.true)
     (λ c. search rules)
     (λ c. let l = c.before.before.before.loop-test.true in omega arith)
     (λ c.
@@ -31,9 +31,9 @@ alike_spec = tie.close (tie.spec invariant-loop decreases-loop
     let start = loop.before in
     let s = start.args in
     let l = test.loop-test.true in
-    (omega arith, alike-more s.x.now s.y.now loop.loop.k loop.loop.invariant.1 c.if1.false))
+    (omega arith, alike_more s.x.now s.y.now loop.loop.k loop.loop.invariant.1 c.if1.false))
     (λ c.
     let loop = c.before in
     let start = loop.before in
     let s = start.args in
-    alike-yes s.x.now s.y.now loop.loop.k s.m loop.loop.invariant.1 c.loop-test.false))
+    alike_yes s.x.now s.y.now loop.loop.k s.m loop.loop.invariant.1 c.loop-test.false))

@@ -1,21 +1,21 @@
 -- `state_check::by_tag` meets its contract. Assumes nothing.
-use Rattle.state_check.proofs.PartLaws.{tag-own, tag_one, tag-other, tag-none}
+use Rattle.state_check.proofs.PartLaws.{tag_own, tag_one, tag_other, tag_none}
 use Rattle.state_check.proofs.by_tag.Statement.{statement}
 use Rattle.state_check.proofs.by_tag.Tie as tie
 
-pub by-tag-spec : {M : Type 1} → statement M
-by-tag-spec = tie.close (tie.spec
-    (λ c. let s = c.before.args in tag-own s.tag s.p s.q s.r c.if1.true)
+pub by_tag_spec : {M : Type 1} → statement M
+by_tag_spec = tie.close (tie.spec
+    (λ c. let s = c.before.args in tag_own s.tag s.p s.q s.r c.if1.true)
     (λ c. let s = c.before.before.args in tag_one s.tag s.p s.q s.r c.before.if1.false c.if2.true)
     (λ c.
     let if2 = c.before in
     let if1 = if2.before in
     let start = if1.before in
     let s = start.args in
-    tag-other s.tag s.p s.q s.r if1.if1.false if2.if2.false c.if3.true)
+    tag_other s.tag s.p s.q s.r if1.if1.false if2.if2.false c.if3.true)
     (λ c.
     let if2 = c.before in
     let if1 = if2.before in
     let start = if1.before in
     let s = start.args in
-    tag-none s.tag s.p s.q s.r if1.if1.false if2.if2.false c.if3.false))
+    tag_none s.tag s.p s.q s.r if1.if1.false if2.if2.false c.if3.false))

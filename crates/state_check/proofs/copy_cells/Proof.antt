@@ -5,7 +5,7 @@ use Prim.Native.Nat.{◌-◌, ◌≤◌}
 use native.Mathlib.Omega.{arith}
 use borrow.Author.Rules.{rules}
 use Rattle.state_check.specs.Copies.{CellsOk}
-use Rattle.state_check.proofs.Cells.{no_cells, next-cells, no-more-cells, all-cells}
+use Rattle.state_check.proofs.Cells.{no_cells, next_cells, no_more_cells, all_cells}
 use Rattle.state_check.proofs.copy_cells.Statement.{statement}
 use Rattle.state_check.proofs.copy_cells.Tie as tie
 
@@ -15,8 +15,8 @@ invariant-loop rows n state work₀ i₀ work i = (i ≤ n) × CellsOk rows stat
 abbrev decreases-loop : tie.decreases-loop
 decreases-loop rows n state work₀ i₀ work i = n - i
 
-pub copy-cells-spec : {M : Type 1} → statement M
-copy-cells-spec = tie.close (tie.spec invariant-loop decreases-loop
+pub copy_cells_spec : {M : Type 1} → statement M
+copy_cells_spec = tie.close (tie.spec invariant-loop decreases-loop
     (λ c. (omega arith, no_cells c.args.rows.now c.args.state.now c.args.work.now))
     (λ c κs.
     let test = c.before in
@@ -25,25 +25,25 @@ copy-cells-spec = tie.close (tie.spec invariant-loop decreases-loop
     let h = start.requires in
     omega arith)
     (λ c.
-    let copy-cell = c.before in
-    let test = copy-cell.before.before in
+    let copy_cell = c.before in
+    let test = copy_cell.before.before in
     let loop = test.before in
     let start = loop.before in
     let s = start.args in
-    no-more-cells s.rows.now s.state.now loop.loop.i s.n loop.loop.invariant.1 test.loop-test.true copy-cell.copy-cell.ensures
+    no_more_cells s.rows.now s.state.now loop.loop.i s.n loop.loop.invariant.1 test.loop-test.true copy_cell.copy-cell.ensures
     c.if1.true)
     (λ c. search rules)
     (λ c. let l = c.before.before.before.loop-test.true in omega arith)
     (λ c.
-    let copy-cell = c.before in
-    let test = copy-cell.before.before in
+    let copy_cell = c.before in
+    let test = copy_cell.before.before in
     let loop = test.before in
     let start = loop.before in
     let l = test.loop-test.true in
-    (omega arith, next-cells start.args.state.now loop.loop.invariant.1 copy-cell.copy-cell.ensures c.if1.false))
+    (omega arith, next_cells start.args.state.now loop.loop.invariant.1 copy_cell.copy-cell.ensures c.if1.false))
     (λ c.
     let loop = c.before in
     let start = loop.before in
     let l = c.loop-test.false in
     let k = loop.loop.invariant.0 in
-    all-cells start.args.state.now loop.loop.invariant.1 (let e : loop.loop.i ≡ start.args.n = omega arith in e)))
+    all_cells start.args.state.now loop.loop.invariant.1 (let e : loop.loop.i ≡ start.args.n = omega arith in e)))

@@ -1,12 +1,12 @@
 -- `state_check::held` meets its contract: what `written` answers, and zeros where it answers no. Assumes nothing.
 use mathlib.Core.Path.{refl}
 use borrow.Author.Rules.{rules}
-use Rattle.state_check.proofs.Deciding.{held-yes, held-no}
+use Rattle.state_check.proofs.Deciding.{held_yes, held_no}
 use Rattle.state_check.proofs.held.Statement.{statement}
 use Rattle.state_check.proofs.held.Tie as tie
 
 pub held_spec : {M : Type 1} → statement M
 held_spec = tie.close (tie.spec
     (λ c κs. search rules)
-    (λ c. held-yes c.before.written.ensures c.if1.true)
-    (λ c. (held-no c.before.before.written.ensures c.before.if1.false, (λ e. refl))))
+    (λ c. held_yes c.before.written.ensures c.if1.true)
+    (λ c. (held_no c.before.before.written.ensures c.before.if1.false, (λ e. refl))))

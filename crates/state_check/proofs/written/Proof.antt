@@ -3,13 +3,13 @@ use mathlib.Core.Path.{◌≡◌, sym, ◌∙◌}
 use native.Mathlib.Omega.{arith}
 use lib.ListN.{length}
 use borrow.Author.Rules.{rules}
-use Rattle.state.specs.Lent.{stateSize}
-use Rattle.state_check.proofs.Deciding.{zero-rows, held-no-cells, held-no-task, held_same}
+use Rattle.state.specs.Lent.{state_size}
+use Rattle.state_check.proofs.Deciding.{zero_rows, held_no_cells, held_no_task, held_same}
 use Rattle.state_check.proofs.written.Statement.{statement}
 use Rattle.state_check.proofs.written.Tie as tie
 
-pub written-spec : {M : Type 1} → statement M
-written-spec = tie.close (tie.spec
+pub written_spec : {M : Type 1} → statement M
+written_spec = tie.close (tie.spec
     (λ c κs. let l = c.before.requires.0.0 in let h = c.before.requires.0.1.low in omega arith) (λ c. search rules) (λ c κs.
     let start = c.before.before.before.before in
     start.requires.0.1)
@@ -20,19 +20,19 @@ written-spec = tie.close (tie.spec
     record { fits = omega arith })
     (λ c κs.
     let l = c.before.before.before.before.before.before.before.before.before.requires.0.0 in let h = c.before.before.before.before.before.before.before.before.before.requires.0.1.low in
-    let x : length c.before.before.before.before.before.before.before.before.before.args.state.now ≡ stateSize = search rules in let y : length c.before.before.before.before.copy-task.new.1.1.0 ≡ stateSize = search rules in
+    let x : length c.before.before.before.before.before.before.before.before.before.args.state.now ≡ state_size = search rules in let y : length c.before.before.before.before.copy-task.new.1.1.0 ≡ state_size = search rules in
     (omega (arith, l, h, x), omega (arith, l, h, y)))
     (λ c. let s = c.before.before.before.before.before.before.before.before.before.before in
-    let x : length s.args.state.now ≡ stateSize = search rules in let y : length c.before.before.before.before.before.copy-task.new.1.1.0 ≡ stateSize = search rules in
-    held_same s.requires.0.0 (zero-rows stateSize s.requires.1.1) c.before.before.before.before.before.before.before.before.copy-cells.ensures c.before.before.before.before.before.before.before.if1.true c.before.before.before.before.before.copy-task.ensures c.before.before.before.before.if2.true s.requires.1.0 (x ∙ sym y) c.alike.ensures)
+    let x : length s.args.state.now ≡ state_size = search rules in let y : length c.before.before.before.before.before.copy-task.new.1.1.0 ≡ state_size = search rules in
+    held_same s.requires.0.0 (zero_rows state_size s.requires.1.1) c.before.before.before.before.before.before.before.before.copy-cells.ensures c.before.before.before.before.before.before.before.if1.true c.before.before.before.before.before.copy-task.ensures c.before.before.before.before.if2.true s.requires.1.0 (x ∙ sym y) c.alike.ensures)
     (λ c.
-    let copy-task = c.before in
-    let if1 = copy-task.before.before in
-    let copy-cells = if1.before in
-    let start = copy-cells.before.before in
-    held-no-task start.requires.0.0 (zero-rows stateSize start.requires.1.1) copy-cells.copy-cells.ensures if1.if1.true
-    copy-task.copy-task.ensures c.if2.false)
+    let copy_task = c.before in
+    let if1 = copy_task.before.before in
+    let copy_cells = if1.before in
+    let start = copy_cells.before.before in
+    held_no_task start.requires.0.0 (zero_rows state_size start.requires.1.1) copy_cells.copy-cells.ensures if1.if1.true
+    copy_task.copy-task.ensures c.if2.false)
     (λ c.
-    let copy-cells = c.before in
-    let start = copy-cells.before.before in
-    held-no-cells start.requires.0.0 (zero-rows stateSize start.requires.1.1) copy-cells.copy-cells.ensures c.if1.false))
+    let copy_cells = c.before in
+    let start = copy_cells.before.before in
+    held_no_cells start.requires.0.0 (zero_rows state_size start.requires.1.1) copy_cells.copy-cells.ensures c.if1.false))

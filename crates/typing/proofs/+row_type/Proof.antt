@@ -1,12 +1,12 @@
-use Rattle.typing.proofs.TypeLaws.{by1, by2, by3, below_as, lower_call, by-node, bind-none, bind-over, bind-more}
-use Rattle.typing.specs.RowTypes.{opShape, ifShape, assignShape, sameShape}
-use Rattle.shape.specs.Shape.{pairShape, firstShape, secondShape}
+use Rattle.typing.proofs.TypeLaws.{by1, by2, by3, below_as, lower_call, by_node, bind_none, bind_over, bind_more}
+use Rattle.typing.specs.RowTypes.{op_shape, if_shape, assign_shape, same_shape}
+use Rattle.shape.specs.Shape.{pair_shape, first_shape, second_shape}
 use mathlib.Core.Path.{refl}
 use borrow.Author.Rules.{rules}
 use Prim.Native.Nat.{ℕ, ◌<◌}
 use borrow.Fn.Kinds.{In}
 use borrow.Fn.PlainCycle.{Measures, is, falls, and}
-use Rattle.typing.proofs.row_type.Reads as row-type
+use Rattle.typing.proofs.row_type.Reads as row_type
 use Rattle.typing.proofs.row_type.Kinds as row-type-kinds
 use Rattle.typing.proofs.+row_type.Lts-row_type as row-type-lts
 use Rattle.shape.proofs.first_shape.Reads as first-shape-reads
@@ -22,24 +22,24 @@ use Rattle.typing.proofs.same_shape.Reads as same-shape-reads
 use Rattle.typing.proofs.+row_type.{statement}
 use Rattle.typing.proofs.+row_type.Tie.{close}
 
-abbrev μ-row-type : Measures 1 row-type-kinds.ps ℕ
-μ-row-type κs a = a.1.0
+abbrev μ_row_type : Measures 1 row-type-kinds.ps ℕ
+μ_row_type κs a = a.1.0
 
-abbrev row-type-at : ℕ → In 1 row-type-kinds.ps
-row-type-at t = and 1 row-type-kinds.ps (is 1 row-type-kinds.ps μ-row-type t) row-type.Pre
+abbrev row_type_at : ℕ → In 1 row-type-kinds.ps
+row_type_at t = and 1 row-type-kinds.ps (is 1 row-type-kinds.ps μ_row_type t) row_type.Pre
 
-abbrev row-type-below : ℕ → In 1 row-type-kinds.ps
-row-type-below t =
-    and 1 row-type-kinds.ps (falls 1 row-type-kinds.ps ◌<◌ μ-row-type t) row-type.Pre
+abbrev row_type_below : ℕ → In 1 row-type-kinds.ps
+row_type_below t =
+    and 1 row-type-kinds.ps (falls 1 row-type-kinds.ps ◌<◌ μ_row_type t) row_type.Pre
 
 pub +row-type-spec : {M : Type 1} → statement M
-+row-type-spec = close μ-row-type λ t. row-type-lts.spec (
++row-type-spec = close μ_row_type λ t. row-type-lts.spec (
   node-at-reads.Asked,
   node-at-reads.Learnt,
   binder-shape-reads.Asked,
   binder-shape-reads.Learnt,
-  row-type-below t,
-  row-type.Post,
+  row_type_below t,
+  row_type.Post,
   op-shape-reads.Asked,
   op-shape-reads.Learnt,
   if-shape-reads.Asked,
@@ -57,8 +57,8 @@ pub +row-type-spec : {M : Type 1} → statement M
   same-shape-reads.Asked,
   same-shape-reads.Learnt,
 )
-    (row-type-at t)
-    row-type.Post
+    (row_type_at t)
+    row_type.Post
     (λ c κs. search rules)
     (λ c. search rules)
     (λ c. search rules)
@@ -158,13 +158,13 @@ pub +row-type-spec : {M : Type 1} → statement M
     let b = below_as start.args.row Node-at.Node-at.ensures.1 x9.x9.given.1 in
     lower_call start.requires.0 start.requires.1 b.0)
     (λ c.
-    let row-type13 = c.before in
-    let x9 = row-type13.before.before in
+    let row_type13 = c.before in
+    let x9 = row_type13.before.before in
     let Node-at = x9.before.before in
     let start = Node-at.before in
     let q = start.args in
-    by-node q.rows.now q.env q.n q.row _ _ _ Node-at.Node-at.ensures.0 x9.x9.given.1
-    (bind-none q.rows.now q.env q.n x9.x9.given.0.1.0 _ _ row-type13.row-type13.ensures c.if1.true))
+    by_node q.rows.now q.env q.n q.row _ _ _ Node-at.Node-at.ensures.0 x9.x9.given.1
+    (bind_none q.rows.now q.env q.n x9.x9.given.0.1.0 _ _ row_type13.row-type13.ensures c.if1.true))
     (λ c κs. search rules)
     (λ c. search rules)
     (λ c κs.
@@ -177,13 +177,13 @@ pub +row-type-spec : {M : Type 1} → statement M
     let bound = c.before in
     let if2 = bound.before in
     let if1 = if2.before in
-    let row-type13 = if1.before in
-    let x9 = row-type13.before.before in
+    let row_type13 = if1.before in
+    let x9 = row_type13.before.before in
     let Node-at = x9.before.before in
     let start = Node-at.before in
     let q = start.args in
-    by-node q.rows.now q.env q.n q.row _ _ _ Node-at.Node-at.ensures.0 x9.x9.given.1
-    (bind-more q.rows.now q.env q.n x9.x9.given.0.1.0 _ _ _ _ row-type13.row-type13.ensures if1.if1.false if2.if2.true bound.bound.ensures c.row-type14.ensures))
+    by_node q.rows.now q.env q.n q.row _ _ _ Node-at.Node-at.ensures.0 x9.x9.given.1
+    (bind_more q.rows.now q.env q.n x9.x9.given.0.1.0 _ _ _ _ row_type13.row-type13.ensures if1.if1.false if2.if2.true bound.bound.ensures c.row-type14.ensures))
     (λ c. search rules)
     (λ c κs.
     let x10 = c.before in
@@ -203,102 +203,102 @@ pub +row-type-spec : {M : Type 1} → statement M
     let Node-at = c.before.before in
     let start = Node-at.before in
     let q = start.args in
-    by-node q.rows.now q.env q.n q.row _ _ _ Node-at.Node-at.ensures.0 c.enum_told.given.1 refl)
+    by_node q.rows.now q.env q.n q.row _ _ _ Node-at.Node-at.ensures.0 c.enum_told.given.1 refl)
     (λ c.
     let Node-at = c.before.before in
     let start = Node-at.before in
     let q = start.args in
-    by-node q.rows.now q.env q.n q.row _ _ _ Node-at.Node-at.ensures.0 c.enum-told2.given.1 refl)
+    by_node q.rows.now q.env q.n q.row _ _ _ Node-at.Node-at.ensures.0 c.enum-told2.given.1 refl)
     (λ c.
     let Node-at = c.before.before in
     let start = Node-at.before in
     let q = start.args in
-    by-node q.rows.now q.env q.n q.row _ _ _ Node-at.Node-at.ensures.0 c.enum-told3.given.1 refl)
+    by_node q.rows.now q.env q.n q.row _ _ _ Node-at.Node-at.ensures.0 c.enum-told3.given.1 refl)
     (λ c.
     let x = c.before.before in
     let Node-at = x.before.before in
     let start = Node-at.before in
     let q = start.args in
-    by-node q.rows.now q.env q.n q.row _ _ _ Node-at.Node-at.ensures.0 x.x.given.1 c.binder-shape.ensures)
+    by_node q.rows.now q.env q.n q.row _ _ _ Node-at.Node-at.ensures.0 x.x.given.1 c.binder-shape.ensures)
     (λ c.
-    let row-type2 = c.before in
-    let row-type = row-type2.before in
-    let x2 = row-type.before.before in
+    let row_type2 = c.before in
+    let row_type = row_type2.before in
+    let x2 = row_type.before.before in
     let Node-at = x2.before.before in
     let start = Node-at.before in
     let q = start.args in
-    by-node q.rows.now q.env q.n q.row _ _ _ Node-at.Node-at.ensures.0 x2.x2.given.1
-    (by2 (opShape x2.x2.given.0.0) c.op-shape.ensures row-type.row-type.ensures row-type2.row-type2.ensures))
+    by_node q.rows.now q.env q.n q.row _ _ _ Node-at.Node-at.ensures.0 x2.x2.given.1
+    (by2 (op_shape x2.x2.given.0.0) c.op-shape.ensures row_type.row-type.ensures row_type2.row-type2.ensures))
     (λ c.
-    let row-type5 = c.before in
-    let row-type4 = row-type5.before in
-    let row-type3 = row-type4.before in
-    let x3 = row-type3.before.before in
+    let row_type5 = c.before in
+    let row_type4 = row_type5.before in
+    let row_type3 = row_type4.before in
+    let x3 = row_type3.before.before in
     let Node-at = x3.before.before in
     let start = Node-at.before in
     let q = start.args in
-    by-node q.rows.now q.env q.n q.row _ _ _ Node-at.Node-at.ensures.0 x3.x3.given.1
-    (by3 ifShape c.if-shape.ensures row-type3.row-type3.ensures row-type4.row-type4.ensures row-type5.row-type5.ensures))
+    by_node q.rows.now q.env q.n q.row _ _ _ Node-at.Node-at.ensures.0 x3.x3.given.1
+    (by3 if_shape c.if-shape.ensures row_type3.row-type3.ensures row_type4.row-type4.ensures row_type5.row-type5.ensures))
     (λ c.
-    let row-type7 = c.before in
-    let row-type6 = row-type7.before in
-    let x4 = row-type6.before.before in
+    let row_type7 = c.before in
+    let row_type6 = row_type7.before in
+    let x4 = row_type6.before.before in
     let Node-at = x4.before.before in
     let start = Node-at.before in
     let q = start.args in
-    by-node q.rows.now q.env q.n q.row _ _ _ Node-at.Node-at.ensures.0 x4.x4.given.1
-    (by2 pairShape c.pair-shape.ensures row-type6.row-type6.ensures row-type7.row-type7.ensures))
+    by_node q.rows.now q.env q.n q.row _ _ _ Node-at.Node-at.ensures.0 x4.x4.given.1
+    (by2 pair_shape c.pair-shape.ensures row_type6.row-type6.ensures row_type7.row-type7.ensures))
     (λ c.
-    let row-type8 = c.before in
-    let x5 = row-type8.before.before in
+    let row_type8 = c.before in
+    let x5 = row_type8.before.before in
     let Node-at = x5.before.before in
     let start = Node-at.before in
     let q = start.args in
-    by-node q.rows.now q.env q.n q.row _ _ _ Node-at.Node-at.ensures.0 x5.x5.given.1
-    (by1 firstShape c.first-shape.ensures row-type8.row-type8.ensures))
+    by_node q.rows.now q.env q.n q.row _ _ _ Node-at.Node-at.ensures.0 x5.x5.given.1
+    (by1 first_shape c.first-shape.ensures row_type8.row-type8.ensures))
     (λ c.
-    let row-type9 = c.before in
-    let x6 = row-type9.before.before in
+    let row_type9 = c.before in
+    let x6 = row_type9.before.before in
     let Node-at = x6.before.before in
     let start = Node-at.before in
     let q = start.args in
-    by-node q.rows.now q.env q.n q.row _ _ _ Node-at.Node-at.ensures.0 x6.x6.given.1
-    (by1 secondShape c.second-shape.ensures row-type9.row-type9.ensures))
+    by_node q.rows.now q.env q.n q.row _ _ _ Node-at.Node-at.ensures.0 x6.x6.given.1
+    (by1 second_shape c.second-shape.ensures row_type9.row-type9.ensures))
     (λ c.
     let x7 = c.before.before in
     let Node-at = x7.before.before in
     let start = Node-at.before in
     let q = start.args in
-    by-node q.rows.now q.env q.n q.row _ _ _ Node-at.Node-at.ensures.0 x7.x7.given.1 c.row-type10.ensures)
+    by_node q.rows.now q.env q.n q.row _ _ _ Node-at.Node-at.ensures.0 x7.x7.given.1 c.row-type10.ensures)
     (λ c.
-    let row-type12 = c.before in
-    let row-type11 = row-type12.before in
-    let x8 = row-type11.before.before in
+    let row_type12 = c.before in
+    let row_type11 = row_type12.before in
+    let x8 = row_type11.before.before in
     let Node-at = x8.before.before in
     let start = Node-at.before in
     let q = start.args in
-    by-node q.rows.now q.env q.n q.row _ _ _ Node-at.Node-at.ensures.0 x8.x8.given.1
-    (by2 assignShape c.assign-shape.ensures row-type11.row-type11.ensures row-type12.row-type12.ensures))
+    by_node q.rows.now q.env q.n q.row _ _ _ Node-at.Node-at.ensures.0 x8.x8.given.1
+    (by2 assign_shape c.assign-shape.ensures row_type11.row-type11.ensures row_type12.row-type12.ensures))
     (λ c.
     let if1 = c.before in
-    let row-type13 = if1.before in
-    let x9 = row-type13.before.before in
+    let row_type13 = if1.before in
+    let x9 = row_type13.before.before in
     let Node-at = x9.before.before in
     let start = Node-at.before in
     let q = start.args in
-    by-node q.rows.now q.env q.n q.row _ _ _ Node-at.Node-at.ensures.0 x9.x9.given.1
-    (bind-over q.rows.now q.env q.n x9.x9.given.0.1.0 _ _ row-type13.row-type13.ensures if1.if1.false c.if2.false))
+    by_node q.rows.now q.env q.n q.row _ _ _ Node-at.Node-at.ensures.0 x9.x9.given.1
+    (bind_over q.rows.now q.env q.n x9.x9.given.0.1.0 _ _ row_type13.row-type13.ensures if1.if1.false c.if2.false))
     (λ c.
-    let row-type16 = c.before in
-    let row-type15 = row-type16.before in
-    let x10 = row-type15.before.before in
+    let row_type16 = c.before in
+    let row_type15 = row_type16.before in
+    let x10 = row_type15.before.before in
     let Node-at = x10.before.before in
     let start = Node-at.before in
     let q = start.args in
-    by-node q.rows.now q.env q.n q.row _ _ _ Node-at.Node-at.ensures.0 x10.x10.given.1
-    (by2 sameShape c.same_shape.ensures row-type15.row-type15.ensures row-type16.row-type16.ensures))
+    by_node q.rows.now q.env q.n q.row _ _ _ Node-at.Node-at.ensures.0 x10.x10.given.1
+    (by2 same_shape c.same_shape.ensures row_type15.row-type15.ensures row_type16.row-type16.ensures))
     (λ c.
     let Node-at = c.before.before in
     let start = Node-at.before in
     let q = start.args in
-    by-node q.rows.now q.env q.n q.row _ _ _ Node-at.Node-at.ensures.0 c.enum-told4.given.1 refl)
+    by_node q.rows.now q.env q.n q.row _ _ _ Node-at.Node-at.ensures.0 c.enum-told4.given.1 refl)

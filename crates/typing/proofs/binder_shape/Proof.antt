@@ -3,8 +3,8 @@ use borrow.Author.Rules.{rules}
 use Rattle.typing.proofs.binder_shape.Statement.{statement}
 use Rattle.typing.proofs.binder_shape.Tie as tie
 
-pub binder-shape-spec : {M : Type 1} → statement M
-binder-shape-spec =
+pub binder_shape_spec : {M : Type 1} → statement M
+binder_shape_spec =
     tie.close
     (tie.spec
     (λ c. search rules)

@@ -2,8 +2,8 @@ use borrow.Author.Tests.{eq-eqb, ne_eqb}
 use Rattle.typing.proofs.both_are.Statement.{statement}
 use Rattle.typing.proofs.both_are.Tie as tie
 
-pub both-are-spec : {M : Type 1} → statement M
-both-are-spec = tie.close (tie.spec
+pub both_are_spec : {M : Type 1} → statement M
+both_are_spec = tie.close (tie.spec
     (λ c. simp (eq-eqb _ _ c.before.if1.true, eq-eqb _ _ c.if2.true))
     (λ c. simp (eq-eqb _ _ c.before.if1.true, ne_eqb _ _ c.if2.false))
     (λ c. simp (ne_eqb _ _ c.if1.false)))

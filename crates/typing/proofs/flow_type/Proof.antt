@@ -1,12 +1,12 @@
-use Rattle.typing.proofs.Agree.{flow-agrees}
-use Rattle.typing.proofs.TaskLaws.{flow-yes, flow-no}
+use Rattle.typing.proofs.Agree.{flow_agrees}
+use Rattle.typing.proofs.TaskLaws.{flow_yes, flow_no}
 use mathlib.Core.Path.{◌∙◌}
 use borrow.Author.Rules.{rules}
 use Rattle.typing.proofs.flow_type.Statement.{statement}
 use Rattle.typing.proofs.flow_type.Tie as tie
 
-pub flow-type-spec : {M : Type 1} → statement M
-flow-type-spec =
+pub flow_type_spec : {M : Type 1} → statement M
+flow_type_spec =
     tie.close
     (tie.spec
     (λ c. search rules)
@@ -15,16 +15,16 @@ flow-type-spec =
     (λ c κs. search rules)
     (λ c.
     let if1 = c.before in
-    let is-task = if1.before in
-    let start = is-task.before in
+    let is_task = if1.before in
+    let start = is_task.before in
     let rs = start.args.rows.now in
     let n = start.args.n in
-    let e = flow-yes rs n is-task.is-task.result is-task.is-task.ensures c.row_type.result if1.if1.true c.row_type.ensures in
-    (e, λ p q. e ∙ flow-agrees rs n start.requires.0 p q))
+    let e = flow_yes rs n is_task.is-task.result is_task.is-task.ensures c.row_type.result if1.if1.true c.row_type.ensures in
+    (e, λ p q. e ∙ flow_agrees rs n start.requires.0 p q))
     (λ c.
-    let is-task = c.before in
-    let start = is-task.before in
+    let is_task = c.before in
+    let start = is_task.before in
     let rs = start.args.rows.now in
     let n = start.args.n in
-    let e = flow-no rs n is-task.is-task.result is-task.is-task.ensures c.if1.false in
-    (e, λ p q. e ∙ flow-agrees rs n start.requires.0 p q)))
+    let e = flow_no rs n is_task.is-task.result is_task.is-task.ensures c.if1.false in
+    (e, λ p q. e ∙ flow_agrees rs n start.requires.0 p q)))

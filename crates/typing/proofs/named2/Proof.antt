@@ -3,8 +3,8 @@ use borrow.Author.Rules.{rules}
 use Rattle.typing.proofs.named2.Statement.{statement}
 use Rattle.typing.proofs.named2.Tie as tie
 
-pub named2-spec : {M : Type 1} → statement M
-named2-spec = tie.close (tie.spec
+pub named2_spec : {M : Type 1} → statement M
+named2_spec = tie.close (tie.spec
     (λ c κs. search rules)
     (λ c. simp (lt-ltb _ _ c.before.if1.true) c.named1.ensures)
     (λ c. simp (le-ltb _ _ c.if1.false)))

@@ -1,4 +1,4 @@
-use Rattle.typing.proofs.NodeLaws.{node-is}
+use Rattle.typing.proofs.NodeLaws.{node_is}
 use borrow.Author.Rules.{rules}
 use Rattle.typing.proofs.node_at.Statement.{statement}
 use Rattle.typing.proofs.node_at.Tie as tie
@@ -19,5 +19,5 @@ node_at_spec =
     let get = get2.before in
     let start = get.before in
     let q = start.args in
-    node-is q.rows.now q.row get.get.result get2.get2.result get3.get3.result get4.get4.result c.node-from.result
+    node_is q.rows.now q.row get.get.result get2.get2.result get3.get3.result get4.get4.result c.node-from.result
     get.get.ensures get2.get2.ensures get3.get3.ensures get4.get4.ensures c.node-from.ensures))

@@ -1,14 +1,14 @@
 use Rattle.rows.specs.Kinds.{kind_of}
 use mathlib.Core.Path.{refl}
 use mathlib.Core.List.{[], ◌∷◌}
-use Rattle.typing.proofs.NodeLaws.{node-one, node-range, node-choice, node-none, node-past}
+use Rattle.typing.proofs.NodeLaws.{node_one, node_range, node_choice, node_none, node_past}
 use borrow.Author.Rules.{rules}
 use Rattle.typing.proofs.node_from.Statement.{statement}
 use Rattle.typing.proofs.node_from.Tie as tie
 
-pub node-from-spec : {M : Type 1} → statement M
+pub node_from_spec : {M : Type 1} → statement M
 unfolding kind_of
-node-from-spec =
+node_from_spec =
     tie.close
     (tie.spec
     (λ c κs. search rules)
@@ -23,60 +23,60 @@ node-from-spec =
     (λ c κs. search rules)
     (λ c κs. search rules)
     (λ c κs. search rules)
-    (λ c. let q = c.before.args in node-one q.i q.a q.b q.c (1 ∷ 20 ∷ []) q.k (refl, (refl, tt)) c.match.keys1)
-    (λ c. let q = c.before.args in node-one q.i q.a q.b q.c (2 ∷ 21 ∷ []) q.k (refl, (refl, tt)) c.match.keys2)
-    (λ c. let q = c.before.args in node-one q.i q.a q.b q.c (3 ∷ 22 ∷ []) q.k (refl, (refl, tt)) c.match.keys3)
-    (λ c. let q = c.before.args in node-one q.i q.a q.b q.c (23 ∷ []) q.k (refl, tt) c.match.keys4)
+    (λ c. let q = c.before.args in node_one q.i q.a q.b q.c (1 ∷ 20 ∷ []) q.k (refl, (refl, tt)) c.match.keys1)
+    (λ c. let q = c.before.args in node_one q.i q.a q.b q.c (2 ∷ 21 ∷ []) q.k (refl, (refl, tt)) c.match.keys2)
+    (λ c. let q = c.before.args in node_one q.i q.a q.b q.c (3 ∷ 22 ∷ []) q.k (refl, (refl, tt)) c.match.keys3)
+    (λ c. let q = c.before.args in node_one q.i q.a q.b q.c (23 ∷ []) q.k (refl, tt) c.match.keys4)
     (λ c. let q = c.before.before.args in
     let e = c.named2.ensures in
-    node-one q.i q.a q.b q.c (24 ∷ []) q.k (e, tt) c.before.match.keys5)
+    node_one q.i q.a q.b q.c (24 ∷ []) q.k (e, tt) c.before.match.keys5)
     (λ c. let q = c.before.before.args in
     let e = c.named3.ensures in
-    node-one q.i q.a q.b q.c (25 ∷ []) q.k (e, tt) c.before.match.keys6)
+    node_one q.i q.a q.b q.c (25 ∷ []) q.k (e, tt) c.before.match.keys6)
     (λ c. let q = c.before.before.args in
     let e = c.named22.ensures in
-    node-one q.i q.a q.b q.c (4 ∷ 26 ∷ 46 ∷ []) q.k (e, (e, (e, tt))) c.before.match.keys7)
+    node_one q.i q.a q.b q.c (4 ∷ 26 ∷ 46 ∷ []) q.k (e, (e, (e, tt))) c.before.match.keys7)
     (λ c. let q = c.before.before.args in
     let e = c.named1.ensures in
-    node-one q.i q.a q.b q.c (27 ∷ []) q.k (e, tt) c.before.match.keys8)
+    node_one q.i q.a q.b q.c (27 ∷ []) q.k (e, tt) c.before.match.keys8)
     (λ c. let q = c.before.before.args in
     let e = c.named12.ensures in
-    node-one q.i q.a q.b q.c (28 ∷ []) q.k (e, tt) c.before.match.keys9)
+    node_one q.i q.a q.b q.c (28 ∷ []) q.k (e, tt) c.before.match.keys9)
     (λ c. let q = c.before.before.args in
     let e = c.named13.ensures in
-    node-one q.i q.a q.b q.c (10 ∷ 29 ∷ 45 ∷ 49 ∷ []) q.k (e, (e, (e, (e, tt)))) c.before.match.keys10)
+    node_one q.i q.a q.b q.c (10 ∷ 29 ∷ 45 ∷ 49 ∷ []) q.k (e, (e, (e, (e, tt)))) c.before.match.keys10)
     (λ c. let q = c.before.before.args in
     let e = c.named23.ensures in
-    node-one q.i q.a q.b q.c (30 ∷ []) q.k (e, tt) c.before.match.keys11)
+    node_one q.i q.a q.b q.c (30 ∷ []) q.k (e, tt) c.before.match.keys11)
     (λ c. let q = c.before.before.args in
     let e = c.named24.ensures in
-    node-one q.i q.a q.b q.c (31 ∷ []) q.k (e, tt) c.before.match.keys12)
+    node_one q.i q.a q.b q.c (31 ∷ []) q.k (e, tt) c.before.match.keys12)
     (λ c. let q = c.before.before.args in
     let e = c.named14.ensures in
-    node-one q.i q.a q.b q.c (50 ∷ []) q.k (e, tt) c.before.match.keys13)
+    node_one q.i q.a q.b q.c (50 ∷ []) q.k (e, tt) c.before.match.keys13)
     (λ c.
     let if2 = c.before in
     let if1 = if2.before in
     let start = if1.before.before in
     let q = start.args in
     let e = c.named15.ensures in
-    node-range q.i q.a q.b q.c 40 3 q.k (e, (e, (e, tt))) if1.if1.false if2.if2.true)
+    node_range q.i q.a q.b q.c 40 3 q.k (e, (e, (e, tt))) if1.if1.false if2.if2.true)
     (λ c.
     let if3 = c.before in
     let if2 = if3.before in
     let start = if2.before.before.before in
     let q = start.args in
     let e = c.named25.ensures in
-    node-range q.i q.a q.b q.c 43 2 q.k (e, (e, tt)) if2.if2.false if3.if3.true)
+    node_range q.i q.a q.b q.c 43 2 q.k (e, (e, tt)) if2.if2.false if3.if3.true)
     (λ c.
     let if4 = c.before in
     let if3 = if4.before in
-    let match-at = if3.before.before.before in
-    let start = match-at.before in
+    let match_at = if3.before.before.before in
+    let start = match_at.before in
     let q = start.args in
-    node-choice q.i q.a q.b q.c q.k if3.if3.false if4.if4.true match-at.match.rest c.named26.ensures)
-    (λ c. let q = c.before.before.args in node-none q.i q.a q.b q.c q.k c.if1.true c.before.match.rest)
+    node_choice q.i q.a q.b q.c q.k if3.if3.false if4.if4.true match_at.match.rest c.named26.ensures)
+    (λ c. let q = c.before.before.args in node_none q.i q.a q.b q.c q.k c.if1.true c.before.match.rest)
     (λ c.
-    let match-at = c.before.before.before.before in
-    let q = match-at.before.args in
-    node-past q.i q.a q.b q.c q.k c.if4.false match-at.match.rest))
+    let match_at = c.before.before.before.before in
+    let q = match_at.before.args in
+    node_past q.i q.a q.b q.c q.k c.if4.false match_at.match.rest))

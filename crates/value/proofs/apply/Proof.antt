@@ -4,22 +4,22 @@ use mathlib.Core.Logic.{⊎_elim}
 use native.Mathlib.Omega.{arith}
 use lib.ListN.{get_or}
 use borrow.Author.Rules.{rules}
-use Rattle.value.proofs.Operators.{other-is}
-use Rattle.value.specs.Evaluations.{sureOf}
+use Rattle.value.proofs.Operators.{other_is}
+use Rattle.value.specs.Evaluations.{sure_of}
 use Rattle.value.proofs.apply.Statement.{statement}
 use Rattle.value.proofs.apply.Tie as tie
 
-pub apply-spec : {M : Type 1} → statement M
-apply-spec = tie.close (tie.spec
+pub apply_spec : {M : Type 1} → statement M
+apply_spec = tie.close (tie.spec
     (λ c. search rules) (λ c. search rules) (λ c κs. search rules) (λ c. search rules)
     (λ c κs. search rules) (λ c κs. search rules) (λ c κs. search rules)
-    (λ c. c.sure.ensures ∙ ap sureOf c.before.truth.ensures ∙ c.before.before.compared.ensures)
+    (λ c. c.sure.ensures ∙ ap sure_of c.before.truth.ensures ∙ c.before.before.compared.ensures)
     (λ c κs. search rules) (λ c κs. search rules) (λ c κs. search rules)
-    (λ c. c.sure2.ensures ∙ ap sureOf c.before.truth2.ensures ∙ c.before.before.connected.ensures)
+    (λ c. c.sure2.ensures ∙ ap sure_of c.before.truth2.ensures ∙ c.before.before.connected.ensures)
     (λ c κs. search rules) (λ c κs. search rules)
     (λ c.
     let add = c.before in
     let if1 = add.before in
     let start = if1.before.before.before in
-    other-is start.args.op (get_or start.args.a.leaves 0 0) (get_or start.args.b.leaves 0 0) c.result.result
+    other_is start.args.op (get_or start.args.a.leaves 0 0) (get_or start.args.b.leaves 0 0) c.result.result
     (λ p q. ⊎_elim (λ z. omega arith) (λ z. omega arith) if1.if1.branch) (c.result.ensures _ add.add.ensures)))

@@ -1,17 +1,17 @@
 -- `value::compared` meets its contract, an arm by the law of its operator. Assumes nothing.
 use native.Mathlib.Omega.{arith}
 use borrow.Author.Rules.{rules}
-use Rattle.value.proofs.Operators.{less-is, less-equal-is, equal_is}
+use Rattle.value.proofs.Operators.{less_is, less_equal_is, equal_is}
 use Rattle.value.proofs.compared.Statement.{statement}
 use Rattle.value.proofs.compared.Tie as tie
 
-pub compared-spec : {M : Type 1} → statement M
-compared-spec = tie.close (tie.spec
+pub compared_spec : {M : Type 1} → statement M
+compared_spec = tie.close (tie.spec
     (λ c κs. search rules) (λ c κs. search rules) (λ c κs. search rules)
-    (λ c. let s = c.before.before in less-is s.args.op s.args.x s.args.y c.less.result c.before.match.keys1 c.less.ensures)
-    (λ c. let s = c.before.before in less-equal-is s.args.op s.args.x s.args.y c.at_most.result c.before.match.keys2 c.at_most.ensures)
+    (λ c. let s = c.before.before in less_is s.args.op s.args.x s.args.y c.less.result c.before.match.keys1 c.less.ensures)
+    (λ c. let s = c.before.before in less_equal_is s.args.op s.args.x s.args.y c.at_most.result c.before.match.keys2 c.at_most.ensures)
     (λ c.
-    let match-at = c.before in
-    let start = match-at.before in
+    let match_at = c.before in
+    let start = match_at.before in
     equal_is start.args.op start.args.x start.args.y c.equal.result
-    (omega (arith, start.requires.0, start.requires.1, match-at.match.rest.0.1, match-at.match.rest.1)) c.equal.ensures))
+    (omega (arith, start.requires.0, start.requires.1, match_at.match.rest.0.1, match_at.match.rest.1)) c.equal.ensures))

@@ -1,8 +1,8 @@
 -- `value::first` meets its contract, by its shape and its leaves. Assumes nothing.
 use mathlib.Core.Path.{ap, ◌∙◌}
 use borrow.Author.Rules.{rules}
-use Rattle.shape.specs.Shape.{shapeLeaves}
-use Rattle.value.specs.Values.{noLeaves, joined}
+use Rattle.shape.specs.Shape.{shape_leaves}
+use Rattle.value.specs.Values.{no_leaves, joined}
 use Rattle.value.proofs.Parts.{made}
 use Rattle.value.proofs.first.Statement.{statement}
 use Rattle.value.proofs.first.Tie as tie
@@ -12,8 +12,8 @@ first_spec = tie.close (tie.spec
     (λ c κs. search rules) (λ c κs. search rules) (λ c κs. search rules)
     (λ c.
     let Leaves-of = c.before in
-    let first-shape = Leaves-of.before.before in
-    let start = first-shape.before in
+    let first_shape_lem = Leaves-of.before.before in
+    let start = first_shape_lem.before in
     let a = start.args in
-    let s = first-shape.first-shape.ensures in
-    made s (c.joined.ensures ∙ ap (λ n. joined n a.a.leaves noLeaves) (Leaves-of.Leaves-of.ensures.0 ∙ ap shapeLeaves s))))
+    let s = first_shape_lem.first-shape.ensures in
+    made s (c.joined.ensures ∙ ap (λ n. joined n a.a.leaves no_leaves) (Leaves-of.Leaves-of.ensures.0 ∙ ap shape_leaves s))))

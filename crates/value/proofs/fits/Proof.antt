@@ -9,31 +9,31 @@ use borrow.Author.Rules.{rules}
 use borrow.Author.Tests.{not-true, not-false}
 use Rattle.word.specs.Word.{words}
 use Rattle.word.proofs.Lists.{bits_below}
-use Rattle.tophat.specs.Syntax.{maxLeaves}
-use Rattle.value.proofs.Fitting.{metAt, fits-other, fits-none, fits_all, fits-unmet}
+use Rattle.tophat.specs.Syntax.{max_leaves}
+use Rattle.value.proofs.Fitting.{met_at, fits_other, fits_none, fits_all, fits_unmet}
 use Rattle.value.proofs.fits.Statement.{statement}
 use Rattle.value.proofs.fits.Tie as tie
 
 abbrev invariant-loop : tie.invariant-loop
-invariant-loop shape kinds leaves i₀ i = (i ≤ maxLeaves) × ((j : ℕ) → j < i → metAt kinds leaves j ≡ true) × ((j : ℕ) → j < i → get_or leaves j 0 < words)
+invariant-loop shape kinds leaves i₀ i = (i ≤ max_leaves) × ((j : ℕ) → j < i → met_at kinds leaves j ≡ true) × ((j : ℕ) → j < i → get_or leaves j 0 < words)
 
 abbrev decreases-loop : tie.decreases-loop
-decreases-loop shape kinds leaves i₀ i = maxLeaves - i
+decreases-loop shape kinds leaves i₀ i = max_leaves - i
 
-pub fits-spec : {M : Type 1} → statement M
-fits-spec = tie.close (tie.spec
+pub fits_spec : {M : Type 1} → statement M
+fits_spec = tie.close (tie.spec
     invariant-loop
     decreases-loop
-    (λ c. let a = c.before.before.args in (fits-other a.v a.shape c.if1.true, λ z. absurd (false≢true z)))
+    (λ c. let a = c.before.before.args in (fits_other a.v a.shape c.if1.true, λ z. absurd (false≢true z)))
     (λ c κs. search rules) (λ c. search rules)
-    (λ c. let a = c.before.before.before.before.args in (fits-none a.v a.shape c.before.leaf-kinds.result c.before.leaf-kinds.ensures c.if2.true, λ z. absurd (false≢true z)))
+    (λ c. let a = c.before.before.before.before.args in (fits_none a.v a.shape c.before.leaf-kinds.result c.before.leaf-kinds.ensures c.if2.true, λ z. absurd (false≢true z)))
     (λ c. (omega arith, (λ j h. absurd (omega arith)), (λ j h. absurd (omega arith))))
     (λ c. search rules) (λ c. search rules) (λ c. search rules) (λ c. search rules) (λ c κs. search rules)
     (λ c.
     let l = c.before.before.before in
     let k = l.before.before.before in
     let a = k.before.before.before.args in (
-      fits-unmet a.v a.shape k.leaf-kinds.result k.leaf-kinds.ensures k.before.if1.false (search rules) (search rules) l.before.before.if2.false l.loop.i c.before.before.loop-test.true
+      fits_unmet a.v a.shape k.leaf-kinds.result k.leaf-kinds.ensures k.before.if1.false (search rules) (search rules) l.before.before.if2.false l.loop.i c.before.before.loop-test.true
           (sym c.before.meets.ensures.0 ∙ not-true _ c.if3.true),
       λ z. absurd (false≢true z),
     ))
@@ -42,8 +42,8 @@ fits-spec = tie.close (tie.spec
     (λ c.
     let k = c.before.before.before.before in
     let a = k.before.before.before.args in
-    let e : length a.v.leaves ≡ maxLeaves = search rules in (
+    let e : length a.v.leaves ≡ max_leaves = search rules in (
       fits_all a.v a.shape k.leaf-kinds.result k.leaf-kinds.ensures k.before.if1.false (search rules) (search rules) c.before.before.before.if2.false
           (λ j h. c.before.loop.invariant.1 j (omega arith)),
-      λ z. bits_below maxLeaves a.v.leaves (omega (arith, e)) (λ j h. c.before.loop.invariant.2 j (omega arith)),
+      λ z. bits_below max_leaves a.v.leaves (omega (arith, e)) (λ j h. c.before.loop.invariant.2 j (omega arith)),
     )))

@@ -5,21 +5,21 @@ use Prim.Native.Nat.{◌-◌, ◌≤◌}
 use native.Mathlib.Omega.{arith}
 use lib.ListN.{length, length-set}
 use borrow.Author.Rules.{rules}
-use Rattle.word.proofs.Tabulate.{FilledTo, filled_more, filled-all}
-use Rattle.tophat.specs.Syntax.{maxLeaves}
-use Rattle.value.specs.Values.{joinedAt}
-use Rattle.value.proofs.Parts.{joined-front, joined_back}
+use Rattle.word.proofs.Tabulate.{FilledTo, filled_more, filled_all}
+use Rattle.tophat.specs.Syntax.{max_leaves}
+use Rattle.value.specs.Values.{joined_at}
+use Rattle.value.proofs.Parts.{joined_front, joined_back}
 use Rattle.value.proofs.joined.Statement.{statement}
 use Rattle.value.proofs.joined.Tie as tie
 
 abbrev invariant-loop : tie.invariant-loop
-invariant-loop n ys xs leaves₀ i₀ leaves i = (i ≤ maxLeaves) × (length leaves ≡ maxLeaves) × FilledTo (joinedAt n xs ys) 0 i leaves
+invariant-loop n ys xs leaves₀ i₀ leaves i = (i ≤ max_leaves) × (length leaves ≡ max_leaves) × FilledTo (joined_at n xs ys) 0 i leaves
 
 abbrev decreases-loop : tie.decreases-loop
-decreases-loop n ys xs leaves₀ i₀ leaves i = maxLeaves - i
+decreases-loop n ys xs leaves₀ i₀ leaves i = max_leaves - i
 
-pub joined-spec : {M : Type 1} → statement M
-joined-spec = tie.close (tie.spec
+pub joined_spec : {M : Type 1} → statement M
+joined_spec = tie.close (tie.spec
     invariant-loop
     decreases-loop
     (λ c. search rules) (λ c. search rules) (λ c. search rules) (λ c. search rules) (λ c κs. search rules)
@@ -29,9 +29,9 @@ joined-spec = tie.close (tie.spec
     let start = loop.before in
     let l = loop.loop in
     let a = start.args in
-    let x = ⊎_elim (λ (t, e). joined-front a.t2 a.ys a.n l.i c.if1.leaves t.taken e) (λ (t, g, e). joined_back a.t2 a.ys a.n l.i c.if1.leaves t.left (e ∙ g.ensures)) c.if1.branch in
-    (omega arith, length-set l.leaves l.i c.if1.leaves ∙ l.invariant.1, filled_more (joinedAt a.n a.t2 a.ys) 0 l.leaves l.i c.if1.leaves (omega arith) x l.invariant.2))
+    let x = ⊎_elim (λ (t, e). joined_front a.t2 a.ys a.n l.i c.if1.leaves t.taken e) (λ (t, g, e). joined_back a.t2 a.ys a.n l.i c.if1.leaves t.left (e ∙ g.ensures)) c.if1.branch in
+    (omega arith, length-set l.leaves l.i c.if1.leaves ∙ l.invariant.1, filled_more (joined_at a.n a.t2 a.ys) 0 l.leaves l.i c.if1.leaves (omega arith) x l.invariant.2))
     (λ c.
     let l = c.before.loop in
     let a = c.before.before.args in
-    filled-all (joinedAt a.n a.t2 a.ys) 0 maxLeaves l.i l.leaves l.invariant.1 c.loop-test.false l.invariant.2))
+    filled_all (joined_at a.n a.t2 a.ys) 0 max_leaves l.i l.leaves l.invariant.1 c.loop-test.false l.invariant.2))

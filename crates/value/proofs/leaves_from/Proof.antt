@@ -4,19 +4,19 @@ use Prim.Native.Nat.{◌+◌, ◌-◌, ◌≤◌}
 use native.Mathlib.Omega.{arith}
 use lib.ListN.{length, get_or, length-set}
 use borrow.Author.Rules.{rules}
-use Rattle.word.proofs.Tabulate.{FilledTo, filled_more, filled-all}
-use Rattle.tophat.specs.Syntax.{maxLeaves}
+use Rattle.word.proofs.Tabulate.{FilledTo, filled_more, filled_all}
+use Rattle.tophat.specs.Syntax.{max_leaves}
 use Rattle.value.proofs.leaves_from.Statement.{statement}
 use Rattle.value.proofs.leaves_from.Tie as tie
 
 abbrev invariant-loop : tie.invariant-loop
-invariant-loop n xs leaves₀ i₀ leaves i = (i ≤ maxLeaves) × (length leaves ≡ maxLeaves) × FilledTo (λ j. get_or xs (n + j) 0) 0 i leaves
+invariant-loop n xs leaves₀ i₀ leaves i = (i ≤ max_leaves) × (length leaves ≡ max_leaves) × FilledTo (λ j. get_or xs (n + j) 0) 0 i leaves
 
 abbrev decreases-loop : tie.decreases-loop
-decreases-loop n xs leaves₀ i₀ leaves i = maxLeaves - i
+decreases-loop n xs leaves₀ i₀ leaves i = max_leaves - i
 
-pub leaves-from-spec : {M : Type 1} → statement M
-leaves-from-spec = tie.close (tie.spec
+pub leaves_from_spec : {M : Type 1} → statement M
+leaves_from_spec = tie.close (tie.spec
     invariant-loop
     decreases-loop
     (λ c. search rules) (λ c. search rules) (λ c κs. search rules) (λ c. search rules) (λ c. search rules)
@@ -31,4 +31,4 @@ leaves-from-spec = tie.close (tie.spec
     (λ c.
     let l = c.before.loop in
     let a = c.before.before.args in
-    filled-all (λ j. get_or a.xs (a.n + j) 0) 0 maxLeaves l.i l.leaves l.invariant.1 c.loop-test.false l.invariant.2))
+    filled_all (λ j. get_or a.xs (a.n + j) 0) 0 max_leaves l.i l.leaves l.invariant.1 c.loop-test.false l.invariant.2))

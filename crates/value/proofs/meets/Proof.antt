@@ -1,29 +1,29 @@
 -- `value::meets` meets its contract, a return by the law of its case. Assumes nothing.
 use mathlib.Core.Path.{sym, ◌∙◌}
 use borrow.Author.Rules.{rules}
-use Rattle.value.proofs.Fitting.{meets-number, meets-zero, meets-one, meets-not}
+use Rattle.value.proofs.Fitting.{meets_number, meets_zero, meets_one, meets_not}
 use Rattle.value.proofs.meets.Statement.{statement}
 use Rattle.value.proofs.meets.Tie as tie
 
-pub meets-spec : {M : Type 1} → statement M
-meets-spec = tie.close (tie.spec
-    (λ c. let s = c.before in (meets-number s.args.leaf s.args.kind s.ranges.leaf.fits c.if1.true, s.ranges.leaf.fits))
+pub meets_spec : {M : Type 1} → statement M
+meets_spec = tie.close (tie.spec
+    (λ c. let s = c.before in (meets_number s.args.leaf s.args.kind s.ranges.leaf.fits c.if1.true, s.ranges.leaf.fits))
     (λ c κs. search rules)
     (λ c.
     let equal = c.before in
     let if1 = equal.before in
     let start = if1.before in
-    (meets-zero start.args.leaf start.args.kind if1.if1.false (sym equal.equal.ensures ∙ c.if2.true), start.ranges.leaf.fits))
+    (meets_zero start.args.leaf start.args.kind if1.if1.false (sym equal.equal.ensures ∙ c.if2.true), start.ranges.leaf.fits))
     (λ c κs. search rules)
     (λ c.
     let if3 = c.before in
     let if2 = if3.before in
     let equal = if2.before in
     let start = equal.before.before in
-    (meets-one start.args.leaf start.args.kind c.equal2.result if3.if3.true (sym equal.equal.ensures ∙ if2.if2.false) c.equal2.ensures, start.ranges.leaf.fits))
+    (meets_one start.args.leaf start.args.kind c.equal2.result if3.if3.true (sym equal.equal.ensures ∙ if2.if2.false) c.equal2.ensures, start.ranges.leaf.fits))
     (λ c.
     let if2 = c.before in
     let equal = if2.before in
     let if1 = equal.before in
     let start = if1.before in
-    (meets-not start.args.leaf start.args.kind if1.if1.false c.if3.false (sym equal.equal.ensures ∙ if2.if2.false), start.ranges.leaf.fits)))
+    (meets_not start.args.leaf start.args.kind if1.if1.false c.if3.false (sym equal.equal.ensures ∙ if2.if2.false), start.ranges.leaf.fits)))

@@ -5,6 +5,6 @@ use Rattle.value.proofs.Operators.{number_is}
 use Rattle.value.proofs.number.Statement.{statement}
 use Rattle.value.proofs.number.Tie as tie
 
-pub number-spec : {M : Type 1} → statement M
-number-spec = tie.close (tie.spec
+pub number_spec : {M : Type 1} → statement M
+number_spec = tie.close (tie.spec
     (λ c κs. search rules) (λ c. c.single.ensures ∙ number_is c.before.args.w (search rules)))

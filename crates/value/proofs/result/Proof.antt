@@ -2,8 +2,8 @@
 use mathlib.Core.Path.{sym, ap, ◌∙◌}
 use mathlib.Core.Bool.{true}
 use borrow.Author.Rules.{rules}
-use Rattle.value.specs.Evaluations.{sureOf}
-use Rattle.value.proofs.Operators.{exactly-word, exactly-beyond}
+use Rattle.value.specs.Evaluations.{sure_of}
+use Rattle.value.proofs.Operators.{exactly_word, exactly_beyond}
 use Rattle.value.proofs.result.Statement.{statement}
 use Rattle.value.proofs.result.Tie as tie
 
@@ -11,10 +11,10 @@ returns : tie.Need-returns
 returns c z e =
     let told = c.before.before in
     let r = told.before in
-    c.sure.ensures ∙ ap sureOf c.before.number.ensures ∙ exactly-word z r.r.given.0.0 (sym r.r.given.1 ∙ e)
+    c.sure.ensures ∙ ap sure_of c.before.number.ensures ∙ exactly_word z r.r.given.0.0 (sym r.r.given.1 ∙ e)
 
-returns-2 : tie.Need-returns-2
-returns-2 c z e = ap (λ v. record { over = true; value = v }) c.number2.ensures ∙ exactly-beyond z (sym c.before.enum_told.given.1 ∙ e)
+returns_2 : tie.Need-returns-2
+returns_2 c z e = ap (λ v. record { over = true; value = v }) c.number2.ensures ∙ exactly_beyond z (sym c.before.enum_told.given.1 ∙ e)
 
-pub result-spec : {M : Type 1} → statement M
-result-spec = tie.close (tie.spec (λ c. search rules) (λ c κs. search rules) (λ c κs. search rules) (λ c. search rules) (λ c κs. search rules) returns returns-2)
+pub result_spec : {M : Type 1} → statement M
+result_spec = tie.close (tie.spec (λ c. search rules) (λ c κs. search rules) (λ c κs. search rules) (λ c. search rules) (λ c κs. search rules) returns returns_2)

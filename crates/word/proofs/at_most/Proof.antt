@@ -1,12 +1,12 @@
--- `word::at_most` meets its contract: the order of the flipped bits, by `at-most-number`. Assumes nothing.
+-- `word::at_most` meets its contract: the order of the flipped bits, by `at_most_number`. Assumes nothing.
 use mathlib.Core.Path.{◌∙◌}
 use native.Mathlib.Omega.{arith}
 use lib.Dec.{leb}
 use borrow.Author.Rules.{rules}
-use Rattle.word.proofs.Order.{at-most-number}
+use Rattle.word.proofs.Order.{at_most_number}
 use Rattle.word.proofs.at_most.Statement.{statement}
 use Rattle.word.proofs.at_most.Tie as tie
 
-pub at-most-spec : {M : Type 1} → statement M
-at-most-spec = tie.close (tie.spec (λ c κs. search rules) (λ c κs. search rules)
-    (λ c. let s = c.before.before in (λ i. leb (c.before.flipped.ensures i) (c.flipped2.ensures i)) ∙ at-most-number s.args.a s.args.b (omega arith) (omega arith)))
+pub at_most_spec : {M : Type 1} → statement M
+at_most_spec = tie.close (tie.spec (λ c κs. search rules) (λ c κs. search rules)
+    (λ c. let s = c.before.before in (λ i. leb (c.before.flipped.ensures i) (c.flipped2.ensures i)) ∙ at_most_number s.args.a s.args.b (omega arith) (omega arith)))

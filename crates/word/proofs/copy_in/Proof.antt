@@ -11,8 +11,8 @@ use mir.Val.{of_z}
 use borrow.Author.Count.{below_none, below_more}
 use borrow.Author.Rules.{rules}
 use Rattle.word.specs.Word.{IsWord, AllWords}
-use Rattle.word.proofs.TwosComplement.{number-bits}
-use Rattle.word.proofs.Laid.{laid_more, laid_done, all_read, all-written}
+use Rattle.word.proofs.TwosComplement.{number_bits}
+use Rattle.word.proofs.Laid.{laid_more, laid_done, all_read, all_written}
 use Rattle.word.proofs.Lists.{words_take}
 use Rattle.word.proofs.copy_in.Statement.{statement}
 use Rattle.word.proofs.copy_in.Tie as tie
@@ -44,18 +44,18 @@ copy_in_spec = tie.close (tie.spec invariant-loop decreases-loop
     (λ c. search rules)
     (λ c. search rules)
     (λ c.
-    let bits-arg = c.before in
-    let loop = bits-arg.before.before.before in
+    let bits_arg = c.before in
+    let loop = bits_arg.before.before.before in
     let start = loop.before.before in
     let a = start.args in
     let l = loop.loop in
-    let w : IsWord (get_or a.lent.now l.i (pos 0)) = bits-arg.bits-arg.given in
-    (l.invariant.0, omega arith, omega arith, simp length-set l.invariant.3, laid_more (of_z w32) a.lent.now a.own.now l.own l.i (pos 0) 0 c.bits.result (omega arith) (omega arith) l.invariant.4 (c.bits.ensures ∙ ap (of_z w32) (number-bits (get_or a.lent.now l.i (pos 0)) w)), below_more (λ k. IsWord (get_or a.lent.now k (pos 0))) l.i l.invariant.5 w))
+    let w : IsWord (get_or a.lent.now l.i (pos 0)) = bits_arg.bits-arg.given in
+    (l.invariant.0, omega arith, omega arith, simp length-set l.invariant.3, laid_more (of_z w32) a.lent.now a.own.now l.own l.i (pos 0) 0 c.bits.result (omega arith) (omega arith) l.invariant.4 (c.bits.ensures ∙ ap (of_z w32) (number_bits (get_or a.lent.now l.i (pos 0)) w)), below_more (λ k. IsWord (get_or a.lent.now k (pos 0))) l.i l.invariant.5 w))
     (λ c. c.before.loop.invariant.3)
     (λ c.
     let loop = c.before in
     let start = loop.before.before in
     let a = start.args in
     let l = loop.loop in
-    let d = all-written a.lent.now a.own.now l.i (omega arith) (omega arith) (omega arith) in
+    let d = all_written a.lent.now a.own.now l.i (omega arith) (omega arith) (omega arith) in
     (laid_done a.lent.now a.own.now l.i (of_z w32) l.own d l.invariant.4, subst AllWords d.0 (words_take l.i a.lent.now l.invariant.5))))

@@ -9,8 +9,8 @@ use lib.ListN.{length, take, drop, length-set}
 use mir.Syntax.{w32}
 use mir.Val.{to_z, of_z}
 use borrow.Author.Rules.{rules}
-use Rattle.word.proofs.TwosComplement.{number-bits}
-use Rattle.word.proofs.Laid.{laid_more, laid_done, all_read, all-written}
+use Rattle.word.proofs.TwosComplement.{number_bits}
+use Rattle.word.proofs.Laid.{laid_more, laid_done, all_read, all_written}
 use Rattle.word.proofs.copy_out.Statement.{statement}
 use Rattle.word.proofs.copy_out.Tie as tie
 
@@ -21,8 +21,8 @@ invariant-loop own lent₀ i₀ i-end lent i =
 abbrev decreases-loop : tie.decreases-loop
 decreases-loop own lent₀ i₀ i-end lent i = i-end - i
 
-pub copy-out-spec : {M : Type 1} → statement M
-copy-out-spec = tie.close (tie.spec invariant-loop decreases-loop
+pub copy_out_spec : {M : Type 1} → statement M
+copy_out_spec = tie.close (tie.spec invariant-loop decreases-loop
     (λ c. (refl, search rules, search rules, refl, refl))
     (λ c. c.before.before.loop.invariant.3)
     (λ c.
@@ -44,7 +44,7 @@ copy-out-spec = tie.close (tie.spec invariant-loop decreases-loop
     let start = loop.before.before in
     let a = start.args in
     let l = loop.loop in
-    (l.invariant.0, omega arith, omega arith, simp length-set l.invariant.3, laid_more (to_z w32) a.own.now a.lent.now l.lent l.i 0 (pos 0) (to_z w32 (of_z w32 c.number.result)) (omega arith) (omega arith) l.invariant.4 (number-bits c.number.result c.number.type-inv ∙ c.number.ensures)))
+    (l.invariant.0, omega arith, omega arith, simp length-set l.invariant.3, laid_more (to_z w32) a.own.now a.lent.now l.lent l.i 0 (pos 0) (to_z w32 (of_z w32 c.number.result)) (omega arith) (omega arith) l.invariant.4 (number_bits c.number.result c.number.type-inv ∙ c.number.ensures)))
     (λ c. c.before.loop.invariant.3)
     (λ c.
     let loop = c.before in
@@ -52,4 +52,4 @@ copy-out-spec = tie.close (tie.spec invariant-loop decreases-loop
     let a = start.args in
     let l = loop.loop in
     laid_done a.own.now a.lent.now l.i (to_z w32) l.lent
-    (all-written a.own.now a.lent.now l.i (omega arith) (omega arith) (omega arith)) l.invariant.4))
+    (all_written a.own.now a.lent.now l.i (omega arith) (omega arith) (omega arith)) l.invariant.4))

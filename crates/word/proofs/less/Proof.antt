@@ -1,12 +1,12 @@
--- `word::less` meets its contract: the order of the flipped bits, by `less-number`. Assumes nothing.
+-- `word::less` meets its contract: the order of the flipped bits, by `less_number`. Assumes nothing.
 use mathlib.Core.Path.{◌∙◌}
 use native.Mathlib.Omega.{arith}
 use lib.Dec.{ltb}
 use borrow.Author.Rules.{rules}
-use Rattle.word.proofs.Order.{less-number}
+use Rattle.word.proofs.Order.{less_number}
 use Rattle.word.proofs.less.Statement.{statement}
 use Rattle.word.proofs.less.Tie as tie
 
-pub less-spec : {M : Type 1} → statement M
-less-spec = tie.close (tie.spec (λ c κs. search rules) (λ c κs. search rules)
-    (λ c. let s = c.before.before in (λ i. ltb (c.before.flipped.ensures i) (c.flipped2.ensures i)) ∙ less-number s.args.a s.args.b (omega arith) (omega arith)))
+pub less_spec : {M : Type 1} → statement M
+less_spec = tie.close (tie.spec (λ c κs. search rules) (λ c κs. search rules)
+    (λ c. let s = c.before.before in (λ i. ltb (c.before.flipped.ensures i) (c.flipped2.ensures i)) ∙ less_number s.args.a s.args.b (omega arith) (omega arith)))

@@ -6,17 +6,17 @@ use lib.IntN.{negsuc, ◌-ℤ◌}
 use mir.Syntax.{w32}
 use mir.Val.{to_z, of_z}
 use borrow.Author.Rules.{rules}
-use Rattle.word.proofs.TwosComplement.{number-low, number-high, number-bits}
-use Rattle.word.proofs.Signs.{less-pos}
+use Rattle.word.proofs.TwosComplement.{number_low, number_high, number_bits}
+use Rattle.word.proofs.Signs.{less_pos}
 use Rattle.word.proofs.number.Statement.{statement}
 use Rattle.word.proofs.number.Tie as tie
 
-y-is : (c : tie.Else1) → negsuc 0 -ℤ to_z w32 (4294967295 - c.before.args.u) ≡ negsuc (4294967295 - c.before.args.u)
-y-is c = rw (number-low (4294967295 - c.before.args.u) (omega arith)) (less-pos (4294967295 - c.before.args.u))
+y_is : (c : tie.Else1) → negsuc 0 -ℤ to_z w32 (4294967295 - c.before.args.u) ≡ negsuc (4294967295 - c.before.args.u)
+y_is c = rw (number_low (4294967295 - c.before.args.u) (omega arith)) (less_pos (4294967295 - c.before.args.u))
 
-pub number-spec : {M : Type 1} → statement M
-number-spec = tie.close (tie.spec (λ c. search rules) (λ c. search rules) (λ c. search rules)
-    (λ c. rw (y-is c) (record { sfits = omega arith }))
+pub number_spec : {M : Type 1} → statement M
+number_spec = tie.close (tie.spec (λ c. search rules) (λ c. search rules) (λ c. search rules)
+    (λ c. rw (y_is c) (record { sfits = omega arith }))
     (λ c. search rules)
     (λ c. let u = c.before.args.u in let e : negsuc (4294967296 - suc u) ≡ negsuc (4294967295 - u) = ap negsuc (omega arith) in
-    ap (λ z. to_z w32 (of_z w32 z)) (y-is c) ∙ number-bits (negsuc (4294967295 - u)) (omega arith) ∙ sym (number-high u (omega arith) (omega arith) ∙ e)))
+    ap (λ z. to_z w32 (of_z w32 z)) (y_is c) ∙ number_bits (negsuc (4294967295 - u)) (omega arith) ∙ sym (number_high u (omega arith) (omega arith) ∙ e)))

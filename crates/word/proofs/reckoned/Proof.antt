@@ -5,8 +5,8 @@ use mir.Syntax.{w32, w64}
 use mir.Val.{to_z, of_z}
 use Rattle.word.specs.declared.Reckoning.TheVariants.{Word}
 use Rattle.word.specs.Word.{IsWord}
-use Rattle.word.proofs.TwosComplement.{number-bits}
-use Rattle.word.proofs.Results.{beyond-low, beyond-high, within, reckoning-word, wide_is}
+use Rattle.word.proofs.TwosComplement.{number_bits}
+use Rattle.word.proofs.Results.{beyond_low, beyond_high, within, reckoning_word, wide_is}
 use Rattle.word.proofs.reckoned.Statement.{statement}
 use Rattle.word.proofs.reckoned.Tie as tie
 
@@ -18,14 +18,14 @@ z_word c =
     let s = c.before.before in
     within s.args.z (rw (back s) at c.before.if1.false) (rw (back s) at c.if2.false)
 
-pub reckoned-spec : {M : Type 1} → statement M
-reckoned-spec = tie.close (tie.spec
-    (λ c. let s = c.before in sym (beyond-low s.args.z (rw (back s) at c.if1.true)))
-    (λ c. let s = c.before.before in sym (beyond-high s.args.z (rw (back s) at c.if2.true)))
+pub reckoned_spec : {M : Type 1} → statement M
+reckoned_spec = tie.close (tie.spec
+    (λ c. let s = c.before in sym (beyond_low s.args.z (rw (back s) at c.if1.true)))
+    (λ c. let s = c.before.before in sym (beyond_high s.args.z (rw (back s) at c.if2.true)))
     (λ c. let s = c.before.before in rw (back s) (record { sfits = z_word c }))
     (λ c κs. search rules)
     (λ c.
     let s = c.before.before.before in
     let e = back s in
-    ap Word (c.bits.ensures ∙ ap (of_z w32) (ap (λ z. to_z w32 (of_z w32 z)) e ∙ number-bits s.args.z (z_word c.before)))
-    ∙ sym (reckoning-word s.args.z (z_word c.before))))
+    ap Word (c.bits.ensures ∙ ap (of_z w32) (ap (λ z. to_z w32 (of_z w32 z)) e ∙ number_bits s.args.z (z_word c.before)))
+    ∙ sym (reckoning_word s.args.z (z_word c.before))))

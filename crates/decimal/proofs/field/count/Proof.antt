@@ -5,7 +5,7 @@ use native.Mathlib.Omega.{arith}
 use borrow.Author.Rules.{rules}
 use lib.Seq.{slice}
 use Rattle.decimal.specs.Field.{counted}
-use Rattle.decimal.proofs.ReadLaws.{count-more, count_low, count-high, count-led, count-over, count_none}
+use Rattle.decimal.proofs.ReadLaws.{count_more, count_low, count_high, count_led, count_over, count_none}
 use Rattle.decimal.proofs.field.count.Statement.{statement}
 use Rattle.decimal.proofs.field.count.Tie as tie
 
@@ -32,7 +32,7 @@ count_spec = tie.close (tie.spec invariant-loop decreases-loop
     let start = loop.before in
     let l = loop.loop in
     sym
-    (l.invariant.2 ∙ count-high start.args.most l.n start.args.s.now l.i start.args.end test.loop-test.true start.requires.1 (omega arith)))
+    (l.invariant.2 ∙ count_high start.args.most l.n start.args.s.now l.i start.args.end test.loop-test.true start.requires.1 (omega arith)))
     (λ c. search rules)
     (λ c. search rules)
     (λ c. search rules)
@@ -43,14 +43,14 @@ count_spec = tie.close (tie.spec invariant-loop decreases-loop
     let start = loop.before in
     let l = loop.loop in
     sym
-    (l.invariant.2 ∙ count-led start.args.most l.n start.args.s.now l.i start.args.end test.loop-test.true start.requires.1 (omega arith)))
+    (l.invariant.2 ∙ count_led start.args.most l.n start.args.s.now l.i start.args.end test.loop-test.true start.requires.1 (omega arith)))
     (λ c.
     let test = c.before.before.before.before.before in
     let loop = test.before in
     let start = loop.before in
     let l = loop.loop in
     sym
-    (l.invariant.2 ∙ count-over start.args.most l.n start.args.s.now l.i start.args.end test.loop-test.true start.requires.1 (omega arith)))
+    (l.invariant.2 ∙ count_over start.args.most l.n start.args.s.now l.i start.args.end test.loop-test.true start.requires.1 (omega arith)))
     (λ c. search rules)
     (λ c. search rules)
     (λ c. search rules)
@@ -59,5 +59,5 @@ count_spec = tie.close (tie.spec invariant-loop decreases-loop
     let loop = test.before in
     let start = loop.before in
     let l = loop.loop in
-    (omega arith, omega arith, l.invariant.2 ∙ count-more start.args.most l.n start.args.s.now l.i start.args.end test.loop-test.true start.requires.1 (omega arith) (omega arith) (omega arith) (omega arith)))
+    (omega arith, omega arith, l.invariant.2 ∙ count_more start.args.most l.n start.args.s.now l.i start.args.end test.loop-test.true start.requires.1 (omega arith) (omega arith) (omega arith) (omega arith)))
     (λ c. let s = c.before.before in let l = c.before.loop in count_none s.args.most l.n s.args.s.now l.i s.args.end (omega arith) ∙ sym l.invariant.2))

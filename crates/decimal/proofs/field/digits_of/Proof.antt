@@ -4,7 +4,7 @@ use mathlib.Core.Path.{◌≡◌, ap}
 use native.Mathlib.Omega.{arith}
 use lib.ListN.{length}
 use Rattle.decimal.specs.Field.{decimal}
-use Rattle.decimal.proofs.WriteLaws.{length_digits, decimal-count, decimal-0}
+use Rattle.decimal.proofs.WriteLaws.{length_digits, decimal_count, decimal_0}
 use Rattle.decimal.proofs.field.digits_of.Statement.{statement}
 use Rattle.decimal.proofs.field.digits_of.Tie as tie
 
@@ -14,10 +14,10 @@ invariant-loop n m₀ k₀ m k = k + length (decimal m) ≡ length (decimal n)
 abbrev decreases-loop : tie.decreases-loop
 decreases-loop n m₀ k₀ m k = m
 
-pub digits-of-spec : {M : Type 1} → statement M
-digits-of-spec = tie.close (tie.spec invariant-loop decreases-loop
+pub digits_of_spec : {M : Type 1} → statement M
+digits_of_spec = tie.close (tie.spec invariant-loop decreases-loop
     (λ c. omega arith)
-    (λ c. let s = c.before.before in let l = c.before.loop in omega (arith, l.invariant, decimal-count l.m c.loop-test.true, length_digits s.args.n s.args.n))
+    (λ c. let s = c.before.before in let l = c.before.loop in omega (arith, l.invariant, decimal_count l.m c.loop-test.true, length_digits s.args.n s.args.n))
     (λ c. omega arith)
-    (λ c. let l = c.before.loop in omega (arith, l.invariant, decimal-count l.m c.loop-test.true))
-    (λ c. let s = c.before.before in let l = c.before.loop in let z = ap length (decimal-0 l.m (omega arith)) in (omega (arith, l.invariant, z), omega (arith, l.invariant, z, length_digits s.args.n s.args.n))))
+    (λ c. let l = c.before.loop in omega (arith, l.invariant, decimal_count l.m c.loop-test.true))
+    (λ c. let s = c.before.before in let l = c.before.loop in let z = ap length (decimal_0 l.m (omega arith)) in (omega (arith, l.invariant, z), omega (arith, l.invariant, z, length_digits s.args.n s.args.n))))

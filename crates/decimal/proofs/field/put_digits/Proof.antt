@@ -5,7 +5,7 @@ use native.Mathlib.Omega.{arith}
 use borrow.Author.Rules.{rules}
 use lib.ListN.{length, length-set}
 use Rattle.decimal.specs.Field.{nought}
-use Rattle.decimal.proofs.WriteLaws.{decimal-count, Stored, stored-0, stored_more, stored-all}
+use Rattle.decimal.proofs.WriteLaws.{decimal_count, Stored, stored_0, stored_more, stored_all}
 use Rattle.decimal.proofs.field.put_digits.Statement.{statement}
 use Rattle.decimal.proofs.field.put_digits.Tie as tie
 
@@ -15,14 +15,14 @@ invariant-loop s₀ at end n m₀ i₀ s m i = (i ≤ length s₀) × (length s 
 abbrev decreases-loop : tie.decreases-loop
 decreases-loop s₀ at end n m₀ i₀ s m i = m
 
-pub put-digits-spec : {M : Type 1} → statement M
-put-digits-spec = tie.close (tie.spec invariant-loop decreases-loop
-    (λ c. (c.requires.1, refl, stored-0 c.args.n c.args.at c.args.end c.args.s.now c.requires.0))
-    (λ c. let l = c.before.loop in omega (arith, l.invariant.2.place, decimal-count l.m c.loop-test.true))
+pub put_digits_spec : {M : Type 1} → statement M
+put_digits_spec = tie.close (tie.spec invariant-loop decreases-loop
+    (λ c. (c.requires.1, refl, stored_0 c.args.n c.args.at c.args.end c.args.s.now c.requires.0))
+    (λ c. let l = c.before.loop in omega (arith, l.invariant.2.place, decimal_count l.m c.loop-test.true))
     (λ c. search rules)
     (λ c. search rules)
-    (λ c. let l = c.before.loop in omega (arith, l.invariant.0, l.invariant.1, l.invariant.2.place, decimal-count l.m c.loop-test.true))
+    (λ c. let l = c.before.loop in omega (arith, l.invariant.0, l.invariant.1, l.invariant.2.place, decimal_count l.m c.loop-test.true))
     (λ c. search rules)
     (λ c. let s = c.before.before in let l = c.before.loop in (omega (arith, l.invariant.0), length-set l.s (l.i - 1) (nought + l.m % 10) ∙ l.invariant.1, stored_more s.args.n l.m s.args.at l.i s.args.s.now l.s c.loop-test.true l.invariant.2))
     (λ c. let l = c.before.loop in l.invariant.1)
-    (λ c. let s = c.before.before in let l = c.before.loop in stored-all s.args.n l.m s.args.at l.i s.args.s.now l.s (omega arith) l.invariant.2))
+    (λ c. let s = c.before.before in let l = c.before.loop in stored_all s.args.n l.m s.args.at l.i s.args.s.now l.s (omega arith) l.invariant.2))

@@ -7,49 +7,49 @@ use borrow.Author.Rules.{rules}
 use lib.ListN.{length, set, length-set}
 use lib.Seq.{sets}
 use Rattle.decimal.specs.Field.{minus, decimal}
-use Rattle.decimal.proofs.WriteLaws.{text-0, text-low, text-high}
+use Rattle.decimal.proofs.WriteLaws.{text_0, text_low, text_high}
 use Rattle.decimal.proofs.field.put_text.Statement.{statement}
 use Rattle.decimal.proofs.field.put_text.Tie as tie
 
-pub put-text-spec : {M : Type 1} → statement M
-put-text-spec = tie.close (tie.spec
-    (λ c. let s = c.before.before in omega (arith, s.requires.0, s.requires.1, ap length (text-0 s.args.n c.if1.true)))
+pub put_text_spec : {M : Type 1} → statement M
+put_text_spec = tie.close (tie.spec
+    (λ c. let s = c.before.before in omega (arith, s.requires.0, s.requires.1, ap length (text_0 s.args.n c.if1.true)))
     (λ c. search rules)
-    (λ c. let s = c.before.before in sym (ap (sets s.args.s.now s.args.at) (text-0 s.args.n c.if1.true)))
+    (λ c. let s = c.before.before in sym (ap (sets s.args.s.now s.args.at) (text_0 s.args.n c.if1.true)))
     (λ c κs.
     let if2 = c.before in
     let if1 = if2.before in
     let start = if1.before.before in
-    (start.requires.0 ∙ ap (λ t. start.args.at + length t) (text-low start.args.n if1.if1.false if2.if2.true), start.requires.1))
+    (start.requires.0 ∙ ap (λ t. start.args.at + length t) (text_low start.args.n if1.if1.false if2.if2.true), start.requires.1))
     (λ c. search rules)
     (λ c.
-    let put-digits = c.before.before in
-    let if2 = put-digits.before.before in
+    let put_digits = c.before.before in
+    let if2 = put_digits.before.before in
     let if1 = if2.before in
     let start = if1.before.before in
-    put-digits.put-digits.ensures ∙ sym
-    (ap (sets start.args.s.now start.args.at) (text-low start.args.n if1.if1.false if2.if2.true)))
+    put_digits.put-digits.ensures ∙ sym
+    (ap (sets start.args.s.now start.args.at) (text_low start.args.n if1.if1.false if2.if2.true)))
     (λ c κs. search rules)
     (λ c.
     let if2 = c.before in
     let start = if2.before.before.before in
     omega
-    (arith, start.requires.0, start.requires.1, ap length (text-high start.args.n c.negated.result if2.if2.false (omega arith) c.negated.ensures)))
+    (arith, start.requires.0, start.requires.1, ap length (text_high start.args.n c.negated.result if2.if2.false (omega arith) c.negated.ensures)))
     (λ c. search rules)
     (λ c κs.
     let negated = c.before in
     let if2 = negated.before in
     let start = if2.before.before.before in
-    (omega (arith, start.requires.0, ap length (text-high start.args.n negated.negated.result if2.if2.false (omega arith) negated.negated.ensures)), simp length-set start.requires.1))
+    (omega (arith, start.requires.0, ap length (text_high start.args.n negated.negated.result if2.if2.false (omega arith) negated.negated.ensures)), simp length-set start.requires.1))
     (λ c.
-    let put-digits2 = c.before.before in
-    let start = put-digits2.before.before.before.before.before.before in
-    put-digits2.put-digits2.auto.0 ∙ length-set start.args.s.now start.args.at minus)
+    let put_digits2 = c.before.before in
+    let start = put_digits2.before.before.before.before.before.before in
+    put_digits2.put-digits2.auto.0 ∙ length-set start.args.s.now start.args.at minus)
     (λ c.
-    let put-digits2 = c.before.before in
-    let negated = put-digits2.before.before in
+    let put_digits2 = c.before.before in
+    let negated = put_digits2.before.before in
     let if2 = negated.before in
     let start = if2.before.before.before in
-    put-digits2.put-digits2.ensures ∙ ap (λ k. sets (set start.args.s.now start.args.at minus) k (decimal negated.negated.result))
+    put_digits2.put-digits2.ensures ∙ ap (λ k. sets (set start.args.s.now start.args.at minus) k (decimal negated.negated.result))
     (add-one start.args.at) ∙ sym
-    (ap (sets start.args.s.now start.args.at) (text-high start.args.n negated.negated.result if2.if2.false (omega arith) negated.negated.ensures))))
+    (ap (sets start.args.s.now start.args.at) (text_high start.args.n negated.negated.result if2.if2.false (omega arith) negated.negated.ensures))))

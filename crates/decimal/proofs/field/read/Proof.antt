@@ -2,7 +2,7 @@
 use native.Mathlib.Omega.{arith}
 use borrow.Author.Rules.{rules}
 use lib.ListN.{length}
-use Rattle.decimal.proofs.ReadLaws.{room, no_room, field-none, field-read}
+use Rattle.decimal.proofs.ReadLaws.{room, no_room, field_none, field_read}
 use Rattle.decimal.proofs.field.read.Statement.{statement}
 use Rattle.decimal.proofs.field.read.Tie as tie
 
@@ -12,7 +12,7 @@ read_spec = tie.close (tie.spec
     (λ c.
     let has = c.before in
     let start = has.before.before in
-    field-none start.args.s.now start.args.at start.args.width
+    field_none start.args.s.now start.args.at start.args.width
     (no_room start.args.at start.args.width (length start.args.s.now) has.has.result has.has.ensures c.if1.true))
     (λ c.
     let has = c.before in
@@ -28,10 +28,10 @@ read_spec = tie.close (tie.spec
     let start = has.before.before in
     (c.past-spaces.ensures.1, room start.args.at start.args.width (length start.args.s.now) has.has.result has.has.ensures if1.if1.false))
     (λ c.
-    let past-spaces = c.before in
-    let if1 = past-spaces.before in
+    let past_spaces = c.before in
+    let if1 = past_spaces.before in
     let has = if1.before in
     let start = has.before.before in
-    field-read start.args.s.now start.args.at start.args.width past-spaces.past-spaces.result c.read-text.result
+    field_read start.args.s.now start.args.at start.args.width past_spaces.past-spaces.result c.read-text.result
     (room start.args.at start.args.width (length start.args.s.now) has.has.result has.has.ensures if1.if1.false)
-    past-spaces.past-spaces.ensures.2 c.read-text.ensures))
+    past_spaces.past-spaces.ensures.2 c.read-text.ensures))

@@ -4,13 +4,13 @@ use mathlib.Core.Path.{sym, ap, ◌∙◌}
 use native.Mathlib.Omega.{arith}
 use borrow.Author.Rules.{rules}
 use Rattle.decimal.specs.Field.{reading}
-use Rattle.decimal.proofs.ReadLaws.{positive-0, positive-n, negative-0, negative-n, text-none, text-minus, text-nought, text-other, alone-none, alone-some}
+use Rattle.decimal.proofs.ReadLaws.{positive_0, positive_n, negative_0, negative_n, text_none, text_minus, text_nought, text_other, alone_none, alone_some}
 use Rattle.decimal.proofs.field.read_text.Statement.{statement}
 use Rattle.decimal.proofs.field.read_text.Tie as tie
 
-pub read-text-spec : {M : Type 1} → statement M
-read-text-spec = tie.close (tie.spec
-    (λ c. let s = c.before.before in text-none s.args.s.now s.args.at s.args.end c.if1.true)
+pub read_text_spec : {M : Type 1} → statement M
+read_text_spec = tie.close (tie.spec
+    (λ c. let s = c.before.before in text_none s.args.s.now s.args.at s.args.end c.if1.true)
     (λ c. search rules)
     (λ c. search rules)
     (λ c κs. search rules)
@@ -18,40 +18,40 @@ read-text-spec = tie.close (tie.spec
     let count = c.before in
     let if2 = count.before in
     let start = if2.before.before.before.before in
-    negative-0 _ count.count.result count.count.ensures c.if3.true ∙ sym
-    (ap reading (text-minus start.args.s.now start.args.at start.args.end (omega arith) start.requires.1 if2.if2.true)))
+    negative_0 _ count.count.result count.count.ensures c.if3.true ∙ sym
+    (ap reading (text_minus start.args.s.now start.args.at start.args.end (omega arith) start.requires.1 if2.if2.true)))
     (λ c κs. search rules)
     (λ c.
     let if3 = c.before in
     let count = if3.before in
     let if2 = count.before in
     let start = if2.before.before.before.before in
-    negative-n _ count.count.result c.negated.result count.count.ensures if3.if3.false c.negated.ensures ∙ sym
-    (ap reading (text-minus start.args.s.now start.args.at start.args.end (omega arith) start.requires.1 if2.if2.true)))
+    negative_n _ count.count.result c.negated.result count.count.ensures if3.if3.false c.negated.ensures ∙ sym
+    (ap reading (text_minus start.args.s.now start.args.at start.args.end (omega arith) start.requires.1 if2.if2.true)))
     (λ c. search rules)
     (λ c. search rules)
     (λ c.
     let if4 = c.before in
     let start = if4.before.before.before.before.before.before in
-    alone-none start.args.s.now (start.args.at + 1) start.args.end c.if5.true ∙ sym
-    (ap reading (text-nought start.args.s.now start.args.at start.args.end (omega arith) start.requires.1 if4.if4.true)))
+    alone_none start.args.s.now (start.args.at + 1) start.args.end c.if5.true ∙ sym
+    (ap reading (text_nought start.args.s.now start.args.at start.args.end (omega arith) start.requires.1 if4.if4.true)))
     (λ c.
     let if4 = c.before in
     let start = if4.before.before.before.before.before.before in
-    alone-some start.args.s.now (start.args.at + 1) start.args.end (omega arith) start.requires.1 ∙ sym
-    (ap reading (text-nought start.args.s.now start.args.at start.args.end (omega arith) start.requires.1 if4.if4.true)))
+    alone_some start.args.s.now (start.args.at + 1) start.args.end (omega arith) start.requires.1 ∙ sym
+    (ap reading (text_nought start.args.s.now start.args.at start.args.end (omega arith) start.requires.1 if4.if4.true)))
     (λ c κs. search rules)
     (λ c.
     let count2 = c.before in
     let if4 = count2.before in
     let if2 = if4.before.before in
     let start = if2.before.before.before.before in
-    positive-0 _ count2.count2.result count2.count2.ensures c.if6.true ∙ sym
-    (ap reading (text-other start.args.s.now start.args.at start.args.end (omega arith) start.requires.1 if2.if2.false if4.if4.false)))
+    positive_0 _ count2.count2.result count2.count2.ensures c.if6.true ∙ sym
+    (ap reading (text_other start.args.s.now start.args.at start.args.end (omega arith) start.requires.1 if2.if2.false if4.if4.false)))
     (λ c.
     let count2 = c.before in
     let if4 = count2.before in
     let if2 = if4.before.before in
     let start = if2.before.before.before.before in
-    positive-n _ count2.count2.result count2.count2.ensures c.if6.false ∙ sym
-    (ap reading (text-other start.args.s.now start.args.at start.args.end (omega arith) start.requires.1 if2.if2.false if4.if4.false))))
+    positive_n _ count2.count2.result count2.count2.ensures c.if6.false ∙ sym
+    (ap reading (text_other start.args.s.now start.args.at start.args.end (omega arith) start.requires.1 if2.if2.false if4.if4.false))))

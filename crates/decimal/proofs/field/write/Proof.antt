@@ -6,7 +6,7 @@ use mir.Syntax.{w32}
 use mir.Val.{to_z}
 use Rattle.decimal.specs.Field.{text, written}
 use Rattle.decimal.proofs.ReadLaws.{room, no_room}
-use Rattle.decimal.proofs.WriteLaws.{put-nowhere, put-wide, put-there}
+use Rattle.decimal.proofs.WriteLaws.{put_nowhere, put_wide, put_there}
 use Rattle.decimal.proofs.field.write.Statement.{statement}
 use Rattle.decimal.proofs.field.write.Tie as tie
 
@@ -16,13 +16,13 @@ write_spec = tie.close (tie.spec
     (λ c.
     let has = c.before in
     let start = has.before.before in
-    put-nowhere start.args.s.now start.args.at start.args.width (written start.args.width (to_z w32 start.args.n))
+    put_nowhere start.args.s.now start.args.at start.args.width (written start.args.width (to_z w32 start.args.n))
     (no_room start.args.at start.args.width (length start.args.s.now) has.has.result has.has.ensures c.if1.true))
     (λ c κs. search rules)
     (λ c.
     let columns = c.before in
     let start = columns.before.before.before.before in
-    put-wide start.args.s.now start.args.at start.args.width columns.columns.result (text (to_z w32 start.args.n))
+    put_wide start.args.s.now start.args.at start.args.width columns.columns.result (text (to_z w32 start.args.n))
     columns.columns.ensures c.if2.true)
     (λ c.
     let if1 = c.before.before in
@@ -40,24 +40,24 @@ write_spec = tie.close (tie.spec
     let start = has.before.before in
     omega (arith, room start.args.at start.args.width (length start.args.s.now) has.has.result has.has.ensures if1.if1.false))
     (λ c κs.
-    let put-spaces = c.before.before.before in
-    let if2 = put-spaces.before.before in
+    let put_spaces = c.before.before.before in
+    let if2 = put_spaces.before.before in
     let columns = if2.before in
     let if1 = columns.before in
     let has = if1.before in
     let start = has.before.before in
     let h = room start.args.at start.args.width (length start.args.s.now) has.has.result has.has.ensures if1.if1.false in
-    (omega (arith, columns.columns.ensures, if2.if2.false), omega (arith, h, put-spaces.put-spaces.auto.0)))
+    (omega (arith, columns.columns.ensures, if2.if2.false), omega (arith, h, put_spaces.put-spaces.auto.0)))
     (λ c. search rules)
     (λ c.
-    let put-text = c.before.before in
-    let put-spaces = put-text.before.before.before.before in
-    let if2 = put-spaces.before.before in
+    let put_text = c.before.before in
+    let put_spaces = put_text.before.before.before.before in
+    let if2 = put_spaces.before.before in
     let columns = if2.before in
     let if1 = columns.before in
     let has = if1.before in
     let start = has.before.before in
-    put-there start.args.s.now start.args.at start.args.width columns.columns.result (text (to_z w32 start.args.n))
-    columns.columns.ensures put-spaces.put-spaces.new.0 put-text.put-text.new.0
+    put_there start.args.s.now start.args.at start.args.width columns.columns.result (text (to_z w32 start.args.n))
+    columns.columns.ensures put_spaces.put-spaces.new.0 put_text.put-text.new.0
     (room start.args.at start.args.width (length start.args.s.now) has.has.result has.has.ensures if1.if1.false)
-    if2.if2.false put-spaces.put-spaces.ensures put-text.put-text.ensures))
+    if2.if2.false put_spaces.put-spaces.ensures put_text.put-text.ensures))

@@ -5,7 +5,7 @@ use native.Mathlib.Omega.{arith}
 use borrow.Author.Rules.{rules}
 use lib.Seq.{slice}
 use Rattle.decimal.specs.Field.{trimmed}
-use Rattle.decimal.proofs.ReadLaws.{trim-space, trim-stop, trim-none}
+use Rattle.decimal.proofs.ReadLaws.{trim_space, trim_stop, trim_none}
 use Rattle.decimal.proofs.part.past_spaces.Statement.{statement}
 use Rattle.decimal.proofs.part.past_spaces.Tie as tie
 
@@ -15,8 +15,8 @@ invariant-loop s at end i₀ i = (at ≤ i) × (i ≤ end) × (trimmed (slice at
 abbrev decreases-loop : tie.decreases-loop
 decreases-loop s at end i₀ i = end - i
 
-pub past-spaces-spec : {M : Type 1} → statement M
-past-spaces-spec = tie.close (tie.spec invariant-loop decreases-loop
+pub past_spaces_spec : {M : Type 1} → statement M
+past_spaces_spec = tie.close (tie.spec invariant-loop decreases-loop
     (λ c. (omega arith, c.requires.0, refl))
     (λ c. search rules)
     (λ c.
@@ -24,7 +24,7 @@ past-spaces-spec = tie.close (tie.spec invariant-loop decreases-loop
     let loop = test.before in
     let start = loop.before in
     let l = loop.loop in
-    (l.invariant.0, l.invariant.1, l.invariant.2 ∙ trim-stop start.args.s.now l.i start.args.end test.loop-test.true start.requires.1 c.if1.true))
+    (l.invariant.0, l.invariant.1, l.invariant.2 ∙ trim_stop start.args.s.now l.i start.args.end test.loop-test.true start.requires.1 c.if1.true))
     (λ c. search rules)
     (λ c. search rules)
     (λ c.
@@ -32,5 +32,5 @@ past-spaces-spec = tie.close (tie.spec invariant-loop decreases-loop
     let loop = test.before in
     let start = loop.before in
     let l = loop.loop in
-    (omega arith, omega arith, l.invariant.2 ∙ trim-space start.args.s.now l.i start.args.end test.loop-test.true start.requires.1 c.if1.false))
-    (λ c. let s = c.before.before in let l = c.before.loop in (l.invariant.0, l.invariant.1, l.invariant.2 ∙ trim-none s.args.s.now l.i s.args.end (omega arith))))
+    (omega arith, omega arith, l.invariant.2 ∙ trim_space start.args.s.now l.i start.args.end test.loop-test.true start.requires.1 c.if1.false))
+    (λ c. let s = c.before.before in let l = c.before.loop in (l.invariant.0, l.invariant.1, l.invariant.2 ∙ trim_none s.args.s.now l.i s.args.end (omega arith))))

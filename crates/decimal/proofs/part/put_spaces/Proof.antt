@@ -6,7 +6,7 @@ use borrow.Author.Rules.{rules}
 use lib.ListN.{length, replicate, length-set}
 use lib.Seq.{sets}
 use Rattle.decimal.specs.Field.{space}
-use Rattle.decimal.proofs.WriteLaws.{spaces-more}
+use Rattle.decimal.proofs.WriteLaws.{spaces_more}
 use Rattle.decimal.proofs.part.put_spaces.Statement.{statement}
 use Rattle.decimal.proofs.part.put_spaces.Tie as tie
 
@@ -16,13 +16,13 @@ invariant-loop s₀ at n i₀ s i = (i ≤ n) × (length s ≡ length s₀) × (
 abbrev decreases-loop : tie.decreases-loop
 decreases-loop s₀ at n i₀ s i = n - i
 
-pub put-spaces-spec : {M : Type 1} → statement M
-put-spaces-spec = tie.close (tie.spec invariant-loop decreases-loop
+pub put_spaces_spec : {M : Type 1} → statement M
+put_spaces_spec = tie.close (tie.spec invariant-loop decreases-loop
     (λ c. (omega arith, refl, refl))
     (λ c. search rules)
     (λ c. search rules)
     (λ c. search rules)
     (λ c. search rules)
-    (λ c. let s = c.before.before in let l = c.before.loop in (omega arith, length-set l.s (s.args.at + l.i) space ∙ l.invariant.1, spaces-more s.args.s.now s.args.at l.i l.s l.invariant.2))
+    (λ c. let s = c.before.before in let l = c.before.loop in (omega arith, length-set l.s (s.args.at + l.i) space ∙ l.invariant.1, spaces_more s.args.s.now s.args.at l.i l.s l.invariant.2))
     (λ c. let l = c.before.loop in l.invariant.1)
     (λ c. let s = c.before.before in let l = c.before.loop in let e : l.i ≡ s.args.n = omega arith in l.invariant.2 ∙ ap (λ k. sets s.args.s.now s.args.at (replicate k space)) e))

@@ -2,12 +2,12 @@
 use mathlib.Core.Path.{sym, ap, ◌∙◌}
 use borrow.Author.Rules.{rules}
 use lib.ListN.{length}
-use Rattle.decimal.proofs.PathLaws.{text-0, text-length}
+use Rattle.decimal.proofs.PathLaws.{text_0, text_length}
 use Rattle.decimal.proofs.path.columns.Statement.{statement}
 use Rattle.decimal.proofs.path.columns.Tie as tie
 
 pub columns_spec : {M : Type 1} → statement M
 columns_spec = tie.close (tie.spec
-    (λ c. let s = c.before in sym (ap length (text-0 s.args.path c.if1.true)))
+    (λ c. let s = c.before in sym (ap length (text_0 s.args.path c.if1.true)))
     (λ c κs. search rules)
-    (λ c. let s = c.before.before in c.marks-of.ensures ∙ text-length s.args.path c.before.if1.false))
+    (λ c. let s = c.before.before in c.marks-of.ensures ∙ text_length s.args.path c.before.if1.false))

@@ -1,13 +1,13 @@
 -- `path::front_mark` meets its contract, each way out by its law. Assumes nothing.
 use borrow.Author.Rules.{rules}
-use Rattle.decimal.proofs.PathLaws.{front-none, front-first, front-second}
+use Rattle.decimal.proofs.PathLaws.{front_none, front_first, front_second}
 use Rattle.decimal.proofs.path.front_mark.Statement.{statement}
 use Rattle.decimal.proofs.path.front_mark.Tie as tie
 
-pub front-mark-spec : {M : Type 1} → statement M
-front-mark-spec = tie.close (tie.spec
-    (λ c. let s = c.before in front-none s.args.path c.if1.true)
+pub front_mark_spec : {M : Type 1} → statement M
+front_mark_spec = tie.close (tie.spec
+    (λ c. let s = c.before in front_none s.args.path c.if1.true)
     (λ c. search rules)
-    (λ c. let s = c.before.before in front-first s.args.path c.before.if1.false c.if2.true)
+    (λ c. let s = c.before.before in front_first s.args.path c.before.if1.false c.if2.true)
     (λ c. search rules)
-    (λ c. let s = c.before.before in front-second s.args.path c.before.if1.false c.if2.false))
+    (λ c. let s = c.before.before in front_second s.args.path c.before.if1.false c.if2.false))

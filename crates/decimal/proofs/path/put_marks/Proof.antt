@@ -6,7 +6,7 @@ use borrow.Author.Rules.{rules}
 use lib.ListN.{length, length-set}
 use Rattle.decimal.specs.Field.{nought}
 use Rattle.decimal.proofs.PathNumbers.{length_front}
-use Rattle.decimal.proofs.PathLaws.{Laid, laid-0, laid-room, laid_more, laid-all}
+use Rattle.decimal.proofs.PathLaws.{Laid, laid_0, laid_room, laid_more, laid_all}
 use Rattle.decimal.proofs.path.put_marks.Statement.{statement}
 use Rattle.decimal.proofs.path.put_marks.Tie as tie
 
@@ -16,16 +16,16 @@ invariant-loop s₀ at path p₀ i₀ s p i = (length s ≡ length s₀) × Laid
 abbrev decreases-loop : tie.decreases-loop
 decreases-loop s₀ at path p₀ i₀ s p i = p
 
-pub put-marks-spec : {M : Type 1} → statement M
-put-marks-spec = tie.close (tie.spec invariant-loop decreases-loop
-    (λ c. (refl, laid-0 c.args.path c.args.at c.args.s.now))
+pub put_marks_spec : {M : Type 1} → statement M
+put_marks_spec = tie.close (tie.spec invariant-loop decreases-loop
+    (λ c. (refl, laid_0 c.args.path c.args.at c.args.s.now))
     (λ c. search rules)
     (λ c. search rules)
     (λ c. search rules)
-    (λ c. let s = c.before.before in let l = c.before.loop in omega (arith, s.requires, l.invariant.0, laid-room s.args.path l.p s.args.at l.i s.args.s.now l.s l.invariant.1, length_front l.p c.loop-test.true))
+    (λ c. let s = c.before.before in let l = c.before.loop in omega (arith, s.requires, l.invariant.0, laid_room s.args.path l.p s.args.at l.i s.args.s.now l.s l.invariant.1, length_front l.p c.loop-test.true))
     (λ c. search rules)
-    (λ c. let s = c.before.before in let l = c.before.loop in omega (arith, s.requires, l.invariant.0, laid-room s.args.path l.p s.args.at l.i s.args.s.now l.s l.invariant.1, length_front l.p c.loop-test.true))
+    (λ c. let s = c.before.before in let l = c.before.loop in omega (arith, s.requires, l.invariant.0, laid_room s.args.path l.p s.args.at l.i s.args.s.now l.s l.invariant.1, length_front l.p c.loop-test.true))
     (λ c. search rules)
     (λ c. let s = c.before.before in let l = c.before.loop in (length-set l.s l.i (nought + 2 - l.p % 2) ∙ l.invariant.0, laid_more s.args.path l.p s.args.at l.i s.args.s.now l.s c.loop-test.true l.invariant.1))
     (λ c. let l = c.before.loop in l.invariant.0)
-    (λ c. let s = c.before.before in let l = c.before.loop in laid-all s.args.path l.p s.args.at l.i s.args.s.now l.s (omega arith) l.invariant.1))
+    (λ c. let s = c.before.before in let l = c.before.loop in laid_all s.args.path l.p s.args.at l.i s.args.s.now l.s (omega arith) l.invariant.1))

@@ -2,9 +2,9 @@
 use native.Mathlib.Omega.{arith}
 use borrow.Author.Rules.{rules}
 use lib.ListN.{length}
-use Rattle.decimal.specs.Path.{pathColumns}
+use Rattle.decimal.specs.Path.{path_columns}
 use Rattle.decimal.proofs.ReadLaws.{room, no_room}
-use Rattle.decimal.proofs.PathLaws.{path-nowhere, path-read}
+use Rattle.decimal.proofs.PathLaws.{path_nowhere, path_read}
 use Rattle.decimal.proofs.path.read.Statement.{statement}
 use Rattle.decimal.proofs.path.read.Tie as tie
 
@@ -14,26 +14,26 @@ read_spec = tie.close (tie.spec
     (λ c.
     let has = c.before in
     let start = has.before.before in
-    path-nowhere start.args.s.now start.args.at
-    (no_room start.args.at pathColumns (length start.args.s.now) has.has.result has.has.ensures c.if1.true))
+    path_nowhere start.args.s.now start.args.at
+    (no_room start.args.at path_columns (length start.args.s.now) has.has.result has.has.ensures c.if1.true))
     (λ c.
     let has = c.before in
     let start = has.before.before in
-    omega (arith, room start.args.at pathColumns (length start.args.s.now) has.has.result has.has.ensures c.if1.false))
+    omega (arith, room start.args.at path_columns (length start.args.s.now) has.has.result has.has.ensures c.if1.false))
     (λ c κs.
     let has = c.before in
     let start = has.before.before in
-    (omega arith, room start.args.at pathColumns (length start.args.s.now) has.has.result has.has.ensures c.if1.false))
+    (omega arith, room start.args.at path_columns (length start.args.s.now) has.has.result has.has.ensures c.if1.false))
     (λ c κs.
     let if1 = c.before in
     let has = if1.before in
     let start = has.before.before in
-    (c.past-spaces.ensures.1, room start.args.at pathColumns (length start.args.s.now) has.has.result has.has.ensures if1.if1.false, omega (arith, c.past-spaces.ensures.0)))
+    (c.past-spaces.ensures.1, room start.args.at path_columns (length start.args.s.now) has.has.result has.has.ensures if1.if1.false, omega (arith, c.past-spaces.ensures.0)))
     (λ c.
-    let past-spaces = c.before in
-    let if1 = past-spaces.before in
+    let past_spaces = c.before in
+    let if1 = past_spaces.before in
     let has = if1.before in
     let start = has.before.before in
-    path-read start.args.s.now start.args.at past-spaces.past-spaces.result c.read-text.result
-    (room start.args.at pathColumns (length start.args.s.now) has.has.result has.has.ensures if1.if1.false)
-    past-spaces.past-spaces.ensures.2 c.read-text.ensures))
+    path_read start.args.s.now start.args.at past_spaces.past-spaces.result c.read-text.result
+    (room start.args.at path_columns (length start.args.s.now) has.has.result has.has.ensures if1.if1.false)
+    past_spaces.past-spaces.ensures.2 c.read-text.ensures))

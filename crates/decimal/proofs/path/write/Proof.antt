@@ -2,9 +2,9 @@
 use native.Mathlib.Omega.{arith}
 use borrow.Author.Rules.{rules}
 use lib.ListN.{length}
-use Rattle.decimal.specs.Path.{pathColumns, path_text, pathOf, writtenPath}
+use Rattle.decimal.specs.Path.{path_columns, path_text, path_of, written_path}
 use Rattle.decimal.proofs.ReadLaws.{room, no_room}
-use Rattle.decimal.proofs.WriteLaws.{put-nowhere, put-wide, put-there}
+use Rattle.decimal.proofs.WriteLaws.{put_nowhere, put_wide, put_there}
 use Rattle.decimal.proofs.path.write.Statement.{statement}
 use Rattle.decimal.proofs.path.write.Tie as tie
 
@@ -14,43 +14,43 @@ write_spec = tie.close (tie.spec
     (λ c.
     let has = c.before in
     let start = has.before.before in
-    put-nowhere start.args.s.now start.args.at pathColumns (writtenPath (pathOf start.args.path))
-    (no_room start.args.at pathColumns (length start.args.s.now) has.has.result has.has.ensures c.if1.true))
+    put_nowhere start.args.s.now start.args.at path_columns (written_path (path_of start.args.path))
+    (no_room start.args.at path_columns (length start.args.s.now) has.has.result has.has.ensures c.if1.true))
     (λ c κs. search rules)
     (λ c.
     let columns = c.before in
     let start = columns.before.before.before.before in
-    put-wide start.args.s.now start.args.at pathColumns columns.columns.result (path_text (pathOf start.args.path))
+    put_wide start.args.s.now start.args.at path_columns columns.columns.result (path_text (path_of start.args.path))
     columns.columns.ensures c.if2.true)
     (λ c.
     let if1 = c.before.before in
     let has = if1.before in
     let start = has.before.before in
-    omega (arith, room start.args.at pathColumns (length start.args.s.now) has.has.result has.has.ensures if1.if1.false))
+    omega (arith, room start.args.at path_columns (length start.args.s.now) has.has.result has.has.ensures if1.if1.false))
     (λ c κs.
     let if1 = c.before.before.before in
     let has = if1.before in
     let start = has.before.before in
-    omega (arith, room start.args.at pathColumns (length start.args.s.now) has.has.result has.has.ensures if1.if1.false))
+    omega (arith, room start.args.at path_columns (length start.args.s.now) has.has.result has.has.ensures if1.if1.false))
     (λ c κs.
-    let put-spaces = c.before.before.before in
-    let if2 = put-spaces.before.before in
+    let put_spaces = c.before.before.before in
+    let if2 = put_spaces.before.before in
     let columns = if2.before in
     let if1 = columns.before in
     let has = if1.before in
     let start = has.before.before in
     omega
-    (arith, room start.args.at pathColumns (length start.args.s.now) has.has.result has.has.ensures if1.if1.false, columns.columns.ensures, if2.if2.false, put-spaces.put-spaces.auto.0))
+    (arith, room start.args.at path_columns (length start.args.s.now) has.has.result has.has.ensures if1.if1.false, columns.columns.ensures, if2.if2.false, put_spaces.put-spaces.auto.0))
     (λ c. search rules)
     (λ c.
-    let put-text = c.before.before in
-    let put-spaces = put-text.before.before.before.before in
-    let if2 = put-spaces.before.before in
+    let put_text = c.before.before in
+    let put_spaces = put_text.before.before.before.before in
+    let if2 = put_spaces.before.before in
     let columns = if2.before in
     let if1 = columns.before in
     let has = if1.before in
     let start = has.before.before in
-    put-there start.args.s.now start.args.at pathColumns columns.columns.result (path_text (pathOf start.args.path))
-    columns.columns.ensures put-spaces.put-spaces.new.0 put-text.put-text.new.0
-    (room start.args.at pathColumns (length start.args.s.now) has.has.result has.has.ensures if1.if1.false) if2.if2.false
-    put-spaces.put-spaces.ensures put-text.put-text.ensures))
+    put_there start.args.s.now start.args.at path_columns columns.columns.result (path_text (path_of start.args.path))
+    columns.columns.ensures put_spaces.put-spaces.new.0 put_text.put-text.new.0
+    (room start.args.at path_columns (length start.args.s.now) has.has.result has.has.ensures if1.if1.false) if2.if2.false
+    put_spaces.put-spaces.ensures put_text.put-text.ensures))

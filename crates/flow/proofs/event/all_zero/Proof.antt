@@ -4,61 +4,61 @@ use Prim.Native.Nat.{ℕ, ◌-◌, ◌≤◌, ◌<◌}
 use native.Mathlib.Omega.{arith}
 use lib.ListN.{get_or}
 use borrow.Author.Rules.{rules}
-use Rattle.tophat.specs.Syntax.{maxLeaves}
-use Rattle.flow.proofs.EventLaws.{some-leaf, no-leaf, one_more}
+use Rattle.tophat.specs.Syntax.{max_leaves}
+use Rattle.flow.proofs.EventLaws.{some_leaf, no_leaf, one_more}
 use Rattle.flow.proofs.event.all_zero.Statement.{statement}
 use Rattle.flow.proofs.event.all_zero.Tie as tie
 
 abbrev invariant-loop : tie.invariant-loop
-invariant-loop leaves k₀ k = (k ≤ maxLeaves) × ((i : ℕ) → i < k → get_or leaves i 0 ≡ 0)
+invariant-loop leaves k₀ k = (k ≤ max_leaves) × ((i : ℕ) → i < k → get_or leaves i 0 ≡ 0)
 
 abbrev decreases-loop : tie.decreases-loop
-decreases-loop leaves k₀ k = maxLeaves - k
+decreases-loop leaves k₀ k = max_leaves - k
 
-loop-holds : tie.Need-loop-init invariant-loop decreases-loop
-loop-holds c = (omega arith, (λ i l. absurd (omega arith)))
+loop_holds : tie.Need-loop-init invariant-loop decreases-loop
+loop_holds c = (omega arith, (λ i l. absurd (omega arith)))
 
-mul-if1 : tie.Need-overflow-mul-if1 invariant-loop decreases-loop
-mul-if1 c = search rules
+mul_if1 : tie.Need-overflow-mul-if1 invariant-loop decreases-loop
+mul_if1 c = search rules
 
-array-read-if1 : tie.Need-array-read-if1 invariant-loop decreases-loop
-array-read-if1 c = search rules
+array_read_if1 : tie.Need-array-read-if1 invariant-loop decreases-loop
+array_read_if1 c = search rules
 
 returns : tie.Need-returns invariant-loop decreases-loop
 returns c =
     let loop = c.before.before in
     let start = loop.before in
-    λ blank z. some-leaf start.args.t1 blank z loop.loop.k (omega arith) c.if1.true
+    λ blank z. some_leaf start.args.t1 blank z loop.loop.k (omega arith) c.if1.true
 
-add-k : tie.Need-overflow-add-k invariant-loop decreases-loop
-add-k c = search rules
+add_k : tie.Need-overflow-add-k invariant-loop decreases-loop
+add_k c = search rules
 
-loop-less : tie.Need-loop-smaller invariant-loop decreases-loop
-loop-less c = omega arith
+loop_less : tie.Need-loop-smaller invariant-loop decreases-loop
+loop_less c = omega arith
 
-loop-again : tie.Need-loop-preserved invariant-loop decreases-loop
-loop-again c =
+loop_again : tie.Need-loop-preserved invariant-loop decreases-loop
+loop_again c =
     let loop = c.before.before in
     let start = loop.before in
     (omega arith, one_more start.args.t1 loop.loop.k loop.loop.invariant.1 c.if1.false)
 
-returns-2 : tie.Need-returns-2 invariant-loop decreases-loop
-returns-2 c =
+returns_2 : tie.Need-returns-2 invariant-loop decreases-loop
+returns_2 c =
     let loop = c.before in
     let start = loop.before in
-    λ blank z. no-leaf start.args.t1 blank loop.loop.k (omega arith) loop.loop.invariant.1
+    λ blank z. no_leaf start.args.t1 blank loop.loop.k (omega arith) loop.loop.invariant.1
 
-pub all-zero-spec : {M : Type 1} → statement M
-all-zero-spec =
+pub all_zero_spec : {M : Type 1} → statement M
+all_zero_spec =
     tie.close
     (tie.spec
     invariant-loop
     decreases-loop
-    loop-holds
-    mul-if1
-    array-read-if1
+    loop_holds
+    mul_if1
+    array_read_if1
     returns
-    add-k
-    loop-less
-    loop-again
-    returns-2)
+    add_k
+    loop_less
+    loop_again
+    returns_2)

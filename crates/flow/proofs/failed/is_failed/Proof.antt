@@ -3,35 +3,35 @@ use mathlib.Core.Path.{◌≡◌, sym, ◌∙◌}
 use native.Mathlib.Omega.{arith}
 use lib.ListN.{length}
 use borrow.Author.Rules.{rules}
-use Rattle.state.specs.Lent.{stateSize}
-use Rattle.flow.proofs.FailedLaws.{failed-differ, failed-tried}
+use Rattle.state.specs.Lent.{state_size}
+use Rattle.flow.proofs.FailedLaws.{failed_differ, failed_tried}
 use Rattle.flow.proofs.failed.is_failed.Statement.{statement}
 use Rattle.flow.proofs.failed.is_failed.Tie as tie
 
 -- the two arrays are of one length
 long : (c : tie.After-alike-arg3) → length c.before.before.before.before.before.args.words.now ≡ length c.before.before.before.write-failed.new.1.1.0
 long c =
-    let x : length c.before.before.before.before.before.args.words.now ≡ stateSize = search rules in
-    let y : length c.before.before.before.write-failed.new.1.1.0 ≡ stateSize = search rules in
+    let x : length c.before.before.before.before.before.args.words.now ≡ state_size = search rules in
+    let y : length c.before.before.before.write-failed.new.1.1.0 ≡ state_size = search rules in
     x ∙ sym y
 
 returns : tie.Need-returns
 returns c =
     let alike = c.before in
     let written = alike.before.before.before.before in
-    failed-differ written.write-failed.ensures alike.alike.ensures c.if1.true
+    failed_differ written.write-failed.ensures alike.alike.ensures c.if1.true
 
-returns-2 : tie.Need-returns-2
-returns-2 c =
+returns_2 : tie.Need-returns-2
+returns_2 c =
     let cleared = c.before.before.before in
     let if1 = cleared.before.before in
     let alike = if1.before in
     let written = alike.before.before.before.before in
     let start = written.before.before in
-    failed-tried written.write-failed.ensures alike.alike.ensures if1.if1.false (long alike.before) start.requires.1.0 cleared.clear-row.ensures c.evaluate.ensures
+    failed_tried written.write-failed.ensures alike.alike.ensures if1.if1.false (long alike.before) start.requires.1.0 cleared.clear-row.ensures c.evaluate.ensures
 
-pub is-failed-spec : {M : Type 1} → statement M
-is-failed-spec = tie.close (tie.spec
+pub is_failed_spec : {M : Type 1} → statement M
+is_failed_spec = tie.close (tie.spec
     (λ c κs. let p = c.before.requires in (p.0, p.1.1))
     (λ c. let s = c.before.before.before.before.before in let l = s.requires.0.0 in let h = s.requires.0.1.low in record { fits = omega arith })
     (λ c κs.
@@ -39,12 +39,12 @@ is-failed-spec = tie.close (tie.spec
     let s = written.before.before in
     let l = s.requires.0.0 in
     let h = s.requires.0.1.low in
-    let x : length s.args.words.now ≡ stateSize = search rules in
-    let y : length written.write-failed.new.1.1.0 ≡ stateSize = search rules in
+    let x : length s.args.words.now ≡ state_size = search rules in
+    let y : length written.write-failed.new.1.1.0 ≡ state_size = search rules in
     (omega (arith, l, h, x), omega (arith, l, h, y)))
     returns
     (λ c. search rules)
     (λ c κs. search rules)
     (λ c. search rules)
     (λ c κs. let s = c.before.before.before.before.before.before.before.before.before.before.before in s.requires.0.1)
-    returns-2)
+    returns_2)

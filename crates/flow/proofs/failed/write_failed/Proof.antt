@@ -1,16 +1,16 @@
 -- `write_failed` meets its contract. Assumes nothing.
 use native.Mathlib.Omega.{arith}
 use borrow.Author.Rules.{rules}
-use Rattle.flow.proofs.FailedLaws.{writes-failed}
+use Rattle.flow.proofs.FailedLaws.{writes_failed}
 use Rattle.flow.proofs.failed.write_failed.Statement.{statement}
 use Rattle.flow.proofs.failed.write_failed.Tie as tie
 
-pub write-failed-spec : {M : Type 1} → statement M
-write-failed-spec = tie.close (tie.spec
+pub write_failed_spec : {M : Type 1} → statement M
+write_failed_spec = tie.close (tie.spec
     (λ c κs. let l = c.before.requires.0.0 in let h = c.before.requires.0.1.low in omega arith)
     (λ c. search rules)
     (λ c κs. search rules)
     (λ c.
     let cells = c.before.before in
     let start = cells.before.before in
-    writes-failed start.requires.1 cells.first-cells.ensures c.put-tag.ensures))
+    writes_failed start.requires.1 cells.first-cells.ensures c.put-tag.ensures))

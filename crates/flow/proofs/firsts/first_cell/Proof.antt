@@ -1,23 +1,23 @@
 -- `first_cell` meets its contract. Assumes nothing.
 use borrow.Author.Rules.{rules}
-use Rattle.flow.proofs.FirstLaws.{first-is, first-none}
+use Rattle.flow.proofs.FirstLaws.{first_is, first_none}
 use Rattle.flow.proofs.firsts.first_cell.Statement.{statement}
 use Rattle.flow.proofs.firsts.first_cell.Tie as tie
 
-get-requires' : tie.Need-get-requires
-get-requires' = λ c κs. search rules
+get_requires' : tie.Need-get-requires
+get_requires' = λ c κs. search rules
 
-content-requires' : tie.Need-content-requires
-content-requires' = λ c κs. search rules
+content_requires' : tie.Need-content-requires
+content_requires' = λ c κs. search rules
 
-put-value-requires' : tie.Need-put-value-requires
-put-value-requires' = λ c κs. search rules
+put_value_requires' : tie.Need-put-value-requires
+put_value_requires' = λ c κs. search rules
 
 returns' : tie.Need-returns
-returns' = λ c. let a = c.before.before.before.before.before.args in first-is a.rows.now a.row c.before.before.before.before.get.ensures c.before.before.before.if1.true c.before.before.content.ensures c.put-value.ensures
+returns' = λ c. let a = c.before.before.before.before.before.args in first_is a.rows.now a.row c.before.before.before.before.get.ensures c.before.before.before.if1.true c.before.before.content.ensures c.put-value.ensures
 
-returns-2' : tie.Need-returns-2
-returns-2' = λ c. let a = c.before.before.args in first-none a.rows.now a.row c.before.get.ensures c.if1.false
+returns_2' : tie.Need-returns-2
+returns_2' = λ c. let a = c.before.before.args in first_none a.rows.now a.row c.before.get.ensures c.if1.false
 
-pub first-cell-spec : {M : Type 1} → statement M
-first-cell-spec = tie.close (tie.spec get-requires' content-requires' put-value-requires' returns' returns-2')
+pub first_cell_spec : {M : Type 1} → statement M
+first_cell_spec = tie.close (tie.spec get_requires' content_requires' put_value_requires' returns' returns_2')

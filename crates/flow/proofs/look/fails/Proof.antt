@@ -4,8 +4,8 @@ use borrow.Author.Rules.{rules}
 use Rattle.flow.proofs.look.fails.Statement.{statement}
 use Rattle.flow.proofs.look.fails.Tie as tie
 
-pub fails-spec : {M : Type 1} → statement M
-fails-spec = tie.close (tie.spec
+pub fails_spec : {M : Type 1} → statement M
+fails_spec = tie.close (tie.spec
     (λ c. ((λ e. absurd (c.if1.true e)), (λ n. refl)))
     (λ c κs. search rules)
     (λ c. ((λ e. c.failing.ensures), (λ n. absurd (n c.before.before.if1.false)))))

@@ -2,31 +2,31 @@
 use mathlib.Core.Path.{sym, ◌∙◌}
 use borrow.Author.Rules.{rules}
 use borrow.Author.Tests.{not-true, not-false}
-use Rattle.flow.proofs.LookLaws.{fill-fine, fill-shut, fill-8, fill-failed, fill-ready}
+use Rattle.flow.proofs.LookLaws.{fill_fine, fill_shut, fill_8, fill_failed, fill_ready}
 use Rattle.flow.proofs.look.fill.Statement.{statement}
 use Rattle.flow.proofs.look.fill.Tie as tie
 
 returns : tie.Need-returns
 returns c =
-    let start-at = c.before.before in
-    let start-at-2 = start-at.before.before.before.before in
-    let start = start-at-2 in
-    let o = start-at.«open» in
-    fill-shut start.args.rows.now start.args.state.now start.args.role start.args.value.now start.args.list.now o.new.1.1.1.0
+    let start_at = c.before.before in
+    let start_at_2 = start_at.before.before.before.before in
+    let start = start_at_2 in
+    let o = start_at.«open» in
+    fill_shut start.args.rows.now start.args.state.now start.args.role start.args.value.now start.args.list.now o.new.1.1.1.0
     o.new.1.1.1.1.0 o.result o.ensures c.if1.true
 
-returns-2 : tie.Need-returns-2
-returns-2 c =
+returns_2 : tie.Need-returns-2
+returns_2 c =
     let asked = c.before in
     let if1 = asked.before in
     let opening = if1.before.before in
     let start = opening.before.before.before.before in
     let o = opening.«open» in
-    fill-8 start.args.rows.now start.args.state.now start.args.role start.args.value.now start.args.list.now o.new.1.1.1.0
+    fill_8 start.args.rows.now start.args.state.now start.args.role start.args.value.now start.args.list.now o.new.1.1.1.0
     o.new.1.1.1.1.0 o.result o.ensures if1.if1.false (sym asked.is-role.ensures ∙ not-true _ c.if2.true)
 
-returns-3 : tie.Need-returns-3
-returns-3 c =
+returns_3 : tie.Need-returns-3
+returns_3 c =
     let shown = c.before in
     let if3 = shown.before.before in
     let if2 = if3.before in
@@ -36,21 +36,21 @@ returns-3 c =
     let start = opening.before.before.before.before in
     let o = opening.«open» in
     let h = shown.show-failed in
-    fill-failed start.args.rows.now start.args.state.now start.args.role start.args.value.now start.args.list.now o.new.1.1.1.0
+    fill_failed start.args.rows.now start.args.state.now start.args.role start.args.value.now start.args.list.now o.new.1.1.1.0
     o.new.1.1.1.1.0 o.result o.ensures if1.if1.false (sym asked.is-role.ensures ∙ not-false _ if2.if2.false) if3.if3.true h.result h.new.0 h.ensures
 
-show-requires : tie.Need-show-requires
-show-requires c κs =
+show_requires : tie.Need-show-requires
+show_requires c κs =
     let if3 = c.before.before.before.before in
     let if1 = if3.before.before.before in
     let opening = if1.before.before in
     let start = opening.before.before.before.before in
     let o = opening.«open» in
-    fill-fine start.args.rows.now start.args.state.now start.args.role start.args.value.now start.args.list.now o.new.1.1.1.0
+    fill_fine start.args.rows.now start.args.state.now start.args.role start.args.value.now start.args.list.now o.new.1.1.1.0
     o.new.1.1.1.1.0 o.result o.ensures if1.if1.false if3.if3.false
 
-returns-4 : tie.Need-returns-4
-returns-4 c =
+returns_4 : tie.Need-returns-4
+returns_4 c =
     let show = c.before.before.before in
     let if3 = show.before.before.before.before.before in
     let if2 = if3.before in
@@ -60,8 +60,8 @@ returns-4 c =
     let start = opening.before.before.before.before in
     let o = opening.«open» in
     let h = show.show in
-    fill-ready start.args.rows.now start.args.state.now start.args.role start.args.value.now start.args.list.now o.new.1.1.1.0
+    fill_ready start.args.rows.now start.args.state.now start.args.role start.args.value.now start.args.list.now o.new.1.1.1.0
     o.new.1.1.1.1.0 o.result o.ensures if1.if1.false (sym asked.is-role.ensures ∙ not-false _ if2.if2.false) if3.if3.false h.result h.new.1.1.1.1.0 h.new.1.1.1.1.1.0 h.ensures
 
 pub fill_spec : {M : Type 1} → statement M
-fill_spec = tie.close (tie.spec (λ c κs. search rules) returns (λ c κs. search rules) returns-2 (λ c κs. search rules) (λ c. search rules) returns-3 show-requires (λ c. search rules) (λ c. search rules) returns-4)
+fill_spec = tie.close (tie.spec (λ c κs. search rules) returns (λ c κs. search rules) returns_2 (λ c κs. search rules) (λ c. search rules) returns_3 show_requires (λ c. search rules) (λ c. search rules) returns_4)

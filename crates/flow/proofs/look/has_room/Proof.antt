@@ -1,21 +1,21 @@
 -- `has_room` meets its contract, each way out by its law. Assumes nothing.
 use native.Mathlib.Omega.{arith}
 use borrow.Author.Rules.{rules}
-use Rattle.entries.proofs.Bounds.{at-start}
-use Rattle.flow.proofs.LookLaws.{room-enough, room-counted}
+use Rattle.entries.proofs.Bounds.{at_start}
+use Rattle.flow.proofs.LookLaws.{room_enough, room_counted}
 use Rattle.flow.proofs.look.has_room.Statement.{statement}
 use Rattle.flow.proofs.look.has_room.Tie as tie
 
 returns : tie.Need-returns
 returns c =
     let a = c.before.args in
-    room-enough a.role a.own.now a.words.now a.n a.room c.if1.true
+    room_enough a.role a.own.now a.words.now a.n a.room c.if1.true
 
-returns-2 : tie.Need-returns-2
-returns-2 c =
+returns_2 : tie.Need-returns-2
+returns_2 c =
     let counted = c.before in
     let a = counted.before.before.before.before.args in
-    room-counted a.role a.own.now a.words.now a.n counted.entries.ensures.1 a.room
+    room_counted a.role a.own.now a.words.now a.n counted.entries.ensures.1 a.room
 
-pub has-room-spec : {M : Type 1} → statement M
-has-room-spec = tie.close (tie.spec (λ c. omega (arith, c.requires.1.low)) returns (λ c. search rules) (λ c. search rules) (λ c κs. (c.before.before.before.requires.1, at-start)) returns-2)
+pub has_room_spec : {M : Type 1} → statement M
+has_room_spec = tie.close (tie.spec (λ c. omega (arith, c.requires.1.low)) returns (λ c. search rules) (λ c. search rules) (λ c κs. (c.before.before.before.requires.1, at_start)) returns_2)

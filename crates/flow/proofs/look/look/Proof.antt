@@ -1,26 +1,26 @@
 -- `look` meets its contract: it hands back the front of the list that `fill` wrote. Assumes nothing.
 use borrow.Author.Rules.{rules}
-use Rattle.flow.proofs.LookLaws.{part-long, look_is}
+use Rattle.flow.proofs.LookLaws.{part_long, look_is}
 use Rattle.flow.proofs.look.look.Statement.{statement}
 use Rattle.flow.proofs.look.look.Tie as tie
 
-slice-aggregate-result : tie.Need-slice-aggregate-result
-slice-aggregate-result c =
+slice_aggregate_result : tie.Need-slice-aggregate-result
+slice_aggregate_result c =
     let fill = c.before.before.before.before in
-    let start-at = fill.before.before.before.before in
-    let start = start-at in
+    let start_at = fill.before.before.before.before in
+    let start = start_at in
     let f = fill.fill in
-    part-long start.args.rows.now start.args.state.now start.args.role start.args.value.now start.args.list.now f.result f.new.1.1.1.0
+    part_long start.args.rows.now start.args.state.now start.args.role start.args.value.now start.args.list.now f.result f.new.1.1.1.0
     f.new.1.1.1.1.0 f.ensures
 
 returns : tie.Need-returns
 returns c =
     let fill = c.before.before.before.before in
-    let start-at = fill.before.before.before.before in
-    let start = start-at in
+    let start_at = fill.before.before.before.before in
+    let start = start_at in
     let f = fill.fill in
     look_is start.args.rows.now start.args.state.now start.args.role start.args.value.now start.args.list.now f.result f.new.1.1.1.0
     f.new.1.1.1.1.0 f.ensures
 
 pub look_spec : {M : Type 1} → statement M
-look_spec = tie.close (tie.spec (λ c κs. search rules) slice-aggregate-result (λ c. search rules) returns)
+look_spec = tie.close (tie.spec (λ c κs. search rules) slice_aggregate_result (λ c. search rules) returns)

@@ -1,8 +1,8 @@
 -- `show` meets its contract, each way out by its law. Assumes nothing.
 use borrow.Author.Rules.{rules}
 use borrow.Author.Tests.{not-true, not-false}
-use Rattle.entries.proofs.Bounds.{at-start}
-use Rattle.flow.proofs.LookLaws.{show-24, show-0}
+use Rattle.entries.proofs.Bounds.{at_start}
+use Rattle.flow.proofs.LookLaws.{show_24, show_0}
 use Rattle.flow.proofs.look.show.Statement.{statement}
 use Rattle.flow.proofs.look.show.Tie as tie
 
@@ -10,10 +10,10 @@ returns : tie.Need-returns
 returns c =
     let asked = c.before in
     let a = asked.before.before.args in
-    show-24 a.role a.own.now a.words.now a.n a.value.now a.list.now asked.has_room.result asked.has_room.ensures (not-true _ c.if1.true)
+    show_24 a.role a.own.now a.words.now a.n a.value.now a.list.now asked.has_room.result asked.has_room.ensures (not-true _ c.if1.true)
 
-returns-2 : tie.Need-returns-2
-returns-2 c =
+returns_2 : tie.Need-returns-2
+returns_2 c =
     let out = c.before in
     let has = out.before.before in
     let failed = has.before in
@@ -24,9 +24,9 @@ returns-2 c =
     let asked = if1.before in
     let a = asked.before.before.args in
     let v = found.value in
-    show-0 a.role a.own.now a.words.now a.n a.value.now a.list.now asked.has_room.result asked.has_room.ensures (not-false _ if1.if1.false) listed.entries.ensures.1
+    show_0 a.role a.own.now a.words.now a.n a.value.now a.list.now asked.has_room.result asked.has_room.ensures (not-false _ if1.if1.false) listed.entries.ensures.1
     v.result v.ensures out.value_out.ensures.1 fails.fails.ensures failed.flag.ensures has.flag2.ensures out.value_out.ensures.0
 
-pub show-spec : {M : Type 1} → statement M
-show-spec = tie.close (tie.spec (λ c κs. search rules) returns (λ c. search rules) (λ c κs. (c.before.before.before.before.before.requires.1, at-start)) (λ c. search rules) (λ c κs. search rules) (λ c. search rules)
-    (λ c κs. search rules) (λ c κs. search rules) (λ c κs. search rules) (λ c κs. search rules) (λ c. search rules) (λ c. search rules) returns-2)
+pub show_spec : {M : Type 1} → statement M
+show_spec = tie.close (tie.spec (λ c κs. search rules) returns (λ c. search rules) (λ c κs. (c.before.before.before.before.before.requires.1, at_start)) (λ c. search rules) (λ c κs. search rules) (λ c. search rules)
+    (λ c κs. search rules) (λ c κs. search rules) (λ c κs. search rules) (λ c κs. search rules) (λ c. search rules) (λ c. search rules) returns_2)

@@ -1,14 +1,14 @@
 -- `show_failed` meets its contract. Assumes nothing.
 use borrow.Author.Rules.{rules}
-use Rattle.flow.proofs.LookLaws.{show-failed}
+use Rattle.flow.proofs.LookLaws.{show_failed}
 use Rattle.flow.proofs.look.show_failed.Statement.{statement}
 use Rattle.flow.proofs.look.show_failed.Tie as tie
 
-pub show-failed-spec : {M : Type 1} → statement M
-show-failed-spec = tie.close (tie.spec
+pub show_failed_spec : {M : Type 1} → statement M
+show_failed_spec = tie.close (tie.spec
     (λ c κs. search rules)
     (λ c. search rules)
     (λ c.
     let out = c.before in
     let start = out.before.before in
-    show-failed start.args.value.now out.value_out.new.1.0 out.value_out.ensures.0))
+    show_failed start.args.value.now out.value_out.new.1.0 out.value_out.ensures.0))

@@ -4,8 +4,8 @@ use borrow.Author.Tests.{not-true}
 use borrow.Author.Rules.{rules}
 use native.Mathlib.Omega.{arith}
 use Rattle.flow.specs.Opens.{OpenOk}
-use Rattle.flow.proofs.SiteLaws.{some-rows, few-rows, is-fine}
-use Rattle.flow.proofs.OpenLaws.{site-of, some_words, open-20, open-length, open-misfit, ends, open-22, open-failed, open-23, open-0}
+use Rattle.flow.proofs.SiteLaws.{some_rows, few_rows, is_fine}
+use Rattle.flow.proofs.OpenLaws.{site_of, some_words, open_20, open_length, open_misfit, ends, open_22, open_failed, open_23, open_0}
 use Rattle.flow.proofs.open.open.Statement.{statement}
 use Rattle.flow.proofs.open.open.Tie as tie
 use Rattle.flow.proofs.open.open.Reads as reads
@@ -24,70 +24,70 @@ returns c =
     let start = rows.before.before in
     let q = rows.accepted-rows in
     subst (OpenOk start.args.rows.now start.args.state.now start.args.fits q.new.1.0 start.args.words.now) (sym c.not-failed.ensures)
-    (open-20 start.args.rows.now start.args.state.now q.new.1.0 start.args.words.now start.args.fits q.result q.ensures.0 if1.if1.true)
+    (open_20 start.args.rows.now start.args.state.now q.new.1.0 start.args.words.now start.args.fits q.result q.ensures.0 if1.if1.true)
 
-mul-if2 : tie.Need-overflow-mul-if2
-mul-if2 c =
+mul_if2 : tie.Need-overflow-mul-if2
+mul_if2 c =
     let if1 = c in
     let rows = if1.before in
     let start = rows.before.before in
     let q = rows.accepted-rows in
-    let z = (site-of start.args.rows.now q.result q.ensures.0 q.ensures.1.0 q.ensures.1.1.0 if1.if1.false).3 in
-    let f = few-rows z in
+    let z = (site_of start.args.rows.now q.result q.ensures.0 q.ensures.1.0 q.ensures.1.1.0 if1.if1.false).3 in
+    let f = few_rows z in
     record { fits = omega (arith, f) }
 
-returns-2 : tie.Need-returns-2
-returns-2 c =
+returns_2 : tie.Need-returns-2
+returns_2 c =
     let if2 = c.before in
     let if1 = if2.before in
     let rows = if1.before in
     let start = rows.before.before in
     let q = rows.accepted-rows in
-    let z = (site-of start.args.rows.now q.result q.ensures.0 q.ensures.1.0 q.ensures.1.1.0 if1.if1.false).3 in
+    let z = (site_of start.args.rows.now q.result q.ensures.0 q.ensures.1.0 q.ensures.1.1.0 if1.if1.false).3 in
     let wr = some_words start.args.rows.now q.result q.ensures.0 q.ensures.1.1.0 if1.if1.false in
     subst (OpenOk start.args.rows.now start.args.state.now start.args.fits q.new.1.0 start.args.words.now) (sym c.not-failed2.ensures)
-    (open-length start.args.rows.now start.args.state.now q.new.1.0 start.args.words.now start.args.fits q.result z wr if2.if2.true)
+    (open_length start.args.rows.now start.args.state.now q.new.1.0 start.args.words.now start.args.fits q.result z wr if2.if2.true)
 
-returns-3 : tie.Need-returns-3
-returns-3 c =
+returns_3 : tie.Need-returns-3
+returns_3 c =
     let if3 = c.before in
     let if1 = if3.before.before in
     let rows = if1.before in
     let start = rows.before.before in
     let q = rows.accepted-rows in
-    let z = (site-of start.args.rows.now q.result q.ensures.0 q.ensures.1.0 q.ensures.1.1.0 if1.if1.false).3 in
+    let z = (site_of start.args.rows.now q.result q.ensures.0 q.ensures.1.0 q.ensures.1.1.0 if1.if1.false).3 in
     let wr = some_words start.args.rows.now q.result q.ensures.0 q.ensures.1.1.0 if1.if1.false in
     subst (OpenOk start.args.rows.now start.args.state.now start.args.fits q.new.1.0 start.args.words.now) (sym c.not-failed3.ensures)
-    (open-misfit start.args.rows.now start.args.state.now q.new.1.0 start.args.words.now start.args.fits q.result z wr if3.if3.true)
+    (open_misfit start.args.rows.now start.args.state.now q.new.1.0 start.args.words.now start.args.fits q.result z wr if3.if3.true)
 
-state-in-requires : tie.Need-state-in-requires
-state-in-requires c κs =
+state_in_requires : tie.Need-state-in-requires
+state_in_requires c κs =
     let if2 = c.before.before in
-    let start-at = if2.before in
-    let if1 = start-at in
+    let start_at = if2.before in
+    let if1 = start_at in
     let rows = if1.before in
     let start = rows.before.before in
     let q = rows.accepted-rows in
-    let z = (site-of start.args.rows.now q.result q.ensures.0 q.ensures.1.0 q.ensures.1.1.0 if1.if1.false).3 in
-    ((if2.if2.false, few-rows z), start.requires.1)
+    let z = (site_of start.args.rows.now q.result q.ensures.0 q.ensures.1.0 q.ensures.1.1.0 if1.if1.false).3 in
+    ((if2.if2.false, few_rows z), start.requires.1)
 
-held-requires : tie.Need-held-requires
-held-requires c κs =
-    let state-in = c.before.before.before in
-    let start-at = state-in.before.before in
-    let if3 = start-at in
+held_requires : tie.Need-held-requires
+held_requires c κs =
+    let state_in = c.before.before.before in
+    let start_at = state_in.before.before in
+    let if3 = start_at in
     let if2 = if3.before in
     let if1 = if2.before in
     let rows = if1.before in
     let start = rows.before.before in
     let q = rows.accepted-rows in
-    let z = (site-of start.args.rows.now q.result q.ensures.0 q.ensures.1.0 q.ensures.1.1.0 if1.if1.false).3 in
+    let z = (site_of start.args.rows.now q.result q.ensures.0 q.ensures.1.0 q.ensures.1.1.0 if1.if1.false).3 in
     let wr = some_words start.args.rows.now q.result q.ensures.0 q.ensures.1.1.0 if1.if1.false in
-    let w = state-in.state-in in
-    ((some-rows z, is-fine z), (ends start.args.rows.now start.args.state.now q.new.1.0 w.new.1.1.0 start.args.fits q.result z wr if3.if3.false if2.if2.false w.ensures.1 w.ensures.0, refl))
+    let w = state_in.state_in in
+    ((some_rows z, is_fine z), (ends start.args.rows.now start.args.state.now q.new.1.0 w.new.1.1.0 start.args.fits q.result z wr if3.if3.false if2.if2.false w.ensures.1 w.ensures.0, refl))
 
-is-failed-requires : tie.Need-is-failed-requires
-is-failed-requires c κs =
+is_failed_requires : tie.Need-is-failed-requires
+is_failed_requires c κs =
     let if4 = c.before.before.before in
     let held = if4.before in
     let copied = held.before.before.before.before in
@@ -97,10 +97,10 @@ is-failed-requires c κs =
     let rows = if1.before in
     let start = rows.before.before in
     let q = rows.accepted-rows in
-    let z = (site-of start.args.rows.now q.result q.ensures.0 q.ensures.1.0 q.ensures.1.1.0 if1.if1.false).3 in
+    let z = (site_of start.args.rows.now q.result q.ensures.0 q.ensures.1.0 q.ensures.1.1.0 if1.if1.false).3 in
     let wr = some_words start.args.rows.now q.result q.ensures.0 q.ensures.1.1.0 if1.if1.false in
-    let w = copied.state-in in (
-      (some-rows z, is-fine z),
+    let w = copied.state_in in (
+      (some_rows z, is_fine z),
       (
         ends start.args.rows.now start.args.state.now q.new.1.0 w.new.1.1.0 start.args.fits q.result z wr
             if3.if3.false if2.if2.false w.ensures.1 w.ensures.0,
@@ -108,8 +108,8 @@ is-failed-requires c κs =
       ),
     )
 
-returns-4 : tie.Need-returns-4
-returns-4 c =
+returns_4 : tie.Need-returns-4
+returns_4 c =
     let failed = c.before in
     let if4 = failed.before.before.before.before in
     let held = if4.before in
@@ -120,17 +120,17 @@ returns-4 c =
     let rows = if1.before in
     let start = rows.before.before in
     let q = rows.accepted-rows in
-    let z = (site-of start.args.rows.now q.result q.ensures.0 q.ensures.1.0 q.ensures.1.1.0 if1.if1.false).3 in
+    let z = (site_of start.args.rows.now q.result q.ensures.0 q.ensures.1.0 q.ensures.1.1.0 if1.if1.false).3 in
     let wr = some_words start.args.rows.now q.result q.ensures.0 q.ensures.1.1.0 if1.if1.false in
-    let w = copied.state-in in
+    let w = copied.state_in in
     let h = held.held in
     let k = failed.is-failed in
-    open-failed start.args.rows.now start.args.state.now q.new.1.0 w.new.1.1.0 start.args.fits q.result z wr
+    open_failed start.args.rows.now start.args.state.now q.new.1.0 w.new.1.1.0 start.args.fits q.result z wr
     if3.if3.false if2.if2.false w.ensures.1 w.ensures.0 h.result h.new.1.1.1.0 h.ensures.0 if4.if4.true
     k.result k.ensures c.if5.true
 
-returns-5 : tie.Need-returns-5
-returns-5 c =
+returns_5 : tie.Need-returns-5
+returns_5 c =
     let if5 = c.before in
     let failed = if5.before in
     let if4 = failed.before.before.before.before in
@@ -142,38 +142,38 @@ returns-5 c =
     let rows = if1.before in
     let start = rows.before.before in
     let q = rows.accepted-rows in
-    let z = (site-of start.args.rows.now q.result q.ensures.0 q.ensures.1.0 q.ensures.1.1.0 if1.if1.false).3 in
+    let z = (site_of start.args.rows.now q.result q.ensures.0 q.ensures.1.0 q.ensures.1.1.0 if1.if1.false).3 in
     let wr = some_words start.args.rows.now q.result q.ensures.0 q.ensures.1.1.0 if1.if1.false in
-    let w = copied.state-in in
+    let w = copied.state_in in
     let h = held.held in
     let k = failed.is-failed in
     subst (OpenOk start.args.rows.now start.args.state.now start.args.fits q.new.1.0 w.new.1.1.0) (sym c.not-failed4.ensures)
-    (open-22 start.args.rows.now start.args.state.now q.new.1.0 w.new.1.1.0 start.args.fits q.result z wr
+    (open_22 start.args.rows.now start.args.state.now q.new.1.0 w.new.1.1.0 start.args.fits q.result z wr
     if3.if3.false if2.if2.false w.ensures.1 w.ensures.0 h.result h.new.1.1.1.0 h.ensures.0 if4.if4.true
     k.result k.ensures if5.if5.false)
 
-sub-stride : tie.Need-overflow-sub-stride
-sub-stride c =
+sub_stride : tie.Need-overflow-sub-stride
+sub_stride c =
     let if1 = c.before.before.before.before.before.before.before.before.before.before.before in
-    let start-at = if1.before in
-    let rows = start-at in
+    let start_at = if1.before in
+    let rows = start_at in
     let start = rows.before.before in
     let q = rows.accepted-rows in
-    let z = (site-of start.args.rows.now q.result q.ensures.0 q.ensures.1.0 q.ensures.1.1.0 if1.if1.false).3 in
-    some-rows z
+    let z = (site_of start.args.rows.now q.result q.ensures.0 q.ensures.1.0 q.ensures.1.1.0 if1.if1.false).3 in
+    some_rows z
 
-stride-requires : tie.Need-stride-requires
-stride-requires c κs =
+stride_requires : tie.Need-stride-requires
+stride_requires c κs =
     let if1 = c.before.before.before.before.before.before.before.before.before.before.before.before in
-    let start-at = if1.before in
-    let rows = start-at in
+    let start_at = if1.before in
+    let rows = start_at in
     let start = rows.before.before in
     let q = rows.accepted-rows in
-    let z = (site-of start.args.rows.now q.result q.ensures.0 q.ensures.1.0 q.ensures.1.1.0 if1.if1.false).3 in
-    is-fine z
+    let z = (site_of start.args.rows.now q.result q.ensures.0 q.ensures.1.0 q.ensures.1.1.0 if1.if1.false).3 in
+    is_fine z
 
-returns-6 : tie.Need-returns-6
-returns-6 c =
+returns_6 : tie.Need-returns-6
+returns_6 c =
     let if6 = c.before in
     let stride = if6.before in
     let if4 = stride.before.before.before.before in
@@ -185,18 +185,18 @@ returns-6 c =
     let rows = if1.before in
     let start = rows.before.before in
     let q = rows.accepted-rows in
-    let z = (site-of start.args.rows.now q.result q.ensures.0 q.ensures.1.0 q.ensures.1.1.0 if1.if1.false).3 in
+    let z = (site_of start.args.rows.now q.result q.ensures.0 q.ensures.1.0 q.ensures.1.1.0 if1.if1.false).3 in
     let wr = some_words start.args.rows.now q.result q.ensures.0 q.ensures.1.1.0 if1.if1.false in
-    let w = copied.state-in in
+    let w = copied.state_in in
     let h = held.held in
     let m = stride.stride in
     subst (OpenOk start.args.rows.now start.args.state.now start.args.fits q.new.1.0 w.new.1.1.0) (sym c.not-failed5.ensures)
-    (open-23 start.args.rows.now start.args.state.now q.new.1.0 w.new.1.1.0 start.args.fits q.result z wr
+    (open_23 start.args.rows.now start.args.state.now q.new.1.0 w.new.1.1.0 start.args.fits q.result z wr
     if3.if3.false if2.if2.false w.ensures.1 w.ensures.0 h.result h.new.1.1.1.0 h.ensures.0 if4.if4.false m.result
     m.new.1.0 _ m.ensures if6.if6.true)
 
-returns-7 : tie.Need-returns-7
-returns-7 c =
+returns_7 : tie.Need-returns-7
+returns_7 c =
     let if6 = c.before in
     let stride = if6.before in
     let if4 = stride.before.before.before.before in
@@ -208,16 +208,16 @@ returns-7 c =
     let rows = if1.before in
     let start = rows.before.before in
     let q = rows.accepted-rows in
-    let z = (site-of start.args.rows.now q.result q.ensures.0 q.ensures.1.0 q.ensures.1.1.0 if1.if1.false).3 in
+    let z = (site_of start.args.rows.now q.result q.ensures.0 q.ensures.1.0 q.ensures.1.1.0 if1.if1.false).3 in
     let wr = some_words start.args.rows.now q.result q.ensures.0 q.ensures.1.1.0 if1.if1.false in
-    let w = copied.state-in in
+    let w = copied.state_in in
     let h = held.held in
     let m = stride.stride in
     subst (OpenOk start.args.rows.now start.args.state.now start.args.fits q.new.1.0 w.new.1.1.0) (sym c.not-failed6.ensures)
-    (open-0 start.args.rows.now start.args.state.now q.new.1.0 w.new.1.1.0 start.args.fits q.result z wr
+    (open_0 start.args.rows.now start.args.state.now q.new.1.0 w.new.1.1.0 start.args.fits q.result z wr
     if3.if3.false if2.if2.false w.ensures.1 w.ensures.0 h.result h.new.1.1.1.0 h.ensures.0 if4.if4.false m.result
     m.new.1.0 _ m.ensures if6.if6.false)
 
 pub open_spec : {M : Type 1} → statement M
-open_spec = tie.close (tie.spec (λ c κs. c.before.requires.0) (λ c κs. search rules) returns mul-if2 (λ c κs. search rules) returns-2 (λ c κs. search rules) returns-3 state-in-requires held-requires
-    is-failed-requires returns-4 (λ c κs. search rules) returns-5 sub-stride stride-requires (λ c κs. search rules) returns-6 (λ c κs. search rules) returns-7)
+open_spec = tie.close (tie.spec (λ c κs. c.before.requires.0) (λ c κs. search rules) returns mul_if2 (λ c κs. search rules) returns_2 (λ c κs. search rules) returns_3 state_in_requires held_requires
+    is_failed_requires returns_4 (λ c κs. search rules) returns_5 sub_stride stride_requires (λ c κs. search rules) returns_6 (λ c κs. search rules) returns_7)

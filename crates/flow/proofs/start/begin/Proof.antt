@@ -2,21 +2,21 @@
 use mathlib.Core.Path.{refl}
 use native.Mathlib.Omega.{arith}
 use borrow.Author.Rules.{rules}
-use Rattle.flow.proofs.StartLaws.{begins, begins-failed}
+use Rattle.flow.proofs.StartLaws.{begins, begins_failed}
 use Rattle.flow.proofs.start.begin.Statement.{statement}
 use Rattle.flow.proofs.start.begin.Tie as tie
 
-first-cells-requires' : tie.Need-first-cells-requires
-first-cells-requires' = λ c κs. let l = c.before.requires.0.0 in let h = c.before.requires.0.1.low in omega arith
+first_cells_requires' : tie.Need-first-cells-requires
+first_cells_requires' = λ c κs. let l = c.before.requires.0.0 in let h = c.before.requires.0.1.low in omega arith
 
-sub-evaluate' : tie.Need-overflow-sub-evaluate
-sub-evaluate' = λ c. search rules
+sub_evaluate' : tie.Need-overflow-sub-evaluate
+sub_evaluate' = λ c. search rules
 
-evaluate-requires' : tie.Need-evaluate-requires
-evaluate-requires' = λ c κs. search rules
+evaluate_requires' : tie.Need-evaluate-requires
+evaluate_requires' = λ c κs. search rules
 
-write-failed-requires' : tie.Need-write-failed-requires
-write-failed-requires' c κs = let s = c.before.before.before.before.before.before.before.before in (s.requires.0, refl)
+write_failed_requires' : tie.Need-write-failed-requires
+write_failed_requires' c κs = let s = c.before.before.before.before.before.before.before.before in (s.requires.0, refl)
 
 returns' : tie.Need-returns
 returns' c =
@@ -24,17 +24,17 @@ returns' c =
     let v = if1.before in
     let f = v.before.before.before in
     let s = f.before.before in
-    begins-failed s.args.rows.now s.args.n s.args.words.now f.first-cells.new.1.1.0 v.evaluate.new.1.0 c.write-failed.new.1.1.0 _ v.evaluate.result
+    begins_failed s.args.rows.now s.args.n s.args.words.now f.first-cells.new.1.1.0 v.evaluate.new.1.0 c.write-failed.new.1.1.0 _ v.evaluate.result
     s.requires.1 f.first-cells.ensures v.evaluate.ensures if1.if1.true c.write-failed.ensures
 
-sub-normalise' : tie.Need-overflow-sub-normalise
-sub-normalise' = λ c. search rules
+sub_normalise' : tie.Need-overflow-sub-normalise
+sub_normalise' = λ c. search rules
 
-normalise-requires' : tie.Need-normalise-requires
-normalise-requires' = λ c κs. search rules
+normalise_requires' : tie.Need-normalise-requires
+normalise_requires' = λ c κs. search rules
 
-returns-2' : tie.Need-returns-2
-returns-2' c =
+returns_2' : tie.Need-returns-2
+returns_2' c =
     let if1 = c.before.before.before in
     let v = if1.before in
     let f = v.before.before.before in
@@ -43,5 +43,5 @@ returns-2' c =
     begins s.args.rows.now s.args.n s.args.words.now f.first-cells.new.1.1.0 v.evaluate.new.1.0 m.new.1.0 _ v.evaluate.result m.result
     s.requires.1 f.first-cells.ensures v.evaluate.ensures if1.if1.false m.ensures
 
-pub begin-spec : {M : Type 1} → statement M
-begin-spec = tie.close (tie.spec first-cells-requires' sub-evaluate' evaluate-requires' write-failed-requires' returns' sub-normalise' normalise-requires' returns-2')
+pub begin_spec : {M : Type 1} → statement M
+begin_spec = tie.close (tie.spec first_cells_requires' sub_evaluate' evaluate_requires' write_failed_requires' returns' sub_normalise' normalise_requires' returns_2')

@@ -4,38 +4,38 @@ use mathlib.Core.Bool.{true}
 use Prim.Native.Nat.{◌≤◌, ◌-◌}
 use native.Mathlib.Omega.{arith}
 use borrow.Author.Rules.{rules}
-use Rattle.rows.specs.Rows.{every, rowListed}
-use Rattle.grounds.proofs.Every.{every-none, every_more, every-broken, every-all}
+use Rattle.rows.specs.Rows.{every, row_listed}
+use Rattle.grounds.proofs.Every.{every_none, every_more, every_broken, every_all}
 use Rattle.grounds.proofs.listed.listed.Statement.{statement}
 use Rattle.grounds.proofs.listed.listed.Tie as tie
 
 abbrev invariant-loop : tie.invariant-loop
-invariant-loop rows n i₀ i = (i ≤ n) × (every i (rowListed rows) ≡ true)
+invariant-loop rows n i₀ i = (i ≤ n) × (every i (row_listed rows) ≡ true)
 
 abbrev decreases-loop : tie.decreases-loop
 decreases-loop rows n i₀ i = n - i
 
-pub listed-spec : {M : Type 1} → statement M
-listed-spec = tie.close (tie.spec
+pub listed_spec : {M : Type 1} → statement M
+listed_spec = tie.close (tie.spec
     invariant-loop
     decreases-loop
-    (λ c. (omega arith, every-none (rowListed c.args.rows.now)))
+    (λ c. (omega arith, every_none (row_listed c.args.rows.now)))
     (λ c κs. search rules)
     (λ c.
-    let row_listed = c.before in
-    let test = row_listed.before in
+    let row_listed_point = c.before in
+    let test = row_listed_point.before in
     let loop = test.before in
     let start = loop.before in
-    every-broken (rowListed start.args.rows.now) start.args.n loop.loop.i row_listed.row_listed.result test.loop-test.true
-    row_listed.row_listed.ensures c.if1.true)
+    every_broken (row_listed start.args.rows.now) start.args.n loop.loop.i row_listed_point.row_listed.result test.loop-test.true
+    row_listed_point.row_listed.ensures c.if1.true)
     (λ c. search rules)
     (λ c. search rules)
     (λ c.
-    let row_listed = c.before in
-    let loop = row_listed.before.before in
+    let row_listed_point = c.before in
+    let loop = row_listed_point.before.before in
     let start = loop.before in
-    (omega arith, every_more (rowListed start.args.rows.now) loop.loop.i row_listed.row_listed.result loop.loop.invariant.1 row_listed.row_listed.ensures c.if1.false))
+    (omega arith, every_more (row_listed start.args.rows.now) loop.loop.i row_listed_point.row_listed.result loop.loop.invariant.1 row_listed_point.row_listed.ensures c.if1.false))
     (λ c.
     let loop = c.before in
     let start = loop.before in
-    every-all (rowListed start.args.rows.now) start.args.n loop.loop.i loop.loop.invariant.1 (omega arith)))
+    every_all (row_listed start.args.rows.now) start.args.n loop.loop.i loop.loop.invariant.1 (omega arith)))

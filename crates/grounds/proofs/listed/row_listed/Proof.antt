@@ -1,33 +1,33 @@
 -- `listed::row_listed`: the operands are as the kind asks, and a truth cell holds a truth.
 use borrow.Author.Rules.{rules}
-use Rattle.grounds.proofs.Ground3.{row-unlisted, row-cell}
+use Rattle.grounds.proofs.Ground3.{row_unlisted, row_cell}
 use Rattle.grounds.proofs.listed.row_listed.Statement.{statement}
 use Rattle.grounds.proofs.listed.row_listed.Tie as tie
 
-pub row-listed-spec : {M : Type 1} → statement M
-row-listed-spec = tie.close (tie.spec
+pub row_listed_spec : {M : Type 1} → statement M
+row_listed_spec = tie.close (tie.spec
     (λ c κs. search rules)
     (λ c κs. search rules)
     (λ c κs. search rules)
     (λ c κs. search rules)
     (λ c κs. search rules)
     (λ c.
-    let operands-listed = c.before in
-    let get3 = operands-listed.before in
+    let operands_listed = c.before in
+    let get3 = operands_listed.before in
     let get2 = get3.before in
     let get = get2.before in
     let asks_at = get.before in
     let start = asks_at.before in
-    row-unlisted start.args.rows.now start.args.i asks_at.asks_at.result asks_at.asks_at.ensures get.get.ensures
-    get2.get2.ensures get3.get3.ensures operands-listed.operands-listed.ensures c.if1.true)
+    row_unlisted start.args.rows.now start.args.i asks_at.asks_at.result asks_at.asks_at.ensures get.get.ensures
+    get2.get2.ensures get3.get3.ensures operands_listed.operands-listed.ensures c.if1.true)
     (λ c κs. search rules)
     (λ c.
     let if1 = c.before in
-    let operands-listed = if1.before in
-    let get3 = operands-listed.before in
+    let operands_listed = if1.before in
+    let get3 = operands_listed.before in
     let get2 = get3.before in
     let get = get2.before in
     let asks_at = get.before in
     let start = asks_at.before in
-    row-cell start.args.rows.now start.args.i asks_at.asks_at.result asks_at.asks_at.ensures get.get.ensures
-    get2.get2.ensures get3.get3.ensures operands-listed.operands-listed.ensures if1.if1.false c.truth-cell.ensures))
+    row_cell start.args.rows.now start.args.i asks_at.asks_at.result asks_at.asks_at.ensures get.get.ensures
+    get2.get2.ensures get3.get3.ensures operands_listed.operands-listed.ensures if1.if1.false c.truth_cell_lem.ensures))

@@ -1,11 +1,11 @@
 -- `listed::truth_cell`: a cell whose type row is lower and of kind 2 holds a truth.
 use borrow.Author.Rules.{rules}
-use Rattle.grounds.proofs.Ground3.{no_cell, high-cell, other-cell, truth-cell}
+use Rattle.grounds.proofs.Ground3.{no_cell, high_cell, other_cell, truth_cell_lem}
 use Rattle.grounds.proofs.listed.truth_cell.Statement.{statement}
 use Rattle.grounds.proofs.listed.truth_cell.Tie as tie
 
-pub truth-cell-spec : {M : Type 1} → statement M
-truth-cell-spec = tie.close (tie.spec
+pub truth_cell_spec : {M : Type 1} → statement M
+truth_cell_spec = tie.close (tie.spec
     (λ c κs. search rules)
     (λ c. let s = c.before.before in no_cell s.args.rows.now s.args.i c.before.get.ensures c.if1.true)
     (λ c κs. search rules)
@@ -14,7 +14,7 @@ truth-cell-spec = tie.close (tie.spec
     let if1 = operand.before in
     let get = if1.before in
     let start = get.before in
-    high-cell start.args.rows.now start.args.i get.get.ensures if1.if1.false operand.operand.ensures c.if2.true)
+    high_cell start.args.rows.now start.args.i get.get.ensures if1.if1.false operand.operand.ensures c.if2.true)
     (λ c κs. search rules)
     (λ c.
     let get2 = c.before in
@@ -23,7 +23,7 @@ truth-cell-spec = tie.close (tie.spec
     let if1 = operand.before in
     let get = if1.before in
     let start = get.before in
-    other-cell start.args.rows.now start.args.i get.get.ensures if1.if1.false operand.operand.ensures if2.if2.false
+    other_cell start.args.rows.now start.args.i get.get.ensures if1.if1.false operand.operand.ensures if2.if2.false
     get2.get2.ensures c.if3.true)
     (λ c κs. search rules)
     (λ c.
@@ -34,5 +34,5 @@ truth-cell-spec = tie.close (tie.spec
     let if1 = operand.before in
     let get = if1.before in
     let start = get.before in
-    truth-cell start.args.rows.now start.args.i get.get.ensures if1.if1.false operand.operand.ensures if2.if2.false
+    truth_cell_lem start.args.rows.now start.args.i get.get.ensures if1.if1.false operand.operand.ensures if2.if2.false
     get2.get2.ensures if3.if3.false c.get3.ensures))

@@ -3,26 +3,26 @@ use mathlib.Core.Path.{◌≡◌, subst}
 use mathlib.Core.Bool.{true, false, not}
 use borrow.Author.Rules.{rules}
 use Rattle.rows.specs.Rows.{names}
-use Rattle.grounds.specs.Table.{askBy}
-use Rattle.grounds.proofs.Ground5.{name-not, name-past, name-full, name-one}
+use Rattle.grounds.specs.Table.{ask_by}
+use Rattle.grounds.proofs.Ground5.{name_not, name_past, name_full, name_one}
 use Rattle.grounds.proofs.named.name.Statement.{statement}
 use Rattle.grounds.proofs.named.name.Tie as tie
 
-pub name-spec : {M : Type 1} → statement M
-name-spec = tie.close (tie.spec
+pub name_spec : {M : Type 1} → statement M
+name_spec = tie.close (tie.spec
     (λ c κs. search rules)
-    (λ c. let s = c.before.before in name-not s.args.table.now (names (askBy s.args.q)) s.args.w (subst (λ b. not b ≡ true) c.before.names-row.ensures c.if1.true))
-    (λ c. let s = c.before.before.before in name-past s.args.table.now (names (askBy s.args.q)) s.args.w c.if2.true)
+    (λ c. let s = c.before.before in name_not s.args.table.now (names (ask_by s.args.q)) s.args.w (subst (λ b. not b ≡ true) c.before.names-row.ensures c.if1.true))
+    (λ c. let s = c.before.before.before in name_past s.args.table.now (names (ask_by s.args.q)) s.args.w c.if2.true)
     (λ c. search rules)
     (λ c.
     let start = c.before.before.before.before.before in
-    name-full start.args.table.now (names (askBy start.args.q)) start.args.w c.if3.true)
+    name_full start.args.table.now (names (ask_by start.args.q)) start.args.w c.if3.true)
     (λ c. search rules)
     (λ c. search rules)
     (λ c.
     let if2 = c.before.before in
     let if1 = if2.before in
-    let names-row = if1.before in
-    let start = names-row.before in
-    name-one start.args.table.now (names (askBy start.args.q)) start.args.w
-    (subst (λ b. not b ≡ false) names-row.names-row.ensures if1.if1.false) if2.if2.false c.if3.false))
+    let names_row = if1.before in
+    let start = names_row.before in
+    name_one start.args.table.now (names (ask_by start.args.q)) start.args.w
+    (subst (λ b. not b ≡ false) names_row.names-row.ensures if1.if1.false) if2.if2.false c.if3.false))

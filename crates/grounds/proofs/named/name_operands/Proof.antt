@@ -1,14 +1,14 @@
 -- `named::name_operands`: the three operands, one after another.
 use borrow.Author.Rules.{rules}
-use Rattle.grounds.proofs.Ground5.{name-unknown, name-known}
+use Rattle.grounds.proofs.Ground5.{name_unknown, name_known}
 use Rattle.grounds.proofs.named.name_operands.Statement.{statement}
 use Rattle.grounds.proofs.named.name_operands.Tie as tie
 
-pub name-operands-spec : {M : Type 1} → statement M
-name-operands-spec = tie.close (tie.spec
+pub name_operands_spec : {M : Type 1} → statement M
+name_operands_spec = tie.close (tie.spec
     (λ c. search rules)
     (λ c. search rules)
-    (λ c. let s = c.before.before in name-unknown s.args.table.now s.args.a s.args.b s.args.c s.args.s c.enum_told.given.1)
+    (λ c. let s = c.before.before in name_unknown s.args.table.now s.args.a s.args.b s.args.c s.args.s c.enum_told.given.1)
     (λ c κs. search rules)
     (λ c κs. search rules)
     (λ c κs. search rules)
@@ -17,5 +17,5 @@ name-operands-spec = tie.close (tie.spec
     let name = name2.before.before in
     let s = name.before.before.before in
     let start = s.before.before in
-    name-known start.args.table.now start.args.a start.args.b start.args.c start.args.s name.name.new.0
+    name_known start.args.table.now start.args.a start.args.b start.args.c start.args.s name.name.new.0
     name2.name2.new.0 c.name3.new.0 s.s.given.1 name.name.ensures name2.name2.ensures c.name3.ensures))

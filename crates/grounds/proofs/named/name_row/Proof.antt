@@ -1,13 +1,13 @@
 -- `named::name_row`: a row of kind 20 or more counts its operands.
 use borrow.Author.Rules.{rules}
-use Rattle.grounds.proofs.Ground5.{name-low, name-high}
+use Rattle.grounds.proofs.Ground5.{name_low, name_high}
 use Rattle.grounds.proofs.named.name_row.Statement.{statement}
 use Rattle.grounds.proofs.named.name_row.Tie as tie
 
-pub name-row-spec : {M : Type 1} → statement M
-name-row-spec = tie.close (tie.spec
+pub name_row_spec : {M : Type 1} → statement M
+name_row_spec = tie.close (tie.spec
     (λ c κs. search rules)
-    (λ c. let s = c.before.before in name-low s.args.rows.now s.args.table.now s.args.j c.before.get.ensures c.if1.true)
+    (λ c. let s = c.before.before in name_low s.args.rows.now s.args.table.now s.args.j c.before.get.ensures c.if1.true)
     (λ c κs. search rules)
     (λ c κs. search rules)
     (λ c κs. search rules)
@@ -21,6 +21,6 @@ name-row-spec = tie.close (tie.spec
     let if1 = get2.before in
     let get = if1.before in
     let start = get.before in
-    name-high start.args.rows.now start.args.table.now start.args.j get.get.ensures if1.if1.false c.name-operands.new.0
+    name_high start.args.rows.now start.args.table.now start.args.j get.get.ensures if1.if1.false c.name-operands.new.0
     asks_at.asks_at.result asks_at.asks_at.ensures get2.get2.ensures get3.get3.ensures get4.get4.ensures
     c.name-operands.ensures))

@@ -5,7 +5,7 @@ use native.Mathlib.Omega.{arith}
 use borrow.Author.Rules.{rules}
 use Rattle.rows.specs.Rows.{namings}
 use Rattle.grounds.specs.Tables.{More}
-use Rattle.grounds.proofs.Ground5.{name-rows-none, name-rows-more}
+use Rattle.grounds.proofs.Ground5.{name_rows_none, name_rows_more}
 use Rattle.grounds.proofs.named.name_rows.Statement.{statement}
 use Rattle.grounds.proofs.named.name_rows.Tie as tie
 
@@ -15,18 +15,18 @@ invariant-loop rows table₀ n j₀ table j = (j ≤ n) × More table₀ table (
 abbrev decreases-loop : tie.decreases-loop
 decreases-loop rows table₀ n j₀ table j = n - j
 
-pub name-rows-spec : {M : Type 1} → statement M
-name-rows-spec = tie.close (tie.spec
+pub name_rows_spec : {M : Type 1} → statement M
+name_rows_spec = tie.close (tie.spec
     invariant-loop
     decreases-loop
-    (λ c. (omega arith, name-rows-none c.args.rows.now c.args.table.now))
+    (λ c. (omega arith, name_rows_none c.args.rows.now c.args.table.now))
     (λ c κs. search rules)
     (λ c. search rules)
     (λ c. search rules)
     (λ c.
     let loop = c.before.before.before in
     let start = loop.before in
-    (omega arith, name-rows-more start.args.rows.now start.args.table.now loop.loop.table c.name-row.new.1.0 loop.loop.j loop.loop.invariant.1 c.name-row.ensures))
+    (omega arith, name_rows_more start.args.rows.now start.args.table.now loop.loop.table c.name-row.new.1.0 loop.loop.j loop.loop.invariant.1 c.name-row.ensures))
     (λ c.
     let loop = c.before in
     let start = loop.before in

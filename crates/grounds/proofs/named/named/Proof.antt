@@ -4,22 +4,22 @@ use mathlib.Core.Bool.{◌&&◌}
 use Prim.Native.Nat.{◌-◌}
 use borrow.Author.Rules.{rules}
 use borrow.Author.Tests.{not-true, not-false}
-use Rattle.rows.specs.Rows.{namings, lastFits}
-use Rattle.grounds.proofs.Ground5.{more-zero, last-is}
+use Rattle.rows.specs.Rows.{namings, last_fits}
+use Rattle.grounds.proofs.Ground5.{more_zero, last_is}
 use Rattle.grounds.proofs.named.named.Statement.{statement}
 use Rattle.grounds.proofs.named.named.Tie as tie
 
-pub named-spec : {M : Type 1} → statement M
-named-spec = tie.close (tie.spec
+pub named_spec : {M : Type 1} → statement M
+named_spec = tie.close (tie.spec
     (λ c κs. search rules)
     (λ c κs.
-    let name-rows = c.before in
-    let start = name-rows.before.before in
-    (start.requires.1, more-zero name-rows.name-rows.new.1.0 (λ i. namings start.args.rows.now i start.args.n) name-rows.name-rows.ensures))
+    let name_rows = c.before in
+    let start = name_rows.before.before in
+    (start.requires.1, more_zero name_rows.name-rows.new.1.0 (λ i. namings start.args.rows.now i start.args.n) name_rows.name-rows.ensures))
     (λ c.
     let all_named = c.before in
     let start = all_named.before.before.before.before in
-    ap (λ b. b && lastFits start.args.rows.now (start.args.n - 1))
+    ap (λ b. b && last_fits start.args.rows.now (start.args.n - 1))
     (sym (not-true all_named.all_named.result c.if1.true) ∙ all_named.all_named.ensures))
     (λ c. search rules)
     (λ c κs. search rules)
@@ -29,6 +29,6 @@ named-spec = tie.close (tie.spec
     let if1 = get.before in
     let all_named = if1.before in
     let start = all_named.before.before.before.before in
-    last-is start.args.rows.now (start.args.n - 1) get.get.result get.get.ensures c.last-fits.result c.last-fits.ensures ∙
-    ap (λ b. b && lastFits start.args.rows.now (start.args.n - 1))
+    last_is start.args.rows.now (start.args.n - 1) get.get.result get.get.ensures c.last-fits.result c.last-fits.ensures ∙
+    ap (λ b. b && last_fits start.args.rows.now (start.args.n - 1))
     (sym (not-false all_named.all_named.result if1.if1.false) ∙ all_named.all_named.ensures)))

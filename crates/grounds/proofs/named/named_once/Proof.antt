@@ -1,13 +1,13 @@
 -- `named::named_once`: a row below kind 20, the last row, or a count of one.
 use borrow.Author.Rules.{rules}
-use Rattle.grounds.proofs.Ground5.{once-low, once_last, once-counted}
+use Rattle.grounds.proofs.Ground5.{once_low, once_last, once_counted}
 use Rattle.grounds.proofs.named.named_once.Statement.{statement}
 use Rattle.grounds.proofs.named.named_once.Tie as tie
 
-pub named-once-spec : {M : Type 1} → statement M
-named-once-spec = tie.close (tie.spec
+pub named_once_spec : {M : Type 1} → statement M
+named_once_spec = tie.close (tie.spec
     (λ c κs. search rules)
-    (λ c. let s = c.before.before in once-low s.args.rows.now s.args.n s.args.i c.before.get.ensures c.if1.true)
+    (λ c. let s = c.before.before in once_low s.args.rows.now s.args.n s.args.i c.before.get.ensures c.if1.true)
     (λ c. search rules)
     (λ c.
     let if1 = c.before in
@@ -18,5 +18,5 @@ named-once-spec = tie.close (tie.spec
     let if1 = c.before in
     let get = if1.before in
     let start = get.before in
-    once-counted start.args.rows.now start.args.n start.args.i get.get.ensures if1.if1.false c.if2.false start.args.x
+    once_counted start.args.rows.now start.args.n start.args.i get.get.ensures if1.if1.false c.if2.false start.args.x
     start.requires.2))

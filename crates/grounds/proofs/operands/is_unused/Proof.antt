@@ -1,14 +1,14 @@
 -- `operands::is_unused`: which ask is that of an unused operand.
 use mathlib.Core.Path.{sym, ap}
 use borrow.Author.Rules.{rules}
-use Rattle.rows.specs.Kinds.{isUnused}
-use Rattle.grounds.specs.Table.{askBy}
+use Rattle.rows.specs.Kinds.{is_unused}
+use Rattle.grounds.specs.Table.{ask_by}
 use Rattle.grounds.proofs.operands.is_unused.Statement.{statement}
 use Rattle.grounds.proofs.operands.is_unused.Tie as tie
 
-pub is-unused-spec : {M : Type 1} → statement M
-unfolding isUnused
-is-unused-spec = tie.close (tie.spec
+pub is_unused_spec : {M : Type 1} → statement M
+unfolding is_unused
+is_unused_spec = tie.close (tie.spec
     (λ c. search rules)
     (λ c. search rules)
     (λ c. search rules)
@@ -22,16 +22,16 @@ is-unused-spec = tie.close (tie.spec
     (λ c. search rules)
     (λ c. search rules)
     (λ c. search rules)
-    (λ c. sym (ap (λ q. isUnused (askBy q)) c.enum_told.given.1))
-    (λ c. sym (ap (λ q. isUnused (askBy q)) c.enum-told2.given.1))
-    (λ c. sym (ap (λ q. isUnused (askBy q)) c.enum-told3.given.1))
-    (λ c. sym (ap (λ q. isUnused (askBy q)) c.enum-told4.given.1))
-    (λ c. sym (ap (λ q. isUnused (askBy q)) c.enum-told5.given.1))
-    (λ c. sym (ap (λ q. isUnused (askBy q)) c.enum-told6.given.1))
-    (λ c. sym (ap (λ q. isUnused (askBy q)) c.enum-told7.given.1))
-    (λ c. sym (ap (λ q. isUnused (askBy q)) c.enum-told8.given.1))
-    (λ c. sym (ap (λ q. isUnused (askBy q)) c.enum-told9.given.1))
-    (λ c. sym (ap (λ q. isUnused (askBy q)) c.enum-told10.given.1))
-    (λ c. sym (ap (λ q. isUnused (askBy q)) c.enum-told11.given.1))
-    (λ c. sym (ap (λ q. isUnused (askBy q)) c.enum-told12.given.1))
-    (λ c. sym (ap (λ q. isUnused (askBy q)) c.enum-told13.given.1)))
+    (λ c. sym (ap (λ q. is_unused (ask_by q)) c.enum_told.given.1))
+    (λ c. sym (ap (λ q. is_unused (ask_by q)) c.enum-told2.given.1))
+    (λ c. sym (ap (λ q. is_unused (ask_by q)) c.enum-told3.given.1))
+    (λ c. sym (ap (λ q. is_unused (ask_by q)) c.enum-told4.given.1))
+    (λ c. sym (ap (λ q. is_unused (ask_by q)) c.enum-told5.given.1))
+    (λ c. sym (ap (λ q. is_unused (ask_by q)) c.enum-told6.given.1))
+    (λ c. sym (ap (λ q. is_unused (ask_by q)) c.enum-told7.given.1))
+    (λ c. sym (ap (λ q. is_unused (ask_by q)) c.enum-told8.given.1))
+    (λ c. sym (ap (λ q. is_unused (ask_by q)) c.enum-told9.given.1))
+    (λ c. sym (ap (λ q. is_unused (ask_by q)) c.enum-told10.given.1))
+    (λ c. sym (ap (λ q. is_unused (ask_by q)) c.enum-told11.given.1))
+    (λ c. sym (ap (λ q. is_unused (ask_by q)) c.enum-told12.given.1))
+    (λ c. sym (ap (λ q. is_unused (ask_by q)) c.enum-told13.given.1)))

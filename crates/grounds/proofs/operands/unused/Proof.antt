@@ -1,6 +1,6 @@
 -- `operands::unused` meets its contract, a word by its law. Assumes nothing.
 use borrow.Author.Rules.{rules}
-use Rattle.grounds.proofs.UnusedWords.{none-unused, first-unused, second-unused, third-unused, other_word}
+use Rattle.grounds.proofs.UnusedWords.{none_unused, first_unused, second_unused, third_unused, other_word}
 use Rattle.grounds.proofs.operands.unused.Statement.{statement}
 use Rattle.grounds.proofs.operands.unused.Tie as tie
 
@@ -10,28 +10,28 @@ unused_spec = tie.close (tie.spec
     (λ c.
     let line = c.before.before in
     let start = line.before in
-    none-unused start.args.kind start.args.k line.asks_of.ensures c.enum_told.given.1)
+    none_unused start.args.kind start.args.k line.asks_of.ensures c.enum_told.given.1)
     (λ c κs. search rules)
     (λ c.
     let if1 = c.before in
     let p = if1.before.before in
     let line = p.before.before in
     let start = line.before in
-    first-unused start.args.kind start.args.k line.asks_of.ensures p.p.given.1 if1.if1.true c.is-unused.ensures)
+    first_unused start.args.kind start.args.k line.asks_of.ensures p.p.given.1 if1.if1.true c.is-unused.ensures)
     (λ c κs. search rules)
     (λ c.
     let if2 = c.before in
     let p = if2.before.before.before in
     let line = p.before.before in
     let start = line.before in
-    second-unused start.args.kind start.args.k line.asks_of.ensures p.p.given.1 if2.if2.true c.is-unused2.ensures)
+    second_unused start.args.kind start.args.k line.asks_of.ensures p.p.given.1 if2.if2.true c.is-unused2.ensures)
     (λ c κs. search rules)
     (λ c.
     let if3 = c.before in
     let p = if3.before.before.before.before in
     let line = p.before.before in
     let start = line.before in
-    third-unused start.args.kind start.args.k line.asks_of.ensures p.p.given.1 if3.if3.true c.is-unused3.ensures)
+    third_unused start.args.kind start.args.k line.asks_of.ensures p.p.given.1 if3.if3.true c.is-unused3.ensures)
     (λ c.
     let if2 = c.before in
     let if1 = if2.before in

@@ -2,17 +2,17 @@
 use mathlib.Core.Path.{sym, ap}
 use native.Mathlib.Omega.{arith}
 use borrow.Author.Rules.{rules}
-use Rattle.rows.specs.Enclosing.{bindersBy}
-use Rattle.grounds.specs.Table.{aroundBy}
+use Rattle.rows.specs.Enclosing.{binders_by}
+use Rattle.grounds.specs.Table.{around_by}
 use Rattle.grounds.proofs.small.binder_of.Statement.{statement}
 use Rattle.grounds.proofs.small.binder_of.Tie as tie
 
-pub binder-of-spec : {M : Type 1} → statement M
-unfolding bindersBy
-binder-of-spec = tie.close (tie.spec
+pub binder_of_spec : {M : Type 1} → statement M
+unfolding binders_by
+binder_of_spec = tie.close (tie.spec
     (λ c. search rules)
     (λ c. search rules)
     (λ c. search rules)
-    (λ c. (sym (ap (λ x. bindersBy (aroundBy x)) c.enum_told.given.1), omega arith))
-    (λ c. (sym (ap (λ x. bindersBy (aroundBy x)) c.enum-told2.given.1), omega arith))
-    (λ c. (sym (ap (λ x. bindersBy (aroundBy x)) c.enum-told3.given.1), omega arith)))
+    (λ c. (sym (ap (λ x. binders_by (around_by x)) c.enum_told.given.1), omega arith))
+    (λ c. (sym (ap (λ x. binders_by (around_by x)) c.enum-told2.given.1), omega arith))
+    (λ c. (sym (ap (λ x. binders_by (around_by x)) c.enum-told3.given.1), omega arith)))

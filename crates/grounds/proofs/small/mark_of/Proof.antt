@@ -2,17 +2,17 @@
 use mathlib.Core.Path.{sym, ap}
 use native.Mathlib.Omega.{arith}
 use borrow.Author.Rules.{rules}
-use Rattle.rows.specs.Enclosing.{marksBy}
-use Rattle.grounds.specs.Table.{aroundBy}
+use Rattle.rows.specs.Enclosing.{marks_by}
+use Rattle.grounds.specs.Table.{around_by}
 use Rattle.grounds.proofs.small.mark_of.Statement.{statement}
 use Rattle.grounds.proofs.small.mark_of.Tie as tie
 
-pub mark-of-spec : {M : Type 1} → statement M
-unfolding marksBy
-mark-of-spec = tie.close (tie.spec
+pub mark_of_spec : {M : Type 1} → statement M
+unfolding marks_by
+mark_of_spec = tie.close (tie.spec
     (λ c. search rules)
     (λ c. search rules)
     (λ c. search rules)
-    (λ c. (sym (ap (λ x. marksBy (aroundBy x)) c.enum_told.given.1), omega arith))
-    (λ c. (sym (ap (λ x. marksBy (aroundBy x)) c.enum-told2.given.1), omega arith))
-    (λ c. (sym (ap (λ x. marksBy (aroundBy x)) c.enum-told3.given.1), omega arith)))
+    (λ c. (sym (ap (λ x. marks_by (around_by x)) c.enum_told.given.1), omega arith))
+    (λ c. (sym (ap (λ x. marks_by (around_by x)) c.enum-told2.given.1), omega arith))
+    (λ c. (sym (ap (λ x. marks_by (around_by x)) c.enum-told3.given.1), omega arith)))

@@ -1,36 +1,37 @@
--- `small::marks_by` meets its contract: the greatest of the three operands' counts, A's and B's with the row's own mark.
-use mathlib.Core.Path.{refl}
+-- `small::marks_by`: the greatest of the three operands' counts.
 use native.Mathlib.Omega.{arith}
 use borrow.Author.Rules.{rules}
-use Rattle.rows.specs.Enclosing.{maxMarks, mostMarks}
-use Rattle.grounds.specs.Counts.{Stopped}
-use Rattle.grounds.proofs.Stop.{held_low}
-use Rattle.grounds.proofs.Ground6.{by-unknown, marks-held}
+use Rattle.rows.specs.Enclosing.{most_marks}
+use Rattle.grounds.proofs.Ground6.{of_unknown, marks_are}
 use Rattle.grounds.proofs.small.marks_by.Statement.{statement}
 use Rattle.grounds.proofs.small.marks_by.Tie as tie
 
-returns : tie.Need-returns
-unfolding mostMarks
-returns c =
-    let a = c.before.before.args in
-    by-unknown (λ z. Stopped maxMarks (mostMarks z a.a a.b a.c) 0) c.enum_told.given.1 (held_low refl (omega arith))
-
-returns-2 : tie.Need-returns-2
-returns-2 c =
+pub marks_by_spec : {M : Type 1} → statement M
+unfolding most_marks
+marks_by_spec = tie.close (tie.spec
+    (λ c. search rules)
+    (λ c. search rules)
+    (λ c. let s = c.before.before in of_unknown (λ z. most_marks z s.args.a s.args.b s.args.c) c.enum_told.given.1)
+    (λ c κs. search rules)
+    (λ c.
+    let start = c.before.before.before.before in
+    omega (arith, c.mark_of.ensures.1, start.requires))
+    (λ c κs. search rules)
+    (λ c.
+    let mark_of = c.before in
+    let start = mark_of.before.before.before.before in
+    omega (arith, mark_of.mark_of.ensures.1, start.requires))
+    (λ c κs. search rules)
+    (λ c κs. search rules)
+    (λ c κs. search rules)
+    (λ c κs. search rules)
+    (λ c.
     let larger = c.before in
-    let third = larger.before in
-    let second = third.before in
-    let sum2 = second.before in
-    let first = sum2.before in
-    let sum = first.before in
-    let own = sum.before in
-    let line = own.before.before in
-    let start = line.before.before in
-    marks-held line.s.given.1 start.args.a start.args.b start.args.c larger.larger.ensures c.larger2.ensures
-    first.if-named.ensures second.if-named2.ensures third.if-named3.ensures
-    own.mark_of.ensures.0 sum.stopped-sum.ensures sum2.stopped-sum2.ensures (held_low refl start.requires.2)
-
-pub marks-by-spec : {M : Type 1} → statement M
-marks-by-spec = tie.close (tie.spec
-    (λ c. search rules) (λ c. search rules) returns (λ c κs. search rules) (λ c κs. search rules) (λ c κs. search rules)
-    (λ c κs. search rules) (λ c κs. search rules) (λ c κs. search rules) (λ c κs. search rules) (λ c κs. search rules) returns-2)
+    let if_named3 = larger.before in
+    let if_named2 = if_named3.before in
+    let if_named = if_named2.before in
+    let mark_of = if_named.before in
+    let s = mark_of.before.before in
+    let start = s.before.before in
+    marks_are s.s.given.1 start.args.a start.args.b start.args.c larger.larger.ensures c.larger2.ensures
+    mark_of.mark_of.ensures.0 if_named.if-named.ensures if_named2.if-named2.ensures if_named3.if-named3.ensures))

@@ -5,8 +5,8 @@ use Rattle.grounds.specs.Counts.{most_of}
 use Rattle.grounds.proofs.small.most_of.Statement.{statement}
 use Rattle.grounds.proofs.small.most_of.Tie as tie
 
-pub most-of-spec : {M : Type 1} → statement M
-most-of-spec = tie.close (tie.spec
+pub most_of_spec : {M : Type 1} → statement M
+most_of_spec = tie.close (tie.spec
     (λ c. search rules)
     (λ c. search rules)
     (λ c. search rules)

@@ -1,39 +1,39 @@
 -- `sorted::operands_sorted`: the three operands, one after another.
 use borrow.Author.Rules.{rules}
-use Rattle.rows.specs.Rows.{sortedAs}
-use Rattle.grounds.specs.Table.{askBy}
-use Rattle.grounds.proofs.Every.{not_first, not-second, third}
-use Rattle.grounds.proofs.Ground4.{unsorted, sorted-is}
+use Rattle.rows.specs.Rows.{sorted_as}
+use Rattle.grounds.specs.Table.{ask_by}
+use Rattle.grounds.proofs.Every.{not_first, not_second, third}
+use Rattle.grounds.proofs.Ground4.{unsorted, sorted_is}
 use Rattle.grounds.proofs.sorted.operands_sorted.Statement.{statement}
 use Rattle.grounds.proofs.sorted.operands_sorted.Tie as tie
 
-pub operands-sorted-spec : {M : Type 1} → statement M
-operands-sorted-spec = tie.close (tie.spec
+pub operands_sorted_spec : {M : Type 1} → statement M
+operands_sorted_spec = tie.close (tie.spec
     (λ c. search rules)
     (λ c. search rules)
     (λ c. λ u v w d e f. unsorted u v w c.enum_told.given.1)
     (λ c κs. search rules)
     (λ c.
-    let sorted-as = c.before in
-    let s = sorted-as.before.before in
-    λ u v w d e f. not_first (sortedAs (askBy s.s.given.0.0) u v) (sortedAs (askBy s.s.given.0.1.0) v v)
-    (sortedAs (askBy s.s.given.0.1.1.0) w v) (sorted-is u v w s.s.given.1) (sorted-as.sorted-as.ensures u v d e) c.if1.true)
+    let sorted_as_point = c.before in
+    let s = sorted_as_point.before.before in
+    λ u v w d e f. not_first (sorted_as (ask_by s.s.given.0.0) u v) (sorted_as (ask_by s.s.given.0.1.0) v v)
+    (sorted_as (ask_by s.s.given.0.1.1.0) w v) (sorted_is u v w s.s.given.1) (sorted_as_point.sorted-as.ensures u v d e) c.if1.true)
     (λ c κs. search rules)
     (λ c.
-    let sorted-as2 = c.before in
-    let if1 = sorted-as2.before in
-    let sorted-as = if1.before in
-    let s = sorted-as.before.before in
-    λ u v w d e f. not-second (sortedAs (askBy s.s.given.0.0) u v) (sortedAs (askBy s.s.given.0.1.0) v v)
-    (sortedAs (askBy s.s.given.0.1.1.0) w v) (sorted-is u v w s.s.given.1) (sorted-as.sorted-as.ensures u v d e) if1.if1.false
-    (sorted-as2.sorted-as2.ensures v v e e) c.if2.true)
+    let sorted_as2 = c.before in
+    let if1 = sorted_as2.before in
+    let sorted_as_point = if1.before in
+    let s = sorted_as_point.before.before in
+    λ u v w d e f. not_second (sorted_as (ask_by s.s.given.0.0) u v) (sorted_as (ask_by s.s.given.0.1.0) v v)
+    (sorted_as (ask_by s.s.given.0.1.1.0) w v) (sorted_is u v w s.s.given.1) (sorted_as_point.sorted-as.ensures u v d e) if1.if1.false
+    (sorted_as2.sorted-as2.ensures v v e e) c.if2.true)
     (λ c κs. search rules)
     (λ c.
     let if2 = c.before in
-    let sorted-as2 = if2.before in
-    let if1 = sorted-as2.before in
-    let sorted-as = if1.before in
-    let s = sorted-as.before.before in
-    λ u v w d e f. third (sortedAs (askBy s.s.given.0.0) u v) (sortedAs (askBy s.s.given.0.1.0) v v)
-    (sortedAs (askBy s.s.given.0.1.1.0) w v) (sorted-is u v w s.s.given.1) (sorted-as.sorted-as.ensures u v d e) if1.if1.false
-    (sorted-as2.sorted-as2.ensures v v e e) if2.if2.false (c.sorted-as3.ensures w v f e)))
+    let sorted_as2 = if2.before in
+    let if1 = sorted_as2.before in
+    let sorted_as_point = if1.before in
+    let s = sorted_as_point.before.before in
+    λ u v w d e f. third (sorted_as (ask_by s.s.given.0.0) u v) (sorted_as (ask_by s.s.given.0.1.0) v v)
+    (sorted_as (ask_by s.s.given.0.1.1.0) w v) (sorted_is u v w s.s.given.1) (sorted_as_point.sorted-as.ensures u v d e) if1.if1.false
+    (sorted_as2.sorted-as2.ensures v v e e) if2.if2.false (c.sorted-as3.ensures w v f e)))

@@ -1,12 +1,12 @@
 -- `sorted::row_sorted`: the sorts that the table has for the operands are those asked.
 use borrow.Author.Rules.{rules}
-use Rattle.rows.specs.Rows.{op_a, op_b, op_c, sortBelow}
-use Rattle.grounds.proofs.Ground4.{sort-read, row-sorted-is}
+use Rattle.rows.specs.Rows.{op_a, op_b, op_c, sort_below}
+use Rattle.grounds.proofs.Ground4.{sort_read, row_sorted_is}
 use Rattle.grounds.proofs.sorted.row_sorted.Statement.{statement}
 use Rattle.grounds.proofs.sorted.row_sorted.Tie as tie
 
-pub row-sorted-spec : {M : Type 1} → statement M
-row-sorted-spec = tie.close (tie.spec
+pub row_sorted_spec : {M : Type 1} → statement M
+row_sorted_spec = tie.close (tie.spec
     (λ c κs. search rules)
     (λ c κs. search rules)
     (λ c κs. search rules)
@@ -24,5 +24,5 @@ row-sorted-spec = tie.close (tie.spec
     let below = get2.before in
     let get = below.before in
     let start = get.before in
-    row-sorted-is start.args.rows.now start.args.i asks_at.asks_at.result asks_at.asks_at.ensures
-    (c.operands-sorted.ensures (sortBelow start.args.rows.now start.args.i (op_a start.args.rows.now start.args.i)) (sortBelow start.args.rows.now start.args.i (op_b start.args.rows.now start.args.i)) (sortBelow start.args.rows.now start.args.i (op_c start.args.rows.now start.args.i)) (sort-read start.args.rows.now start.args.table.now start.args.i start.requires.1 get.get.ensures below.below.ensures) (sort-read start.args.rows.now start.args.table.now start.args.i start.requires.1 get2.get2.ensures below2.below2.ensures) (sort-read start.args.rows.now start.args.table.now start.args.i start.requires.1 get3.get3.ensures below3.below3.ensures))))
+    row_sorted_is start.args.rows.now start.args.i asks_at.asks_at.result asks_at.asks_at.ensures
+    (c.operands-sorted.ensures (sort_below start.args.rows.now start.args.i (op_a start.args.rows.now start.args.i)) (sort_below start.args.rows.now start.args.i (op_b start.args.rows.now start.args.i)) (sort_below start.args.rows.now start.args.i (op_c start.args.rows.now start.args.i)) (sort_read start.args.rows.now start.args.table.now start.args.i start.requires.1 get.get.ensures below.below.ensures) (sort_read start.args.rows.now start.args.table.now start.args.i start.requires.1 get2.get2.ensures below2.below2.ensures) (sort_read start.args.rows.now start.args.table.now start.args.i start.requires.1 get3.get3.ensures below3.below3.ensures))))

@@ -10,11 +10,11 @@ use lib.ListN.{length-take}
 use Rattle.grounds.proofs.table.below.Statement.{statement}
 use Rattle.grounds.proofs.table.below.Tie as tie
 
-not-below : (l : List ℕ) (i w : ℕ) → i ≤ w → 0 ≡ get_or (take i l) w 0
-not-below l i w h = sym (get_or-eq_default (take i l) 0 {n = w} (omega (arith, length-take i l)))
+not_below : (l : List ℕ) (i w : ℕ) → i ≤ w → 0 ≡ get_or (take i l) w 0
+not_below l i w h = sym (get_or-eq_default (take i l) 0 {n = w} (omega (arith, length-take i l)))
 
-pub below-spec : {M : Type 1} → statement M
-below-spec = tie.close (tie.spec
+pub below_spec : {M : Type 1} → statement M
+below_spec = tie.close (tie.spec
     (λ c. search rules)
     (λ c. let s = c.before.before in sym (get_or-take s.args.i s.args.table.now s.args.w 0 c.before.if1.true))
-    (λ c. let s = c.before in not-below s.args.table.now s.args.i s.args.w c.if1.false))
+    (λ c. let s = c.before in not_below s.args.table.now s.args.i s.args.w c.if1.false))

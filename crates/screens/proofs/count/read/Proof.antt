@@ -3,14 +3,14 @@ use borrow.Author.Rules.{rules}
 use mathlib.Core.Path.{sym, subst}
 use Prim.Native.Nat.{◌≤◌}
 use native.Mathlib.Omega.{arith}
-use Rattle.rows.specs.Rows.{maxRows}
-use Rattle.screens.proofs.CountLaws.{no-count, no_end, count-number, count-blank, count-unread, count-few}
+use Rattle.rows.specs.Rows.{max_rows}
+use Rattle.screens.proofs.CountLaws.{no_count, no_end, count_number, count_blank, count_unread, count_few}
 use Rattle.screens.proofs.count.read.Statement.{statement}
 use Rattle.screens.proofs.count.read.Tie as tie
 
 pub read_spec : {M : Type 1} → statement M
 read_spec = tie.close (tie.spec
-    (λ c. (no-count c.before.before.args.s.now c.if1.true, omega arith))
+    (λ c. (no_count c.before.before.args.s.now c.if1.true, omega arith))
     (λ c. search rules)
     (λ c.
     let if1 = c.before.before in
@@ -29,8 +29,8 @@ read_spec = tie.close (tie.spec
     let start = if1.before.before in
     let s = start.args.s.now in
     let q = read.read in
-    let e = count-number s if1.if1.false if2.if2.false q.result q.ensures reading.reading.given.0.0 c.few.result reading.reading.given.1 c.few.ensures in
-    (e, subst (λ n. n ≤ maxRows) (sym e) (count-few s)))
+    let e = count_number s if1.if1.false if2.if2.false q.result q.ensures reading.reading.given.0.0 c.few.result reading.reading.given.1 c.few.ensures in
+    (e, subst (λ n. n ≤ max_rows) (sym e) (count_few s)))
     (λ c.
     let read = c.before.before in
     let if2 = read.before in
@@ -38,7 +38,7 @@ read_spec = tie.close (tie.spec
     let start = if1.before.before in
     let s = start.args.s.now in
     let q = read.read in
-    (count-blank s if1.if1.false if2.if2.false q.result q.ensures c.enum_told.given.1, omega arith))
+    (count_blank s if1.if1.false if2.if2.false q.result q.ensures c.enum_told.given.1, omega arith))
     (λ c.
     let read = c.before.before in
     let if2 = read.before in
@@ -46,4 +46,4 @@ read_spec = tie.close (tie.spec
     let start = if1.before.before in
     let s = start.args.s.now in
     let q = read.read in
-    (count-unread s if1.if1.false if2.if2.false q.result q.ensures c.enum-told2.given.1, omega arith)))
+    (count_unread s if1.if1.false if2.if2.false q.result q.ensures c.enum-told2.given.1, omega arith)))

@@ -1,24 +1,24 @@
 -- `write` meets its contract: one field after another. Assumes nothing.
 use borrow.Author.Rules.{rules}
-use Rattle.screens.proofs.HeadLaws.{head-written}
+use Rattle.screens.proofs.HeadLaws.{head_written}
 use Rattle.screens.proofs.head.write.Statement.{statement}
 use Rattle.screens.proofs.head.write.Tie as tie
 
 returns : tie.Need-returns
 returns c =
-    let write-end = c.before.before in
-    let start-at = write-end.before.before.before.before in
-    let entries = start-at in
+    let write_end = c.before.before in
+    let start_at = write_end.before.before.before.before in
+    let entries = start_at in
     let leaves = entries.before.before.before.before in
     let valued = leaves.before.before.before.before.before in
     let fails = valued.before.before.before.before in
     let strides = fails.before.before.before.before in
     let answer = strides.before.before.before.before in
     let start = answer.before.before.before in
-    head-written start.args.s.now answer.write.new.0 strides.write2.new.0 fails.write3.new.0 valued.write4.new.0
-    leaves.write-numbers.new.0 entries.write5.new.0 write-end.write-end.new.0 start.args.h leaves.write-numbers.ensures.1
+    head_written start.args.s.now answer.write.new.0 strides.write2.new.0 fails.write3.new.0 valued.write4.new.0
+    leaves.write-numbers.new.0 entries.write5.new.0 write_end.write-end.new.0 start.args.h leaves.write-numbers.ensures.1
     answer.write.ensures.1 strides.write2.ensures.1 fails.write3.ensures.1 valued.write4.ensures.1
-    leaves.write-numbers.ensures.0 entries.write5.ensures.1 write-end.write-end.ensures
+    leaves.write-numbers.ensures.0 entries.write5.ensures.1 write_end.write-end.ensures
 
 pub write_spec : {M : Type 1} → statement M
 write_spec = tie.close (tie.spec (λ c κs. search rules) (λ c κs. search rules) (λ c. search rules) (λ c κs. search rules) (λ c. search rules) (λ c. search rules)

@@ -2,19 +2,19 @@
 use mathlib.Core.Path.{sym, ap, ◌∙◌}
 use native.Mathlib.Omega.{arith}
 use borrow.Author.Rules.{rules}
-use Rattle.screens.proofs.ScreenLaws.{not-met, met}
+use Rattle.screens.proofs.ScreenLaws.{not_met, met}
 use Rattle.screens.proofs.turn.load_counted.Statement.{statement}
 use Rattle.screens.proofs.turn.load_counted.Tie as tie
 
-pub load-counted-spec : {M : Type 1} → statement M
-load-counted-spec = tie.close (tie.spec
+pub load_counted_spec : {M : Type 1} → statement M
+load_counted_spec = tie.close (tie.spec
     (λ c.
     let a = c.before.before.args in
-    let e = not-met a.n a.text.now a.rows.now (λ h. c.if1.true (omega (arith, h))) in
+    let e = not_met a.n a.text.now a.rows.now (λ h. c.if1.true (omega (arith, h))) in
     (ap (λ p. p.0) (sym e), ap (λ p. p.1) (sym e)))
     (λ c.
     let a = c.before.before.before.args in
-    let e = not-met a.n a.text.now a.rows.now (λ h. c.if2.true (omega (arith, h))) in
+    let e = not_met a.n a.text.now a.rows.now (λ h. c.if2.true (omega (arith, h))) in
     (ap (λ p. p.0) (sym e), ap (λ p. p.1) (sym e)))
     (λ c κs. search rules)
     (λ c. search rules)

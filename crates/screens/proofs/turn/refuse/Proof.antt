@@ -1,13 +1,13 @@
 -- `refuse` meets its contract. Assumes nothing.
 use mathlib.Core.Path.{refl}
 use borrow.Author.Rules.{rules}
-use Rattle.screens.proofs.ScreenLaws.{drawn-refused}
+use Rattle.screens.proofs.ScreenLaws.{drawn_refused}
 use Rattle.screens.proofs.turn.refuse.Statement.{statement}
 use Rattle.screens.proofs.turn.refuse.Tie as tie
 
-pub refuse-spec : {M : Type 1} → statement M
-refuse-spec = tie.close (tie.spec
+pub refuse_spec : {M : Type 1} → statement M
+refuse_spec = tie.close (tie.spec
     (λ c κs. search rules)
     (λ c.
     let a = c.before.before.args in
-    (refl, drawn-refused a.number a.out.now c.write.new.0 c.before.before.requires (search rules) c.write.auto.0 c.write.ensures)))
+    (refl, drawn_refused a.number a.out.now c.write.new.0 c.before.before.requires (search rules) c.write.auto.0 c.write.ensures)))

@@ -1,12 +1,12 @@
 -- `show` meets its contract. Assumes nothing.
 use native.Mathlib.Omega.{arith}
 use borrow.Author.Rules.{rules}
-use Rattle.screens.proofs.ScreenLaws.{bytes-few, drawn}
+use Rattle.screens.proofs.ScreenLaws.{bytes_few, drawn}
 use Rattle.screens.proofs.turn.show.Statement.{statement}
 use Rattle.screens.proofs.turn.show.Tie as tie
 
-pub show-spec : {M : Type 1} → statement M
-show-spec = tie.close (tie.spec
+pub show_spec : {M : Type 1} → statement M
+show_spec = tie.close (tie.spec
     (λ c. search rules)
     (λ c. search rules)
     (λ c. search rules)
@@ -20,7 +20,7 @@ show-spec = tie.close (tie.spec
     let start = fill.before.before.before.before in
     let a = start.args in
     let q = fill.fill in
-    let b = bytes-few a.rows.now a.state.now a.role a.answer a.strides a.out.now start.requires.0 q.result q.new.1.1.1.0 q.new.1.1.1.1.0 q.auto.1.1.1.1.0 q.ensures in
+    let b = bytes_few a.rows.now a.state.now a.role a.answer a.strides a.out.now start.requires.0 q.result q.new.1.1.1.0 q.new.1.1.1.1.0 q.auto.1.1.1.1.0 q.ensures in
     record { fits = omega (arith, b) })
     (λ c κs. search rules)
     (λ c.
@@ -28,16 +28,16 @@ show-spec = tie.close (tie.spec
     let start = fill.before.before.before.before in
     let a = start.args in
     let q = fill.fill in
-    let b = bytes-few a.rows.now a.state.now a.role a.answer a.strides a.out.now start.requires.0 q.result q.new.1.1.1.0 q.new.1.1.1.1.0 q.auto.1.1.1.1.0 q.ensures in
+    let b = bytes_few a.rows.now a.state.now a.role a.answer a.strides a.out.now start.requires.0 q.result q.new.1.1.1.0 q.new.1.1.1.1.0 q.auto.1.1.1.1.0 q.ensures in
     record { fits = omega (arith, b) })
     (λ c. search rules)
     (λ c.
     let write = c.before.before in
-    let copy-in = write.before.before.before in
-    let fill = copy-in.before.before.before.before.before.before in
+    let copy_in = write.before.before.before in
+    let fill = copy_in.before.before.before.before.before.before in
     let start = fill.before.before.before.before in
     let a = start.args in
     let q = fill.fill in
     drawn a.rows.now a.state.now a.role a.answer a.strides a.out.now start.requires.0 q.result q.new.1.1.1.0 q.new.1.1.1.1.0
-    q.auto.1.1.1.1.0 q.ensures start.requires.1 start.requires.2 q.auto.1.1.1.0 copy-in.copy-in.ensures.1
-    copy-in.copy-in.new.1.0 write.write.new.0 copy-in.copy-in.ensures.0 write.write.auto.0 write.write.ensures))
+    q.auto.1.1.1.1.0 q.ensures start.requires.1 start.requires.2 q.auto.1.1.1.0 copy_in.copy-in.ensures.1
+    copy_in.copy-in.new.1.0 write.write.new.0 copy_in.copy-in.ensures.0 write.write.auto.0 write.write.ensures))

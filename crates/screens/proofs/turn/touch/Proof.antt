@@ -1,20 +1,20 @@
 -- `touch` meets its contract. Assumes nothing.
 use native.Mathlib.Omega.{arith}
 use borrow.Author.Rules.{rules}
-use Rattle.screens.proofs.Bounds.{handle-few}
-use Rattle.screens.proofs.ScreenLaws.{touch-state, touch-drawn}
+use Rattle.screens.proofs.Bounds.{handle_few}
+use Rattle.screens.proofs.ScreenLaws.{touch_state, touch_drawn}
 use Rattle.screens.proofs.turn.touch.Statement.{statement}
 use Rattle.screens.proofs.turn.touch.Tie as tie
 
-pub touch-spec : {M : Type 1} → statement M
-touch-spec = tie.close (tie.spec
+pub touch_spec : {M : Type 1} → statement M
+touch_spec = tie.close (tie.spec
     (λ c κs. search rules)
     (λ c κs. search rules)
     (λ c κs.
     let handle = c.before.before.before.before in
     let a = handle.before.before.before.args in
     let q = handle.handle in
-    let f = handle-few a.rows.now a.state.now a.event.now q.result q.new.1.0 q.ensures.0 q.ensures.1 in
+    let f = handle_few a.rows.now a.state.now a.event.now q.result q.new.1.0 q.ensures.0 q.ensures.1 in
     (search rules, omega (arith, f.0), omega (arith, f.1)))
     (λ c. search rules)
     (λ c.
@@ -24,6 +24,6 @@ touch-spec = tie.close (tie.spec
     let q = handle.handle in
     let e = q.ensures.0 in
     let g = role.role-of in (
-      touch-state a.rows.now a.state.now a.event.now a.out.now q.result q.new.1.0 e,
-      touch-drawn a.rows.now a.state.now a.event.now a.out.now q.result q.new.1.0 e g.result g.ensures c.show.result c.show.new.1.1.1.1.1.0 c.show.ensures,
+      touch_state a.rows.now a.state.now a.event.now a.out.now q.result q.new.1.0 e,
+      touch_drawn a.rows.now a.state.now a.event.now a.out.now q.result q.new.1.0 e g.result g.ensures c.show.result c.show.new.1.1.1.1.1.0 c.show.ensures,
     )))

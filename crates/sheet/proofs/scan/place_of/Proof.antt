@@ -1,14 +1,14 @@
 -- `place_of` meets its contract. Assumes nothing.
 use borrow.Author.Rules.{rules}
-use Rattle.sheet.proofs.ScanLaws.{place-kind, place-operand}
+use Rattle.sheet.proofs.ScanLaws.{place_kind, place_operand}
 use Rattle.sheet.proofs.scan.place_of.Statement.{statement}
 use Rattle.sheet.proofs.scan.place_of.Tie as tie
 
-pub place-of-spec : {M : Type 1} → statement M
-place-of-spec = tie.close (tie.spec
-    (λ c. place-kind c.before.args.k c.if1.true)
+pub place_of_spec : {M : Type 1} → statement M
+place_of_spec = tie.close (tie.spec
+    (λ c. place_kind c.before.args.k c.if1.true)
     (λ c. search rules)
     (λ c. search rules)
     (λ c. search rules)
     (λ c. search rules)
-    (λ c. place-operand c.before.args.k c.if1.false c.before.requires))
+    (λ c. place_operand c.before.args.k c.if1.false c.before.requires))

@@ -6,16 +6,16 @@ use Prim.Native.Nat.{◌-◌, ◌≤◌}
 use native.Mathlib.Omega.{arith}
 use borrow.Author.Rules.{rules}
 use borrow.Author.Tests.{not-true, not-false}
-use Rattle.rows.specs.Rows.{rowWords}
-use Rattle.sheet.proofs.ScanLaws.{line-none, line-stops, Kept, kept-none, kept_more, Rows, rows_none, rows-room, rows_more, rows-stop, rows_all}
+use Rattle.rows.specs.Rows.{row_words}
+use Rattle.sheet.proofs.ScanLaws.{line_none, line_stops, Kept, kept_none, kept_more, Rows, rows_none, rows_room, rows_more, rows_stop, rows_all}
 use Rattle.sheet.proofs.scan.read_lines.Statement.{statement}
 use Rattle.sheet.proofs.scan.read_lines.Tie as tie
 
 abbrev invariant-loop : tie.invariant-loop
-invariant-loop sheet n own₀ good₀ i k₀ own good k = (k ≤ rowWords) × (good ≡ true) × Kept sheet i own₀ k own
+invariant-loop sheet n own₀ good₀ i k₀ own good k = (k ≤ row_words) × (good ≡ true) × Kept sheet i own₀ k own
 
 abbrev decreases-loop : tie.decreases-loop
-decreases-loop sheet n own₀ good₀ i k₀ own good k = rowWords - k
+decreases-loop sheet n own₀ good₀ i k₀ own good k = row_words - k
 
 abbrev invariant-lines : tie.invariant-lines
 invariant-lines sheet n own₀ good₀ i₀ own good i = (i ≤ n) × (good ≡ true) × Rows sheet i own
@@ -23,32 +23,32 @@ invariant-lines sheet n own₀ good₀ i₀ own good i = (i ≤ n) × (good ≡ 
 abbrev decreases-lines : tie.decreases-lines
 decreases-lines sheet n own₀ good₀ i₀ own good i = n - i
 
-lines-holds : tie.Need-lines-init invariant-loop decreases-loop invariant-lines decreases-lines
-lines-holds c = let start = c.before in (search rules, refl, rows_none start.args.sheet.now start.args.own.now start.requires.1)
+lines_holds : tie.Need-lines-init invariant-loop decreases-loop invariant-lines decreases-lines
+lines_holds c = let start = c.before in (search rules, refl, rows_none start.args.sheet.now start.args.own.now start.requires.1)
 
-loop-holds : tie.Need-loop-init invariant-loop decreases-loop invariant-lines decreases-lines
-loop-holds c =
-    let is-line = c.before in
-    let start-at = is-line.before.before in
-    let lines = start-at in
+loop_holds : tie.Need-loop-init invariant-loop decreases-loop invariant-lines decreases-lines
+loop_holds c =
+    let is_line = c.before in
+    let start_at = is_line.before.before in
+    let lines = start_at in
     let start = lines.before.before in
-    (search rules, lines.lines.invariant.1, kept-none start.args.sheet.now lines.lines.i lines.lines.own is-line.is-line.result is-line.is-line.ensures c.if1.false)
+    (search rules, lines.lines.invariant.1, kept_none start.args.sheet.now lines.lines.i lines.lines.own is_line.is-line.result is_line.is-line.ensures c.if1.false)
 
-loop-again : tie.Need-loop-preserved invariant-loop decreases-loop invariant-lines decreases-lines
-loop-again c =
+loop_again : tie.Need-loop-preserved invariant-loop decreases-loop invariant-lines decreases-lines
+loop_again c =
     let read = c.before.before in
     let test = read.before.before in
     let loop = test.before in
     let lines = loop.before.before.before.before in
     let start = lines.before.before in
-    let few = rows-room start.args.sheet.now lines.lines.i (omega arith) lines.lines.invariant.2 in
+    let few = rows_room start.args.sheet.now lines.lines.i (omega arith) lines.lines.invariant.2 in
     (omega arith, loop.loop.invariant.1, kept_more start.args.sheet.now lines.lines.i lines.lines.own test.loop-test.true few loop.loop.invariant.2 read.read_word.result read.read_word.ensures (not-false _ c.if2.false))
 
-lines-again : tie.Need-lines-preserved invariant-loop decreases-loop invariant-lines decreases-lines
-lines-again c =
+lines_again : tie.Need-lines-preserved invariant-loop decreases-loop invariant-lines decreases-lines
+lines_again c =
     let loop = c.before in
-    let start-at = loop.before.before.before.before in
-    let lines = start-at in
+    let start_at = loop.before.before.before.before in
+    let lines = start_at in
     let start = lines.before.before in
     (omega arith, loop.loop.invariant.1, rows_more start.args.sheet.now lines.lines.i loop.loop.k (omega arith) (omega arith) lines.lines.invariant.2 loop.loop.invariant.2)
 
@@ -58,30 +58,30 @@ returns c =
     let start = lines.before.before in
     rows_all start.args.sheet.now lines.lines.own lines.lines.good lines.lines.i start.args.n (omega arith) lines.lines.invariant.1 lines.lines.invariant.2
 
-returns-2 : tie.Need-returns-2 invariant-loop decreases-loop invariant-lines decreases-lines
-returns-2 c =
-    let is-line = c.before in
-    let test = is-line.before in
-    let start-at = test.before in
-    let lines = start-at in
+returns_2 : tie.Need-returns-2 invariant-loop decreases-loop invariant-lines decreases-lines
+returns_2 c =
+    let is_line = c.before in
+    let test = is_line.before in
+    let start_at = test.before in
+    let lines = start_at in
     let start = lines.before.before in
-    rows-stop start.args.sheet.now lines.lines.own lines.lines.i start.args.n test.lines-test.true
-    (line-none start.args.sheet.now lines.lines.i is-line.is-line.result is-line.is-line.ensures c.if1.true)
+    rows_stop start.args.sheet.now lines.lines.own lines.lines.i start.args.n test.lines-test.true
+    (line_none start.args.sheet.now lines.lines.i is_line.is-line.result is_line.is-line.ensures c.if1.true)
 
-returns-3 : tie.Need-returns-3 invariant-loop decreases-loop invariant-lines decreases-lines
-returns-3 c =
+returns_3 : tie.Need-returns-3 invariant-loop decreases-loop invariant-lines decreases-lines
+returns_3 c =
     let read = c.before.before in
     let test = read.before.before in
     let loop = test.before in
     let line = loop.before.before.before in
     let lines = line.before in
     let start = lines.before.before in
-    let few = rows-room start.args.sheet.now lines.lines.i (omega arith) lines.lines.invariant.2 in
-    rows-stop start.args.sheet.now loop.loop.own lines.lines.i start.args.n line.lines-test.true
-    (line-stops start.args.sheet.now lines.lines.i lines.lines.own test.loop-test.true few loop.loop.invariant.2 read.read_word.result read.read_word.ensures (not-true _ c.if2.true))
+    let few = rows_room start.args.sheet.now lines.lines.i (omega arith) lines.lines.invariant.2 in
+    rows_stop start.args.sheet.now loop.loop.own lines.lines.i start.args.n line.lines-test.true
+    (line_stops start.args.sheet.now lines.lines.i lines.lines.own test.loop-test.true few loop.loop.invariant.2 read.read_word.result read.read_word.ensures (not-true _ c.if2.true))
 
-pub read-lines-spec : {M : Type 1} → statement M
-read-lines-spec = tie.close (tie.spec invariant-loop decreases-loop invariant-lines decreases-lines
-    lines-holds (λ c κs. search rules) loop-holds (λ c. search rules) (λ c. search rules) (λ c. search rules) (λ c κs. search rules)
-    (λ c. search rules) (λ c. search rules) (λ c. search rules) (λ c. search rules) (λ c. search rules) (λ c. search rules) loop-again
-    (λ c. search rules) (λ c. search rules) lines-again returns returns-2 returns-3)
+pub read_lines_spec : {M : Type 1} → statement M
+read_lines_spec = tie.close (tie.spec invariant-loop decreases-loop invariant-lines decreases-lines
+    lines_holds (λ c κs. search rules) loop_holds (λ c. search rules) (λ c. search rules) (λ c. search rules) (λ c κs. search rules)
+    (λ c. search rules) (λ c. search rules) (λ c. search rules) (λ c. search rules) (λ c. search rules) (λ c. search rules) loop_again
+    (λ c. search rules) (λ c. search rules) lines_again returns returns_2 returns_3)

@@ -2,7 +2,7 @@
 use mathlib.Core.Path.{sym, ◌∙◌}
 use native.Mathlib.Omega.{arith}
 use borrow.Author.Rules.{rules}
-use Rattle.sheet.proofs.ScanLaws.{place_in, word_number, word_blank, word-unread}
+use Rattle.sheet.proofs.ScanLaws.{place_in, word_number, word_blank, word_unread}
 use Rattle.sheet.proofs.scan.read_word.Statement.{statement}
 use Rattle.sheet.proofs.scan.read_word.Tie as tie
 
@@ -24,8 +24,8 @@ returns c =
     word_number start.args.sheet.now start.args.i start.args.k start.args.kind place.place_of.result columns.columns_of.result place.place_of.ensures columns.columns_of.ensures
     reading.reading.given.0.0 (sym reading.reading.given.1 ∙ read.read.ensures)
 
-returns-2 : tie.Need-returns-2
-returns-2 c =
+returns_2 : tie.Need-returns-2
+returns_2 c =
     let told = c.before in
     let read = told.before.before in
     let columns = read.before in
@@ -34,15 +34,15 @@ returns-2 c =
     word_blank start.args.sheet.now start.args.i start.args.k start.args.kind place.place_of.result columns.columns_of.result place.place_of.ensures columns.columns_of.ensures
     c.unused.result (sym told.enum_told.given.1 ∙ read.read.ensures) c.unused.ensures
 
-returns-3 : tie.Need-returns-3
-returns-3 c =
+returns_3 : tie.Need-returns-3
+returns_3 c =
     let read = c.before.before in
     let columns = read.before in
     let place = columns.before in
     let start = place.before.before in
-    word-unread start.args.sheet.now start.args.i start.args.k start.args.kind place.place_of.result columns.columns_of.result place.place_of.ensures columns.columns_of.ensures
+    word_unread start.args.sheet.now start.args.i start.args.k start.args.kind place.place_of.result columns.columns_of.result place.place_of.ensures columns.columns_of.ensures
     (sym c.enum-told2.given.1 ∙ read.read.ensures)
 
-pub read-word-spec : {M : Type 1} → statement M
-read-word-spec = tie.close (tie.spec (λ c κs. search rules) (λ c κs. search rules) (λ c. search rules) add_read (λ c κs. search rules)
-    (λ c. search rules) (λ c. search rules) (λ c κs. search rules) (λ c. search rules) returns returns-2 returns-3)
+pub read_word_spec : {M : Type 1} → statement M
+read_word_spec = tie.close (tie.spec (λ c κs. search rules) (λ c κs. search rules) (λ c. search rules) add_read (λ c κs. search rules)
+    (λ c. search rules) (λ c. search rules) (λ c κs. search rules) (λ c. search rules) returns returns_2 returns_3)

@@ -1,11 +1,11 @@
 -- `state_in` meets its contract, by its law. Assumes nothing.
 use borrow.Author.Rules.{rules}
-use Rattle.state.proofs.LentLaws.{state-in}
+use Rattle.state.proofs.LentLaws.{state_in}
 use Rattle.state.proofs.lent.state_in.Statement.{statement}
 use Rattle.state.proofs.lent.state_in.Tie as tie
 
-pub state-in-spec : {M : Type 1} → statement M
-state-in-spec = tie.close (tie.spec
+pub state_in_spec : {M : Type 1} → statement M
+state_in_spec = tie.close (tie.spec
     (λ c κs. search rules)
     (λ c. let s = c.before.before in let k = c.copy-in in
-    state-in s.args.n s.args.lent.now s.args.own.now k.new.1.0 s.requires.0.0 s.requires.0.1 s.requires.1 k.ensures.0 k.ensures.1))
+    state_in s.args.n s.args.lent.now s.args.own.now k.new.1.0 s.requires.0.0 s.requires.0.1 s.requires.1 k.ensures.0 k.ensures.1))

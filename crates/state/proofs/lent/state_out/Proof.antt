@@ -2,15 +2,15 @@
 use mathlib.Core.Path.{◌≡◌}
 use borrow.Author.Rules.{rules}
 use lib.ListN.{length}
-use Rattle.state.specs.Lent.{stateSize}
-use Rattle.state.proofs.LentLaws.{state-out}
+use Rattle.state.specs.Lent.{state_size}
+use Rattle.state.proofs.LentLaws.{state_out}
 use Rattle.state.proofs.lent.state_out.Statement.{statement}
 use Rattle.state.proofs.lent.state_out.Tie as tie
 
-pub state-out-spec : {M : Type 1} → statement M
-state-out-spec = tie.close (tie.spec
+pub state_out_spec : {M : Type 1} → statement M
+state_out_spec = tie.close (tie.spec
     (λ c κs. search rules)
     (λ c. search rules)
     (λ c. let s = c.before.before.before.before in let k = c.before.copy-out in
-    let l : length s.args.own.now ≡ stateSize = let g = s.well-formed in search rules in
-    (state-out s.args.n s.args.own.now s.args.lent.now k.new.1.0 l s.requires.0 s.requires.1 k.ensures, l)))
+    let l : length s.args.own.now ≡ state_size = let g = s.well_formed in search rules in
+    (state_out s.args.n s.args.own.now s.args.lent.now k.new.1.0 l s.requires.0 s.requires.1 k.ensures, l)))

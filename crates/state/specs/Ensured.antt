@@ -9,30 +9,30 @@ use Rattle.tophat.specs.Typing.{HasType, CodeType, TaskType, ValueTypes, AllSmal
 use Rattle.tophat.specs.Normalising.{value}
 use Rattle.tophat.specs.Roles.{verdict}
 use Rattle.tophat.specs.Handling.{Action}
-use Rattle.tophat.proofs.ComputeEvaluation.{eval, overflows, evaluate, overflowsTask}
+use Rattle.tophat.proofs.ComputeEvaluation.{eval, overflows, evaluate, overflows_task}
 use Rattle.tophat.proofs.ComputeNormalising.{failing, stride, normalise}
 use Rattle.tophat.proofs.ComputeHandling.{Taken, handle}
-use Rattle.rows.specs.GroundNumbers.{notHandled}
-use Rattle.rows.specs.Rows.{maxRows, LowWords}
-use Rattle.rows.specs.Enclosing.{maxBinders}
+use Rattle.rows.specs.GroundNumbers.{not_handled}
+use Rattle.rows.specs.Rows.{max_rows, LowWords}
+use Rattle.rows.specs.Enclosing.{max_binders}
 use Rattle.value.specs.declared.Evaluation.{Evaluation}
 use Rattle.value.specs.declared.Found.{Found}
-use Rattle.value.specs.Values.{asValue}
-use Rattle.value.specs.Found.{asFound}
+use Rattle.value.specs.Values.{as_value}
+use Rattle.value.specs.Found.{as_found}
 use Rattle.state.specs.Holds.{SitsExp, Sits, tree_of, Foot, Clear, Holds, Cell, Stores, Same, World, Ran}
 
 -- ---- what safety asks: a row, at most 16 binders, and operands that are lower
 
 pub record Fine (rs : List ℕ) (row depth : ℕ) : Type 0 where
-  pub low : row < maxRows
-  pub room : depth ≤ maxBinders
-  pub lower : (i : ℕ) → i < maxRows → LowWords rs i
+  pub low : row < max_rows
+  pub room : depth ≤ max_binders
+  pub lower : (i : ℕ) → i < max_rows → LowWords rs i
 
 -- ---- plain expressions
 
 -- the value v and the store s, and whether a result left the words on the way (CR 3)
 pub record Evaluated (rs ws ws₁ : List ℕ) (r : Evaluation) (v : Val) (s : Store) (x : Bool) : Type 0 where
-  pub answer : r.value ≡ asValue v
+  pub answer : r.value ≡ as_value v
   pub over : r.over ≡ x
   pub stores : Stores rs ws₁ s
   pub same : Same (Cell rs) ws ws₁
@@ -49,7 +49,7 @@ module _ (rs ws ws₁ : List ℕ) (i : ℕ) (env : List ℕ) (d : ℕ) where
   -- whatever it answers, the words are those of `evaluate`, which goes on with 0 for a result that is no word
   abbrev pub EvaluateAt : Bool → Code → Type 0
   EvaluateAt r c = (Σ Γ : List Ty) (τ : Ty) (s : Store) (ρ : Env) → CodeType Σ Γ c τ → World rs ws env d Σ Γ s ρ → Clear rs ws i (tree_of c)
-      → Ran rs ws ws₁ i c (evaluate c ρ s).0 (evaluate c ρ s).1 × (r ≡ overflowsTask c ρ s)
+      → Ran rs ws ws₁ i c (evaluate c ρ s).0 (evaluate c ρ s).1 × (r ≡ overflows_task c ρ s)
 
   abbrev pub EvaluateOk : Bool → Type 0
   EvaluateOk r = (c : Code) → Sits rs d i c → EvaluateAt r c
@@ -70,7 +70,7 @@ module _ (rs ws ws₁ : List ℕ) (i : ℕ) (env : List ℕ) (d : ℕ) where
 
   -- no step derived, with every word as it was, or the words of the step that is, and the verdict of the rows of kind 50 passed (CR 6)
   abbrev pub Handled : (c : Code) → (role r : ℕ) → Option (Taken (TaskOf c)) → Type 0
-  Handled c role r none = (r ≡ notHandled) × (ws₁ ≡ ws)
+  Handled c role r none = (r ≡ not_handled) × (ws₁ ≡ ws)
   Handled c role r (some q) = (r ≡ verdict role q.2) × Ran rs ws ws₁ i c q.0 q.1
 
   abbrev pub HandleAt : ℕ → Path → Action → ℕ → Code → Type 0
@@ -84,7 +84,7 @@ module _ (rs ws ws₁ : List ℕ) (i : ℕ) (env : List ℕ) (d : ℕ) where
 
 module _ (rs ws : List ℕ) (i : ℕ) where
   abbrev pub ValueAt : Found → Code → Type 0
-  ValueAt r c = (Σ Γ : List Ty) (τ : Ty) (s : Store) (t : TaskOf c) → TaskType Σ Γ c t τ → ValueTypes s Σ → AllSmall Σ → AllSmall Γ → Holds rs ws i c t → Stores rs ws s → r ≡ asFound (value c t s)
+  ValueAt r c = (Σ Γ : List Ty) (τ : Ty) (s : Store) (t : TaskOf c) → TaskType Σ Γ c t τ → ValueTypes s Σ → AllSmall Σ → AllSmall Γ → Holds rs ws i c t → Stores rs ws s → r ≡ as_found (value c t s)
 
   abbrev pub ValueOk : Found → Type 0
   ValueOk r = (d : ℕ) (c : Code) → Sits rs d i c → ValueAt r c
