@@ -25,7 +25,7 @@ const MOST: u32 = 2147483647;
 const HALF: u32 = 2147483648;
 
 // What one field says: the bits of a number in two's complement, that it is blank, or that it is unreadable.
-#[derive(Drop)]
+#[derive(Clone, Copy)]
 pub enum Reading {
     Number(u32),
     Blank,

@@ -12,14 +12,14 @@ use super::part::{NOUGHT, has, past_spaces, put_spaces};
 pub const PATH_COLUMNS: usize = 16;
 
 // What a path's field says: a path's number, or that it is unreadable.
-#[derive(Drop)]
+#[derive(Clone, Copy)]
 pub enum PathReading {
     Marks(u32),
     Unreadable,
 }
 
 // A path's outermost mark and the path after it.
-#[derive(Drop)]
+#[derive(Clone, Copy)]
 pub enum Front {
     Empty,
     First(u32),

@@ -14,7 +14,7 @@ use handle::Event;
 use tophat::{CONTINUE, GIVE, MAX_LEAVES, RIGHT};
 
 // An event, if its bytes could be read.
-#[derive(Drop)]
+#[derive(Clone, Copy)]
 pub struct EventReading {
     pub readable: bool,
     pub event: Event,

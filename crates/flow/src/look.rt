@@ -21,7 +21,7 @@ use value::{NO_VALUE, Value};
 use word::copy_out;
 
 // 0 or the ground, the flags, and how many bytes the part has.
-#[derive(Drop)]
+#[derive(Clone, Copy)]
 pub struct Looked {
     pub number: u32,
     pub valued: u32,

@@ -14,7 +14,7 @@ use state::{ENV_WORDS, STATE_SIZE, STATE_WORDS};
 use state_check::held;
 
 // 0 or the ground, the number of rows, and whether the state holds the last row as failed whole.
-#[derive(Drop)]
+#[derive(Clone, Copy)]
 pub struct Opening {
     pub number: u32,
     pub n: usize,

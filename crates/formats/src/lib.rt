@@ -44,7 +44,7 @@ pub const HEAD_ENTRIES_AT: usize = HEAD_LEAVES_AT + MAX_LEAVES * WORD_COLUMNS;
 pub const HEAD_BYTES: usize = HEAD_ENTRIES_AT + ROW_COLUMNS + 1;
 
 // A leaf of an event, where its field can be read: a number's bits, or blank and the bits 0.
-#[derive(Drop)]
+#[derive(Clone, Copy)]
 struct Leaf {
     readable: bool,
     bits: u32,
@@ -52,7 +52,7 @@ struct Leaf {
 }
 
 // All leaves of an event, where each can be read; else zeros.
-#[derive(Drop)]
+#[derive(Clone, Copy)]
 pub struct Leaves {
     pub readable: bool,
     pub words: [u32; MAX_LEAVES],

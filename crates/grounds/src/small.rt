@@ -17,7 +17,7 @@ const MAX_BINDERS: u8 = rows::MAX_BINDERS as u8;
 
 const MAX_MARKS: u8 = rows::MAX_MARKS as u8;
 
-#[derive(Drop)]
+#[derive(Clone, Copy)]
 pub enum Counted {
     Leaves,
     Binders,

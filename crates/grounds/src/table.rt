@@ -11,7 +11,7 @@ use crate::table::Asks::*;
 use crate::table::Own::*;
 use rows::{MAX_ROWS, ROWS_WORDS, get};
 
-#[derive(Drop)]
+#[derive(Clone, Copy)]
 pub enum Ask {
     Unused,
     Operator,
@@ -28,7 +28,7 @@ pub enum Ask {
     SomeTouches,
 }
 
-#[derive(Drop)]
+#[derive(Clone, Copy)]
 pub enum Own {
     OwnType,
     OwnBasic,
@@ -38,14 +38,14 @@ pub enum Own {
     AsB,
 }
 
-#[derive(Drop)]
+#[derive(Clone, Copy)]
 pub enum Around {
     Nothing,
     Binder,
     Mark,
 }
 
-#[derive(Drop)]
+#[derive(Clone, Copy)]
 pub enum Asks {
     Known(Ask, Ask, Ask, Own, Around),
     Unknown,

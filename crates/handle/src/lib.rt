@@ -27,7 +27,7 @@ use typing::row_type;
 use value::{Found, Value, fits, none};
 
 // An event: a role (CR 6), a path as one number (crate decimal), an action's number, and leaves; a blank leaf's bits are 0.
-#[derive(Drop)]
+#[derive(Clone, Copy)]
 pub struct Event {
     pub role: u32,
     pub path: u32,

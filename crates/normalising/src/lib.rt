@@ -16,7 +16,7 @@ use value::Value;
 const MAX_STRIDES: u32 = MAX_ROWS as u32 + 1;
 
 // Whether the task at the row fails.
-#[cycle(attempt_choose_failing_normalise_settle_stride_tried)]
+#[cycle(normalising)]
 pub fn failing(
     rows: &[u32; ROWS_WORDS],
     state: &[u32; STATE_SIZE],
@@ -50,7 +50,7 @@ pub fn failing(
 }
 
 // Whether the branch at the row, settled, would fail. The copy that it is settled in stands in this frame alone.
-#[cycle(attempt_choose_failing_normalise_settle_stride_tried)]
+#[cycle(normalising)]
 pub fn tried(
     rows: &[u32; ROWS_WORDS],
     state: &[u32; STATE_SIZE],
@@ -68,7 +68,7 @@ pub fn tried(
 // The branch at the row, evaluated and normalised; whether it fails: then its words are to be dropped. One whose evaluation leaves the words
 // does. What has strided more than once does not, so failing is asked of a normal form that took one stride alone, and nested branches are
 // not settled twice.
-#[cycle(attempt_choose_failing_normalise_settle_stride_tried)]
+#[cycle(normalising)]
 pub fn settle(
     rows: &[u32; ROWS_WORDS],
     state: &mut [u32; STATE_SIZE],
@@ -90,7 +90,7 @@ pub fn settle(
 }
 
 // Strides until one does not move; their number, the last included.
-#[cycle(attempt_choose_failing_normalise_settle_stride_tried)]
+#[cycle(normalising)]
 pub fn normalise(
     rows: &[u32; ROWS_WORDS],
     state: &mut [u32; STATE_SIZE],
@@ -113,7 +113,7 @@ pub fn normalise(
 }
 
 // One stride of the task at the row; whether it moved, that is, changed the task or the store.
-#[cycle(attempt_choose_failing_normalise_settle_stride_tried)]
+#[cycle(normalising)]
 pub fn stride(
     rows: &[u32; ROWS_WORDS],
     state: &mut [u32; STATE_SIZE],
@@ -153,7 +153,7 @@ pub fn stride(
 }
 
 // A choice of kind 47 not yet made, strided: the first part with a value replaces it.
-#[cycle(attempt_choose_failing_normalise_settle_stride_tried)]
+#[cycle(normalising)]
 fn choose(
     rows: &[u32; ROWS_WORDS],
     state: &mut [u32; STATE_SIZE],
@@ -185,7 +185,7 @@ fn choose(
 
 // The right side of the step at the row, evaluated under the value in a copy of the state: unless it leaves the words or fails there, it
 // replaces the step.
-#[cycle(attempt_choose_failing_normalise_settle_stride_tried)]
+#[cycle(normalising)]
 pub fn attempt(
     rows: &[u32; ROWS_WORDS],
     state: &mut [u32; STATE_SIZE],

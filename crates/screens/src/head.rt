@@ -11,7 +11,7 @@ use formats::{HEAD_BYTES, HEAD_ENTRIES_AT, HEAD_LEAVES_AT, write_numbers};
 use tophat::MAX_LEAVES;
 
 // What a head line says: numbers below 2^31, and the bits of the leaves.
-#[derive(Drop)]
+#[derive(Clone, Copy)]
 pub struct Head {
     pub answer: u32,
     pub strides: u32,

@@ -22,7 +22,7 @@ pub const SCREEN_BYTES: usize = HEAD_BYTES + LIST_BYTES;
 const START_ROLE: u32 = 1;
 
 // Whether the flow was started, and how many bytes its first screen is.
-#[derive(Drop)]
+#[derive(Clone, Copy)]
 pub struct Begun {
     pub started: bool,
     pub bytes: usize,

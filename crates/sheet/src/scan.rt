@@ -52,7 +52,7 @@ fn is_line(sheet: &[u8], i: usize) -> bool
 }
 
 // A word of a row, if its field can be read.
-#[derive(Drop)]
+#[derive(Clone, Copy)]
 struct Word {
     readable: bool,
     bits: u32,

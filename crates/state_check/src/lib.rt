@@ -20,7 +20,7 @@ use typing::{bound, cell_shape, row_type};
 use value::fits;
 
 // What reading does with a state row, and the rows that it then reads.
-#[derive(Drop)]
+#[derive(Clone, Copy)]
 pub enum Part {
     Bad,
     Alone,

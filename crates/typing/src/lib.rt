@@ -16,7 +16,7 @@ use shape::TRUTH;
 use tophat;
 
 // what typing does with a row
-#[derive(Drop)]
+#[derive(Clone, Copy)]
 pub enum Node {
     Unit,
     Truth,

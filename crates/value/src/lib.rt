@@ -20,21 +20,21 @@ use shape::{first_shape, leaf_kinds, leaves_of, pair_shape, second_shape};
 use tophat::{MAX_LEAVES, NO_LEAF, NUMBER, TRUTH, UNIT};
 use word::{Reckoning, add, at_most, equal, less, mul, sub};
 
-#[derive(Drop)]
+#[derive(Clone, Copy)]
 pub struct Value {
     pub shape: u32,
     pub leaves: [u32; MAX_LEAVES],
 }
 
 // A value, or none: then the value is all 0.
-#[derive(Drop)]
+#[derive(Clone, Copy)]
 pub struct Found {
     pub has: bool,
     pub value: Value,
 }
 
 // What evaluating gives: a value, and whether a result left the words on the way; then the value goes on with 0 for it (CR 3).
-#[derive(Drop)]
+#[derive(Clone, Copy)]
 pub struct Evaluation {
     pub over: bool,
     pub value: Value,

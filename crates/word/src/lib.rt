@@ -15,7 +15,7 @@ const LEAST: i64 = -2147483648;
 const GREATEST: i64 = 2147483647;
 
 // What a sum, difference or product comes to: the bits of its word, or that it is beyond the words (CR 3).
-#[derive(Drop)]
+#[derive(Clone, Copy)]
 pub enum Reckoning {
     Word(u32),
     Beyond,

@@ -7,10 +7,10 @@ use Rattle.formats.specs.Touches.{event_bytes}
 use Rattle.console.proofs.events.Statement.{statement}
 use Rattle.console.proofs.events.Tie as tie
 
-abbrev invariant-loop : tie.invariant-loop
+abbrev invariant-loop : tie.invariant-loop-rest
 invariant-loop rows state₀ left event₀ out₀ rest₀ state event out rest = (rest ≤ left) × (length event ≡ event_bytes) × (length state ≡ length state₀)
 
-abbrev decreases-loop : tie.decreases-loop
+abbrev decreases-loop : tie.decreases-loop-rest
 decreases-loop rows state₀ left event₀ out₀ rest₀ state event out rest = rest
 
 pub events_spec : {M : Type 1} → statement M

@@ -13,7 +13,7 @@ read_spec = tie.close (tie.spec
     (λ c.
     let if1 = c.before in
     let start = if1.before.before in
-    front start.args.left start.args.to.now (le_of_lt if1.if1.true))
+    front start.args.left start.args.to-1.now (le_of_lt if1.if-left-to.true))
     (λ c κs. search rules)
     (λ c. search rules)
     (λ c.
@@ -21,9 +21,9 @@ read_spec = tie.close (tie.spec
     let if1 = read_full.before.before in
     let start = if1.before.before in
     let a = start.args in
-    let q = read_full.read-full in
-    let k = front a.left a.to.now (le_of_lt if1.if1.true) in
-    (omega (arith, q.ensures.0, q.auto.0, k), counts_front q.result q.new.0 (drop a.left a.to.now) q.ensures))
+    let q = read_full.read_full in
+    let k = front a.left a.to-1.now (le_of_lt if1.if-left-to.true) in
+    (omega (arith, q.ensures.0, q.auto.0, k), counts_front q.result q.new.0 (drop a.left a.to-1.now) q.ensures))
     (λ c κs. search rules)
     (λ c. search rules)
     (λ c. search rules))

@@ -7,10 +7,10 @@ use Rattle.console.proofs.Fronts.{counts}
 use Rattle.console.proofs.read_full.Statement.{statement}
 use Rattle.console.proofs.read_full.Tie as tie
 
-abbrev invariant-loop : tie.invariant-loop
+abbrev invariant-loop : tie.invariant-loop-done
 invariant-loop to₀ done₀ to done = (done ≤ length to) × (length to ≡ length to₀)
 
-abbrev decreases-loop : tie.decreases-loop
+abbrev decreases-loop : tie.decreases-loop-done
 decreases-loop to₀ done₀ to done = length to - done
 
 pub read_full_spec : {M : Type 1} → statement M

@@ -5,10 +5,10 @@ use lib.ListN.{length}
 use Rattle.console.proofs.skip.Statement.{statement}
 use Rattle.console.proofs.skip.Tie as tie
 
-abbrev invariant-loop : tie.invariant-loop
+abbrev invariant-loop : tie.invariant-loop-rest
 invariant-loop left dropped₀ rest₀ dropped rest = 4096 ≡ length dropped
 
-abbrev decreases-loop : tie.decreases-loop
+abbrev decreases-loop : tie.decreases-loop-rest
 decreases-loop left dropped₀ rest₀ dropped rest = rest
 
 pub skip_spec : {M : Type 1} → statement M

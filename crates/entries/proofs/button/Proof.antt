@@ -8,12 +8,12 @@ use Rattle.entries.proofs.button.Tie as tie
 
 pub button_spec : {M : Type 1} → statement M
 button_spec = tie.close (tie.spec
-    (λ c. let s = c.before.before in button_disabled s.args.list.now s.args.enabled (numbers_entry (path_of s.args.marks) s.args.action no_kinds) c.if1.true)
+    (λ c. let s = c.before.before in button_disabled s.args.list-1.now s.args.enabled (numbers_entry (path_of s.args.marks) s.args.action no_kinds) c.if-not-enabled.true)
     (λ c κs. let s = c.before.before.before in (s.requires.0, s.requires.1, no_digits))
     (λ c. search rules)
     (λ c.
     let write_entry = c.before.before in
     let if1 = write_entry.before.before in
     let start = if1.before.before in
-    button_enabled start.args.list.now write_entry.write-entry.new.0 write_entry.write-entry.result start.args.enabled
-    (numbers_entry (path_of start.args.marks) start.args.action no_kinds) if1.if1.false write_entry.write-entry.ensures))
+    button_enabled start.args.list-1.now write_entry.write_entry.new.0 write_entry.write_entry.result start.args.enabled
+    (numbers_entry (path_of start.args.marks) start.args.action no_kinds) if1.if-not-enabled.false write_entry.write_entry.ensures))

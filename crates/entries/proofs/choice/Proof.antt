@@ -17,15 +17,15 @@ choice_spec = tie.close (tie.spec
     (λ c κs. search rules)
     (λ c κs.
     let start = c.before.before.before.before in
-    let l = low_b start.requires.0 _ c.operand2.result refl c.operand2.ensures (omega (arith, start.requires.1)) in
-    fine_at start.requires.0 c.operand2.result start.args.depth (omega arith) start.requires.0.room)
+    let l = low_b start.requires.0 _ c.operand-2.result refl c.operand-2.ensures (omega (arith, start.requires.1)) in
+    fine_at start.requires.0 c.operand-2.result start.args.depth (omega arith) start.requires.0.room)
     (λ c κs. search rules)
     (λ c κs. search rules)
     (λ c. search rules)
     (λ c. search rules)
     (λ c. search rules)
     (λ c κs. search rules)
-    (λ c. let button2 = c.before.before in omega (arith, button2.button2.ensures.most, button2.before.before.before.before.before.button.ensures.most))
+    (λ c. let button2 = c.before.before in omega (arith, button2.button.ensures.most, button2.before.before.before.before.before.button-n.ensures.most))
     (λ c. search rules)
     (λ c.
     let button2 = c.before.before in
@@ -36,8 +36,8 @@ choice_spec = tie.close (tie.spec
     let tried = operand2.before in
     let operand = tried.before in
     let start = operand.before.before in
-    let m = button.button.ensures.most in
-    let m₂ = button2.button2.ensures.most in
-    let after : After start.args.list.now button.button.new.0 button.button.result button2.button2.result least.least.result (button.button.result + button2.button2.result) =
-    record { kept = button.button.auto.0; place = least.least.ensures; sum = record { at_most = omega (arith, m, m₂); first = λ _. refl; second = λ h. absurd (omega (arith, m, m₂, h)) } } in
-    (omega (arith, m, m₂), λ v. entries_choice v start.args.rows.now start.args.state.now start.args.row start.args.env.now start.args.depth (path_of start.args.marks) start.args.list.now start.requires.2 operand.operand.result operand2.operand2.result tried.tried.result tried2.tried2.result start.requires.1 operand.operand.ensures operand2.operand2.ensures after tried.tried.ensures tried2.tried2.ensures button.button.ensures button2.button2.ensures)))
+    let m = button.button-n.ensures.most in
+    let m₂ = button2.button.ensures.most in
+    let after : After start.args.list-1.now button.button-n.new.0 button.button-n.result button2.button.result least.least-at.result (button.button-n.result + button2.button.result) =
+    record { kept = button.button-n.auto.0; place = least.least-at.ensures; sum = record { at_most = omega (arith, m, m₂); first = λ _. refl; second = λ h. absurd (omega (arith, m, m₂, h)) } } in
+    (omega (arith, m, m₂), λ v. entries_choice v start.args.rows.now start.args.state.now start.args.row start.args.env.now start.args.depth (path_of start.args.marks) start.args.list-1.now start.requires.2 operand.operand.result operand2.operand-2.result tried.tried-left.result tried2.tried-right.result start.requires.1 operand.operand.ensures operand2.operand-2.ensures after tried.tried-left.ensures tried2.tried-right.ensures button.button-n.ensures button2.button.ensures)))

@@ -16,14 +16,14 @@ content_spec = tie.close (tie.spec
     let operand = c.before in
     let get = operand.before in
     let start = get.before in
-    let l = low_a start.requires.0 get.get.result operand.operand.result get.get.ensures operand.operand.ensures (omega (arith, start.requires.1, get.get.ensures)) (omega (arith, start.requires.2, get.get.ensures)) in
+    let l = low_a start.requires.0 get.get-kind.result operand.operand-a.result get.get-kind.ensures operand.operand-a.ensures (omega (arith, start.requires.1, get.get-kind.ensures)) (omega (arith, start.requires.2, get.get-kind.ensures)) in
     let f = start.requires.0.low in
     omega arith)
     (λ c κs.
     let operand = c.before in
     let get = operand.before in
     let start = get.before in
-    let l = low_a start.requires.0 get.get.result operand.operand.result get.get.ensures operand.operand.ensures (omega (arith, start.requires.1, get.get.ensures)) (omega (arith, start.requires.2, get.get.ensures)) in
+    let l = low_a start.requires.0 get.get-kind.result operand.operand-a.result get.get-kind.ensures operand.operand-a.ensures (omega (arith, start.requires.1, get.get-kind.ensures)) (omega (arith, start.requires.2, get.get-kind.ensures)) in
     let f = start.requires.0.low in
     (omega arith, omega arith))
     (λ c.
@@ -31,19 +31,19 @@ content_spec = tie.close (tie.spec
     let get = match_at.before.before in
     let start = get.before in
     content_filled start.args.rows.now start.args.state.now start.args.row c.read.result
-    (sym get.get.ensures ∙ match_at.match.keys1) c.read.ensures)
+    (sym get.get-kind.ensures ∙ match_at.in_default.keys1) c.read.ensures)
     (λ c.
     let match_at = c.before in
     let operand = match_at.before in
     let get = operand.before in
     let start = get.before in
-    content_entered start.args.rows.now start.args.state.now start.args.row operand.operand.result c.row_type.result _ _
-    (sym get.get.ensures ∙ match_at.match.keys2) operand.operand.ensures c.row_type.ensures)
+    content_entered start.args.rows.now start.args.state.now start.args.row operand.operand-a.result c.row_type.result _ _
+    (sym get.get-kind.ensures ∙ match_at.in_default.keys2) operand.operand-a.ensures c.row_type.ensures)
     (λ c.
     let match_at = c.before in
     let operand = match_at.before in
     let get = operand.before in
     let start = get.before in
-    content_shared start.args.rows.now start.args.state.now start.args.row operand.operand.result c.read2.result
-    (shared_kind start.requires.1 start.requires.2 (λ e. match_at.match.rest.0.1 (get.get.ensures ∙ e)) (λ e. match_at.match.rest.1 (get.get.ensures ∙ e)))
-    operand.operand.ensures c.read2.ensures))
+    content_shared start.args.rows.now start.args.state.now start.args.row operand.operand-a.result c.read-in_default.result
+    (shared_kind start.requires.1 start.requires.2 (λ e. match_at.in_default.rest.0.1 (get.get-kind.ensures ∙ e)) (λ e. match_at.in_default.rest.1 (get.get-kind.ensures ∙ e)))
+    operand.operand-a.ensures c.read-in_default.ensures))

@@ -17,7 +17,7 @@ goes_on_spec = tie.close (tie.spec
     let operand = value.before in
     let start = operand.before in
     goes_none start.args.rows.now start.args.state.now start.args.row start.args.env.now start.args.depth
-    operand.operand.result operand.operand.ensures value.value.result value.value.ensures (not-true _ c.if1.true))
+    operand.operand.result operand.operand.ensures value.value-found.result value.value-found.ensures (not-true _ c.if-not-found.true))
     (λ c κs. search rules)
     (λ c.
     let if1 = c.before.before.before in
@@ -25,5 +25,5 @@ goes_on_spec = tie.close (tie.spec
     let operand = value.before in
     let start = operand.before in
     goes_tried start.args.rows.now start.args.state.now start.args.row start.args.env.now start.args.depth
-    operand.operand.result operand.operand.ensures value.value.result value.value.ensures c.attempt.new.1.0
-    c.attempt.result (not-false _ if1.if1.false) c.attempt.ensures))
+    operand.operand.result operand.operand.ensures value.value-found.result value.value-found.ensures c.attempt.new.1.0
+    c.attempt.result (not-false _ if1.if-not-found.false) c.attempt.ensures))

@@ -18,11 +18,11 @@ offer_spec = tie.close (tie.spec
     (λ c κs.
     let content = c.before.before in
     let start = content.before.before in
-    (start.requires.3, omega arith, kinds_digit c.leaf-kinds.result content.content.result c.leaf-kinds.ensures))
+    (start.requires.3, omega arith, kinds_digit c.leaf_kinds.result content.content-shape.result c.leaf_kinds.ensures))
     (λ c. search rules)
     (λ c.
     let write_entry = c.before.before in
     let leaf_kinds = write_entry.before in
     let content = leaf_kinds.before.before in
     let start = content.before.before in
-    (omega (arith, write_entry.write-entry.ensures.most), λ env d v. entries_offer v start.args.rows.now start.args.state.now start.args.row env d (path_of start.args.marks) start.args.list.now write_entry.write-entry.new.0 write_entry.write-entry.result content.content.result content.content.ensures (subst (λ ks. Wrote start.args.list.now write_entry.write-entry.new.0 write_entry.write-entry.result (numbers_entry (path_of start.args.marks) (act_number giving) ks)) leaf_kinds.leaf-kinds.ensures write_entry.write-entry.ensures))))
+    (omega (arith, write_entry.write_entry.ensures.most), λ env d v. entries_offer v start.args.rows.now start.args.state.now start.args.row env d (path_of start.args.marks) start.args.list-1.now write_entry.write_entry.new.0 write_entry.write_entry.result content.content-shape.result content.content-shape.ensures (subst (λ ks. Wrote start.args.list-1.now write_entry.write_entry.new.0 write_entry.write_entry.result (numbers_entry (path_of start.args.marks) (act_number giving) ks)) leaf_kinds.leaf_kinds.ensures write_entry.write_entry.ensures))))

@@ -8,8 +8,8 @@ use Rattle.entries.proofs.shut.Tie as tie
 pub shut_spec : {M : Type 1} → statement M
 shut_spec = tie.close (tie.spec
     (λ c κs. (c.requires, omega arith))
-    (λ c. let get = c.before in let s = get.before.args in shut_other s.rows.now s.state.now s.row s.who (λ e. c.if1.true (get.get.ensures ∙ e)))
-    (λ c. let s = c.before.before.before.args in shut_anyone s.rows.now s.state.now s.row s.who c.if2.true)
+    (λ c. let get = c.before in let s = get.before.args in shut_other s.rows.now s.state.now s.row s.who (λ e. c.if-get-ne-GATE.true (get.get.ensures ∙ e)))
+    (λ c. let s = c.before.before.before.args in shut_anyone s.rows.now s.state.now s.row s.who c.if-who-eq0.true)
     (λ c κs. (c.before.before.before.requires, omega arith))
     (λ c.
     let get2 = c.before in
@@ -17,7 +17,7 @@ shut_spec = tie.close (tie.spec
     let if1 = if2.before in
     let get = if1.before in
     let s = get.before.args in
-    shut_role s.rows.now s.state.now s.row s.who (sym get.get.ensures ∙ if1.if1.false) if2.if2.false (λ e. c.if3.true (get2.get2.ensures ∙ e)))
+    shut_role s.rows.now s.state.now s.row s.who (sym get.get.ensures ∙ if1.if-get-ne-GATE.false) if2.if-who-eq0.false (λ e. c.if-get-who.true (get2.get-2.ensures ∙ e)))
     (λ c κs. c.before.before.before.before.before.requires)
     (λ c.
     let if3 = c.before in
@@ -26,4 +26,4 @@ shut_spec = tie.close (tie.spec
     let if1 = if2.before in
     let get = if1.before in
     let s = get.before.args in
-    shut_spent s.rows.now s.state.now s.row s.who (sym get.get.ensures ∙ if1.if1.false) if2.if2.false c.read-touches.result (sym get2.get2.ensures ∙ if3.if3.false) c.read-touches.ensures))
+    shut_spent s.rows.now s.state.now s.row s.who (sym get.get.ensures ∙ if1.if-get-ne-GATE.false) if2.if-who-eq0.false c.read_touches.result (sym get2.get-2.ensures ∙ if3.if-get-who.false) c.read_touches.ensures))

@@ -11,22 +11,22 @@ use Rattle.entries.proofs.Writing.{wrote_entry, wrote_nothing}
 use Rattle.entries.proofs.write_entry.Statement.{statement}
 use Rattle.entries.proofs.write_entry.Tie as tie
 
-returns : tie.Need-returns
+returns : tie.Need-returns-then-list-lt-ENTRY_BYTES
 returns c =
     let start = c.before.before in
     let kinds : length start.args.kinds ≡ max_leaves = let g = start.well_formed in search rules in
-    wrote_nothing (path_of start.args.marks) start.requires.0 start.args.action start.requires.1 start.args.kinds kinds start.requires.2 start.args.list.now c.if1.true
+    wrote_nothing (path_of start.args.marks) start.requires.0 start.args.action start.requires.1 start.args.kinds kinds start.requires.2 start.args.list-1.now c.if-list-lt-ENTRY_BYTES.true
 
-same_length : tie.Need-same-length
+same_length : tie.Need-shape_of-list
 same_length c =
     let write_numbers = c.before.before in
     let start = write_numbers.before.before.before.before in
     let action = start in
     let path = action.before.before.before.before in
-    length-set write_numbers.write-numbers.new.0 (entry_bytes - 1) newline ∙ write_numbers.write-numbers.auto.0 ∙ action.write2.auto.0 ∙
+    length-set write_numbers.write_numbers.new.0 (entry_bytes - 1) newline ∙ write_numbers.write_numbers.auto.0 ∙ action.write-2.auto.0 ∙
     path.write.auto.0
 
-returns_2 : tie.Need-returns-2
+returns_2 : tie.Need-returns
 returns_2 c =
     let numbers = c.before.before in
     let action = numbers.before.before.before.before in
@@ -35,8 +35,8 @@ returns_2 c =
     let start = room.before.before in
     let kinds : length start.args.kinds ≡ max_leaves = let g = start.well_formed in search rules in
     wrote_entry (path_of start.args.marks) start.requires.0 start.args.action start.requires.1 start.args.kinds kinds start.requires.2
-    start.args.list.now path.write.new.0 action.write2.new.0 numbers.write-numbers.new.0
-    room.if1.false path.write.ensures.1 action.write2.ensures.1 numbers.write-numbers.ensures.0
+    start.args.list-1.now path.write.new.0 action.write-2.new.0 numbers.write_numbers.new.0
+    room.if-list-lt-ENTRY_BYTES.false path.write.ensures.1 action.write-2.ensures.1 numbers.write_numbers.ensures.0
 
 pub write_entry_spec : {M : Type 1} → statement M
 write_entry_spec = tie.close (tie.spec returns (λ c κs. search rules) (λ c κs. search rules) (λ c κs. search rules) (λ c. search rules) same_length returns_2)

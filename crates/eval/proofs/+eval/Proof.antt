@@ -76,7 +76,7 @@ pub +eval-spec : {M : Type 1} → statement M
     let match_at = c.before.before in
     let get = match_at.before in
     let start = get.before in
-    call_b start.requires get.get.result c.operand.result get.get.ensures c.operand.ensures (omega (arith, match_at.match.keys1)))
+    call_b start.requires get.get-kind.result c.operand.result get.get-kind.ensures c.operand.ensures (omega (arith, match_at.in_default-1.keys1)))
     (λ c κs.
     let start = c.before.before.before.before.before.before in
     (start.requires.1.low, omega arith))
@@ -84,7 +84,7 @@ pub +eval-spec : {M : Type 1} → statement M
     let match_at = c.before.before.before.before.before in
     let get = match_at.before in
     let start = get.before in
-    call_c start.requires get.get.result c.operand2.result get.get.ensures c.operand2.ensures (omega (arith, match_at.match.keys1)) (omega (arith, match_at.match.keys1)))
+    call_c start.requires get.get-kind.result c.operand-in-24.result get.get-kind.ensures c.operand-in-24.ensures (omega (arith, match_at.in_default-1.keys1)) (omega (arith, match_at.in_default-1.keys1)))
     (λ c κs.
     let start = c.before.before.before.before.before.before.before.before in
     (start.requires.1.low, omega arith)) (λ c κs. search rules) (λ c κs. search rules) (λ c κs. search rules)
@@ -93,7 +93,7 @@ pub +eval-spec : {M : Type 1} → statement M
     let match_at = c.before.before in
     let get = match_at.before in
     let start = get.before in
-    call_a start.requires get.get.result c.operand3.result get.get.ensures c.operand3.ensures (omega (arith, match_at.match.keys2)) (omega (arith, match_at.match.keys2)))
+    call_a start.requires get.get-kind.result c.operand-in-25.result get.get-kind.ensures c.operand-in-25.ensures (omega (arith, match_at.in_default-1.keys2)) (omega (arith, match_at.in_default-1.keys2)))
     (λ c κs. search rules)
     (λ c κs.
     let start = c.before.before.before.before.before.before.before.before in
@@ -102,7 +102,7 @@ pub +eval-spec : {M : Type 1} → statement M
     let match_at = c.before.before.before.before.before.before.before in
     let get = match_at.before in
     let start = get.before in
-    call_b start.requires get.get.result c.operand4.result get.get.ensures c.operand4.ensures (omega (arith, match_at.match.keys2)))
+    call_b start.requires get.get-kind.result c.operand-then-is_true.result get.get-kind.ensures c.operand-then-is_true.ensures (omega (arith, match_at.in_default-1.keys2)))
     (λ c κs. search rules)
     (λ c.
     let eval4 = c.before in
@@ -115,10 +115,10 @@ pub +eval-spec : {M : Type 1} → statement M
     let get = match_at.before in
     let start = get.before in
     eval_if_true start.args.rows.now start.args.row start.args.env.now start.args.depth start.args.state.now
-    eval3.eval3.new.1.0 eval4.eval4.new.1.0 eval3.eval3.result eval4.eval4.result c.after3.result c.after3.ensures
-    is_true.is_true.result is_true.is_true.ensures operand3.operand3.result operand4.operand4.result
-    (sym get.get.ensures ∙ match_at.match.keys2) operand3.operand3.ensures eval3.eval3.ensures eval4.eval4.ensures
-    if1.if1.true operand4.operand4.ensures)
+    eval3.eval-test.new.1.0 eval4.eval-taken.new.1.0 eval3.eval-test.result eval4.eval-taken.result c.after-then-is_true.result c.after-then-is_true.ensures
+    is_true.is_true.result is_true.is_true.ensures operand3.operand-in-25.result operand4.operand-then-is_true.result
+    (sym get.get-kind.ensures ∙ match_at.in_default-1.keys2) operand3.operand-in-25.ensures eval3.eval-test.ensures eval4.eval-taken.ensures
+    if1.if-is_true.true operand4.operand-then-is_true.ensures)
     (λ c κs.
     let start = c.before.before.before.before.before.before.before.before in
     (start.requires.1.low, omega arith))
@@ -126,14 +126,14 @@ pub +eval-spec : {M : Type 1} → statement M
     let match_at = c.before.before.before.before.before.before.before in
     let get = match_at.before in
     let start = get.before in
-    call_c start.requires get.get.result c.operand5.result get.get.ensures c.operand5.ensures (omega (arith, match_at.match.keys2)) (omega (arith, match_at.match.keys2)))
+    call_c start.requires get.get-kind.result c.operand-in-25-2.result get.get-kind.ensures c.operand-in-25-2.ensures (omega (arith, match_at.in_default-1.keys2)) (omega (arith, match_at.in_default-1.keys2)))
     (λ c κs. search rules)
     (λ c κs. (c.before.before.before.requires.1.low, omega arith))
     (λ c κs.
     let match_at = c.before.before in
     let get = match_at.before in
     let start = get.before in
-    call_a start.requires get.get.result c.operand6.result get.get.ensures c.operand6.ensures (omega (arith, match_at.match.keys3)) (omega (arith, match_at.match.keys3)))
+    call_a start.requires get.get-kind.result c.operand-in-26.result get.get-kind.ensures c.operand-in-26.ensures (omega (arith, match_at.in_default-1.keys3)) (omega (arith, match_at.in_default-1.keys3)))
     (λ c κs.
     let start = c.before.before.before.before.before.before in
     (start.requires.1.low, omega arith))
@@ -141,13 +141,13 @@ pub +eval-spec : {M : Type 1} → statement M
     let match_at = c.before.before.before.before.before in
     let get = match_at.before in
     let start = get.before in
-    call_b start.requires get.get.result c.operand7.result get.get.ensures c.operand7.ensures (omega (arith, match_at.match.keys3)))
+    call_b start.requires get.get-kind.result c.operand-in-26-2.result get.get-kind.ensures c.operand-in-26-2.ensures (omega (arith, match_at.in_default-1.keys3)))
     (λ c κs. search rules) (λ c κs. search rules) (λ c κs. search rules) (λ c κs. search rules) (λ c κs. (c.before.before.before.requires.1.low, omega arith))
     (λ c κs.
     let match_at = c.before.before in
     let get = match_at.before in
     let start = get.before in
-    let h = low_a start.requires.1 get.get.result c.operand8.result get.get.ensures c.operand8.ensures (omega (arith, match_at.match.keys4)) (omega (arith, match_at.match.keys4)) in
+    let h = low_a start.requires.1 get.get-kind.result c.operand-in-29.result get.get-kind.ensures c.operand-in-29.ensures (omega (arith, match_at.in_default-1.keys4)) (omega (arith, match_at.in_default-1.keys4)) in
     omega (arith, start.requires.1.low))
     (λ c κs. search rules)
     (λ c κs. (c.before.before.before.requires.1.low, omega arith))
@@ -155,7 +155,7 @@ pub +eval-spec : {M : Type 1} → statement M
     let match_at = c.before.before in
     let get = match_at.before in
     let start = get.before in
-    call_b start.requires get.get.result c.operand9.result get.get.ensures c.operand9.ensures (omega (arith, match_at.match.keys5)))
+    call_b start.requires get.get-kind.result c.operand-in-30.result get.get-kind.ensures c.operand-in-30.ensures (omega (arith, match_at.in_default-1.keys5)))
     (λ c κs.
     let start = c.before.before.before.before.before.before in
     (start.requires.1.low, omega arith))
@@ -163,7 +163,7 @@ pub +eval-spec : {M : Type 1} → statement M
     let match_at = c.before.before.before.before.before in
     let get = match_at.before in
     let start = get.before in
-    let h = low_a start.requires.1 get.get.result c.operand10.result get.get.ensures c.operand10.ensures (omega (arith, match_at.match.keys5)) (omega (arith, match_at.match.keys5)) in
+    let h = low_a start.requires.1 get.get-kind.result c.operand-in-30-2.result get.get-kind.ensures c.operand-in-30-2.ensures (omega (arith, match_at.in_default-1.keys5)) (omega (arith, match_at.in_default-1.keys5)) in
     omega (arith, start.requires.1.low))
     (λ c κs. search rules) (λ c κs. search rules)
     (λ c κs. search rules) (λ c κs. (c.before.before.before.requires.1.low, omega arith))
@@ -171,7 +171,7 @@ pub +eval-spec : {M : Type 1} → statement M
     let match_at = c.before.before in
     let get = match_at.before in
     let start = get.before in
-    call_a start.requires get.get.result c.operand11.result get.get.ensures c.operand11.ensures (omega (arith, match_at.match.keys6)) (omega (arith, match_at.match.keys6)))
+    call_a start.requires get.get-kind.result c.operand-in-31.result get.get-kind.ensures c.operand-in-31.ensures (omega (arith, match_at.in_default-1.keys6)) (omega (arith, match_at.in_default-1.keys6)))
     (λ c κs. search rules) (λ c κs. search rules)
     (λ c.
     let if2 = c.before.before in
@@ -180,8 +180,8 @@ pub +eval-spec : {M : Type 1} → statement M
     let get = match_at.before in
     let start = get.before in
     eval_deep start.args.rows.now start.args.row start.args.env.now start.args.depth start.args.state.now
-    eval9.eval9.new.1.0 c.sure4.result (sym get.get.ensures ∙ match_at.match.keys6) if2.if2.true)
-    (λ c κs. c.if2.false)
+    eval9.eval-bound.new.1.0 c.sure-then-depth-ge-MAX_BINDERS.result (sym get.get-kind.ensures ∙ match_at.in_default-1.keys6) if2.if-depth-ge-MAX_BINDERS.true)
+    (λ c κs. c.if-depth-ge-MAX_BINDERS.false)
     (λ c κs.
     let start = c.before.before.before.before.before.before.before.before in
     (start.requires.1.low, omega arith)) (λ c. search rules)
@@ -191,14 +191,14 @@ pub +eval-spec : {M : Type 1} → statement M
     let match_at = if2.before.before.before.before in
     let get = match_at.before in
     let start = get.before in
-    let h = low_b start.requires.1 get.get.result operand12.operand12.result get.get.ensures operand12.operand12.ensures (omega (arith, match_at.match.keys6)) in
-    (omega (arith, start.requires.0), fine_at start.requires.1 _ _ (omega arith) (omega (arith, if2.if2.false))))
+    let h = low_b start.requires.1 get.get-kind.result operand12.operand-in-31-2.result get.get-kind.ensures operand12.operand-in-31-2.ensures (omega (arith, match_at.in_default-1.keys6)) in
+    (omega (arith, start.requires.0), fine_at start.requires.1 _ _ (omega arith) (omega (arith, if2.if-depth-ge-MAX_BINDERS.false))))
     (λ c κs. search rules)
     (λ c κs.
     let if3 = c.before in
     let get = if3.before.before in
     let start = get.before in
-    (start.requires.1.low, start.requires.1.room, get.get.ensures, if3.if3.left, omega (arith, c.if4.true)))
+    (start.requires.1.low, start.requires.1.room, get.get-kind.ensures, if3.in_default.left, omega (arith, c.if-kind-lt24.true)))
     (λ c κs. search rules)
     (λ c κs.
     let start = c.before.before.before.before.before.before in
@@ -208,8 +208,8 @@ pub +eval-spec : {M : Type 1} → statement M
     let match_at = if4.before.before in
     let get = match_at.before in
     let start = get.before in
-    call_a start.requires get.get.result c.operand13.result get.get.ensures c.operand13.ensures
-    (omega (arith, if4.if4.false, match_at.match.rest.0.0.0.0.0.1)) (omega (arith, c.before.before.if5.true)))
+    call_a start.requires get.get-kind.result c.operand-in-27-to-28.result get.get-kind.ensures c.operand-in-27-to-28.ensures
+    (omega (arith, if4.if-kind-lt24.false, match_at.in_default-1.rest.0.0.0.0.0.1)) (omega (arith, c.before.before.if-kind-lt29.true)))
     (λ c κs. search rules) (λ c κs. search rules) (λ c κs. search rules) (λ c κs. search rules) (λ c κs. search rules)
     (λ c.
     let after = c.before in
@@ -222,13 +222,13 @@ pub +eval-spec : {M : Type 1} → statement M
     let match_at = operand.before.before in
     let get = match_at.before in
     let start = get.before in
-    let x = eval.eval.result in
-    let y = eval2.eval2.result in
+    let x = eval.eval-x.result in
+    let y = eval2.eval-y.result in
     eval_op start.args.rows.now start.args.row start.args.env.now start.args.depth start.args.state.now
-    eval.eval.new.1.0 eval2.eval2.new.1.0 x y c.after2.result operand.operand.result
-    operand2.operand2.result get2.get2.result (sym get.get.ensures ∙ match_at.match.keys1) operand.operand.ensures
-    operand2.operand2.ensures get2.get2.ensures eval.eval.ensures eval2.eval2.ensures
-    (c.after2.ensures ∙ ap (after_over x.over) (after.after.ensures ∙ ap (after_over y.over) apply.apply.ensures)))
+    eval.eval-x.new.1.0 eval2.eval-y.new.1.0 x y c.after-in-24.result operand.operand.result
+    operand2.operand-in-24.result get2.get.result (sym get.get-kind.ensures ∙ match_at.in_default-1.keys1) operand.operand.ensures
+    operand2.operand-in-24.ensures get2.get.ensures eval.eval-x.ensures eval2.eval-y.ensures
+    (c.after-in-24.ensures ∙ ap (after_over x.over) (after.after.ensures ∙ ap (after_over y.over) apply.apply-z.ensures)))
     (λ c.
     let eval5 = c.before in
     let operand5 = eval5.before in
@@ -240,10 +240,10 @@ pub +eval-spec : {M : Type 1} → statement M
     let get = match_at.before in
     let start = get.before in
     eval_if_false start.args.rows.now start.args.row start.args.env.now start.args.depth start.args.state.now
-    eval3.eval3.new.1.0 eval5.eval5.new.1.0 eval3.eval3.result eval5.eval5.result c.after4.result c.after4.ensures
-    is_true.is_true.result is_true.is_true.ensures operand3.operand3.result operand5.operand5.result
-    (sym get.get.ensures ∙ match_at.match.keys2) operand3.operand3.ensures eval3.eval3.ensures eval5.eval5.ensures
-    if1.if1.false operand5.operand5.ensures)
+    eval3.eval-test.new.1.0 eval5.eval-other.new.1.0 eval3.eval-test.result eval5.eval-other.result c.after-in-25.result c.after-in-25.ensures
+    is_true.is_true.result is_true.is_true.ensures operand3.operand-in-25.result operand5.operand-in-25-2.result
+    (sym get.get-kind.ensures ∙ match_at.in_default-1.keys2) operand3.operand-in-25.ensures eval3.eval-test.ensures eval5.eval-other.ensures
+    if1.if-is_true.false operand5.operand-in-25-2.ensures)
     (λ c.
     let after5 = c.before in
     let sure = after5.before in
@@ -255,23 +255,23 @@ pub +eval-spec : {M : Type 1} → statement M
     let match_at = operand6.before.before in
     let get = match_at.before in
     let start = get.before in
-    let x = eval6.eval6.result in
-    let y = eval7.eval7.result in
+    let x = eval6.eval-a.result in
+    let y = eval7.eval-b.result in
     eval_pair start.args.rows.now start.args.row start.args.env.now start.args.depth start.args.state.now
-    eval6.eval6.new.1.0 eval7.eval7.new.1.0 x y c.after6.result
-    operand6.operand6.result operand7.operand7.result (sym get.get.ensures ∙ match_at.match.keys3) operand6.operand6.ensures
-    operand7.operand7.ensures eval6.eval6.ensures eval7.eval7.ensures
-    (c.after6.ensures ∙ ap (after_over x.over) (after5.after5.ensures ∙ ap (after_over y.over) (sure.sure.ensures ∙ ap sure_of pair.pair.ensures))))
+    eval6.eval-a.new.1.0 eval7.eval-b.new.1.0 x y c.after-in-26-2.result
+    operand6.operand-in-26.result operand7.operand-in-26-2.result (sym get.get-kind.ensures ∙ match_at.in_default-1.keys3) operand6.operand-in-26.ensures
+    operand7.operand-in-26-2.ensures eval6.eval-a.ensures eval7.eval-b.ensures
+    (c.after-in-26-2.ensures ∙ ap (after_over x.over) (after5.after-in-26.ensures ∙ ap (after_over y.over) (sure.sure.ensures ∙ ap sure_of pair.pair-both.ensures))))
     (λ c.
     let read_value = c.before in
     let operand8 = read_value.before in
     let match_at = operand8.before.before in
     let get = match_at.before in
     let start = get.before in
-    subst (EvalOk start.args.rows.now start.args.state.now start.args.state.now start.args.row start.args.env.now start.args.depth) (sym c.sure2.ensures)
+    subst (EvalOk start.args.rows.now start.args.state.now start.args.state.now start.args.row start.args.env.now start.args.depth) (sym c.sure-in-29.ensures)
     (eval_content start.args.rows.now start.args.row start.args.env.now start.args.depth start.args.state.now
-    read_value.read-value.result operand8.operand8.result (sym get.get.ensures ∙ match_at.match.keys4) operand8.operand8.ensures
-    read_value.read-value.ensures))
+    read_value.read_value.result operand8.operand-in-29.result (sym get.get-kind.ensures ∙ match_at.in_default-1.keys4) operand8.operand-in-29.ensures
+    read_value.read_value.ensures))
     (λ c.
     let sure3 = c.before in
     let unit = sure3.before in
@@ -282,12 +282,12 @@ pub +eval-spec : {M : Type 1} → statement M
     let match_at = operand9.before.before in
     let get = match_at.before in
     let start = get.before in
-    let x = eval8.eval8.result in
+    let x = eval8.eval-content.result in
     eval_assign start.args.rows.now start.args.row start.args.env.now start.args.depth start.args.state.now
-    eval8.eval8.new.1.0 put_value.put-value.new.0 x c.after7.result operand10.operand10.result
-    operand9.operand9.result (sym get.get.ensures ∙ match_at.match.keys5) operand10.operand10.ensures operand9.operand9.ensures
-    eval8.eval8.ensures put_value.put-value.ensures
-    (c.after7.ensures ∙ ap (after_over x.over) (sure3.sure3.ensures ∙ ap sure_of unit.unit.ensures)))
+    eval8.eval-content.new.1.0 put_value.put_value.new.0 x c.after-in-30.result operand10.operand-in-30-2.result
+    operand9.operand-in-30.result (sym get.get-kind.ensures ∙ match_at.in_default-1.keys5) operand10.operand-in-30-2.ensures operand9.operand-in-30.ensures
+    eval8.eval-content.ensures put_value.put_value.ensures
+    (c.after-in-30.ensures ∙ ap (after_over x.over) (sure3.sure-in-30.ensures ∙ ap sure_of unit.unit.ensures)))
     (λ c.
     let eval10 = c.before in
     let operand12 = eval10.before.before in
@@ -298,14 +298,14 @@ pub +eval-spec : {M : Type 1} → statement M
     let get = match_at.before in
     let start = get.before in
     eval_let start.args.rows.now start.args.row start.args.env.now start.args.depth start.args.state.now
-    eval9.eval9.new.1.0 eval10.eval10.new.1.0 pushed.pushed.result eval9.eval9.result eval10.eval10.result
-    c.after8.result c.after8.ensures operand11.operand11.result operand12.operand12.result
-    (sym get.get.ensures ∙ match_at.match.keys6) operand11.operand11.ensures operand12.operand12.ensures
-    eval9.eval9.ensures pushed.pushed.ensures eval10.eval10.ensures)
+    eval9.eval-bound.new.1.0 eval10.eval-body.new.1.0 pushed.pushed-inner.result eval9.eval-bound.result eval10.eval-body.result
+    c.after-in-31.result c.after-in-31.ensures operand11.operand-in-31.result operand12.operand-in-31-2.result
+    (sym get.get-kind.ensures ∙ match_at.in_default-1.keys6) operand11.operand-in-31.ensures operand12.operand-in-31-2.ensures
+    eval9.eval-bound.ensures pushed.pushed-inner.ensures eval10.eval-body.ensures)
     (λ c.
     let constant = c.before in
     let start = constant.before.before.before.before.before in
-    subst (EvalOk start.args.rows.now start.args.state.now start.args.state.now start.args.row start.args.env.now start.args.depth) (sym c.sure5.ensures)
+    subst (EvalOk start.args.rows.now start.args.state.now start.args.state.now start.args.row start.args.env.now start.args.depth) (sym c.sure-in-20-to-23.ensures)
     (constant.constant.ensures start.args.state.now))
     (λ c.
     let sure6 = c.before in
@@ -317,17 +317,17 @@ pub +eval-spec : {M : Type 1} → statement M
     let match_at = if4.before.before in
     let get = match_at.before in
     let start = get.before in
-    let x = eval11.eval11.result in
+    let x = eval11.eval-whole.result in
     eval_part start.args.rows.now start.args.row start.args.env.now start.args.depth start.args.state.now
-    eval11.eval11.new.1.0 x part.part.result c.after9.result (c.after9.ensures ∙ ap (after_over x.over) sure6.sure6.ensures)
-    operand13.operand13.result get.get.result get.get.ensures
-    (omega (arith, if4.if4.false, match_at.match.rest.0.0.0.0.0.1, match_at.match.rest.0.0.0.0.1, match_at.match.rest.0.0.0.1))
-    if5.if5.true operand13.operand13.ensures eval11.eval11.ensures part.part.ensures)
+    eval11.eval-whole.new.1.0 x part.part.result c.after-in-27-to-28.result (c.after-in-27-to-28.ensures ∙ ap (after_over x.over) sure6.sure-in-27-to-28.ensures)
+    operand13.operand-in-27-to-28.result get.get-kind.result get.get-kind.ensures
+    (omega (arith, if4.if-kind-lt24.false, match_at.in_default-1.rest.0.0.0.0.0.1, match_at.in_default-1.rest.0.0.0.0.1, match_at.in_default-1.rest.0.0.0.1))
+    if5.if-kind-lt29.true operand13.operand-in-27-to-28.ensures eval11.eval-whole.ensures part.part.ensures)
     (λ c.
     let if3 = c.before.before in
     let match_at = if3.before in
     let get = match_at.before in
     let start = get.before in
-    let g = get.get.ensures in
-    eval_none start.args.rows.now start.args.row start.args.env.now start.args.depth start.args.state.now c.sure7.result
-    (λ p q. ⊎_elim (λ z. let y = z.taken in omega arith) (λ z. let y = z.2.left in omega (arith, match_at.match.rest.1, match_at.match.rest.0.1, match_at.match.rest.0.0.1)) if3.if3.branch))
+    let g = get.get-kind.ensures in
+    eval_none start.args.rows.now start.args.row start.args.env.now start.args.depth start.args.state.now c.sure-in_default.result
+    (λ p q. ⊎_elim (λ z. let y = z.taken in omega arith) (λ z. let y = z.2.left in omega (arith, match_at.in_default-1.rest.1, match_at.in_default-1.rest.0.1, match_at.in_default-1.rest.0.0.1)) if3.in_default.branch))

@@ -3,14 +3,14 @@ use borrow.Author.Rules.{rules}
 use Rattle.flow_c.proofs.nannyjiffy_start.Statement.{statement}
 use Rattle.flow_c.proofs.nannyjiffy_start.Tie as tie
 
-start_requires : tie.Need-start-requires
+start_requires : tie.Need-start-started-requires
 start_requires c κs = search rules
 
-same_length : tie.Need-same-length
+same_length : tie.Need-shape_of-state
 same_length c = search rules
 
 returns : tie.Need-returns
-returns c = let (answered, bounded) = c.before.start.ensures in (answered.0, (answered.1, (answered.2, bounded)))
+returns c = let (answered, bounded) = c.before.start-started.ensures in (answered.0, (answered.1, (answered.2, bounded)))
 
 pub nannyjiffy_start_spec : {M : Type 1} → statement M
 nannyjiffy_start_spec = tie.close (tie.spec start_requires same_length returns)

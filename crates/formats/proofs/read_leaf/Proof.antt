@@ -12,12 +12,12 @@ read_leaf_spec = tie.close (tie.spec
     let reading = c.before in
     let read = reading.before.before in
     let start = read.before.before in
-    leaf_number start.args.s.now start.args.at start.args.width reading.reading.given.0.0 (sym reading.reading.given.1 ∙ read.read.ensures))
+    leaf_number start.args.s.now start.args.at start.args.width reading.reading-1.given.0.0 (sym reading.reading-1.given.1 ∙ read.read-reading.ensures))
     (λ c.
     let read = c.before.before in
     let start = read.before.before in
-    leaf_blank start.args.s.now start.args.at start.args.width (sym c.enum_told.given.1 ∙ read.read.ensures))
+    leaf_blank start.args.s.now start.args.at start.args.width (sym c.enum_told-1.given.1 ∙ read.read-reading.ensures))
     (λ c.
     let read = c.before.before in
     let start = read.before.before in
-    leaf_none start.args.s.now start.args.at start.args.width (sym c.enum-told2.given.1 ∙ read.read.ensures)))
+    leaf_none start.args.s.now start.args.at start.args.width (sym c.enum_told-in-Unreadable-1.given.1 ∙ read.read-reading.ensures)))

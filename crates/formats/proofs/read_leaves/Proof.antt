@@ -11,53 +11,53 @@ use Rattle.formats.proofs.Loops.{ReadTo, read_first, read_more, read_none, read_
 use Rattle.formats.proofs.read_leaves.Statement.{statement}
 use Rattle.formats.proofs.read_leaves.Tie as tie
 
-abbrev invariant-loop : tie.invariant-loop
+abbrev invariant-loop : tie.invariant-loop-k
 invariant-loop s at width words₀ blank₀ k₀ words blank k = (k ≤ max_leaves) × (length words ≡ max_leaves) × (length blank ≡ max_leaves) × ReadTo s at width words blank k
 
-abbrev decreases-loop : tie.decreases-loop
+abbrev decreases-loop : tie.decreases-loop-k
 decreases-loop s at width words₀ blank₀ k₀ words blank k = max_leaves - k
 
-loop_holds : tie.Need-loop-init invariant-loop decreases-loop
+loop_holds : tie.Need-loop-k-init invariant-loop decreases-loop
 loop_holds c = let start = c.before in (search rules, refl, refl, read_first start.args.s.now start.args.at start.args.width)
 
 mul_read_leaf : tie.Need-overflow-mul-read-leaf invariant-loop decreases-loop
 mul_read_leaf c =
     let loop = c.before in
     let start = loop.before.before in
-    omega (arith, mul-le-mul_right start.args.width loop.loop.invariant.0)
+    omega (arith, mul-le-mul_right start.args.width loop.loop-k.invariant.0)
 
 add_read_leaf : tie.Need-overflow-add-read-leaf invariant-loop decreases-loop
 add_read_leaf c =
     let loop = c.before in
     let start = loop.before.before in
-    omega (arith, mul-le-mul_right start.args.width loop.loop.invariant.0)
+    omega (arith, mul-le-mul_right start.args.width loop.loop-k.invariant.0)
 
-returns : tie.Need-returns invariant-loop decreases-loop
+returns : tie.Need-returns-then-not-leaf invariant-loop decreases-loop
 returns c =
     let leaf = c.before.before in
     let test = leaf.before in
     let loop = test.before in
     let start = loop.before.before in
-    read_none start.args.s.now start.args.at start.args.width loop.loop.k (omega arith) leaf.read-leaf.result leaf.read-leaf.ensures (not-true _ c.if1.true)
+    read_none start.args.s.now start.args.at start.args.width loop.loop-k.k (omega arith) leaf.read_leaf-leaf.result leaf.read_leaf-leaf.ensures (not-true _ c.if-not-leaf.true)
 
-loop_again : tie.Need-loop-preserved invariant-loop decreases-loop
+loop_again : tie.Need-loop-k-preserved invariant-loop decreases-loop
 loop_again c =
     let leaf = c.before.before in
     let test = leaf.before in
     let loop = test.before in
     let start = loop.before.before in (
       omega arith,
-      length-set loop.loop.words loop.loop.k leaf.read-leaf.result.bits ∙ loop.loop.invariant.1,
-      length-set loop.loop.blank loop.loop.k leaf.read-leaf.result.blank ∙ loop.loop.invariant.2,
-      read_more start.args.s.now start.args.at start.args.width loop.loop.k (omega arith) leaf.read-leaf.result leaf.read-leaf.ensures
-          loop.loop.words loop.loop.blank loop.loop.invariant.3 (not-false _ c.if1.false),
+      length-set loop.loop-k.words loop.loop-k.k leaf.read_leaf-leaf.result.bits ∙ loop.loop-k.invariant.1,
+      length-set loop.loop-k.blank loop.loop-k.k leaf.read_leaf-leaf.result.blank ∙ loop.loop-k.invariant.2,
+      read_more start.args.s.now start.args.at start.args.width loop.loop-k.k (omega arith) leaf.read_leaf-leaf.result leaf.read_leaf-leaf.ensures
+          loop.loop-k.words loop.loop-k.blank loop.loop-k.invariant.3 (not-false _ c.if-not-leaf.false),
     )
 
-returns_2 : tie.Need-returns-2 invariant-loop decreases-loop
+returns_2 : tie.Need-returns invariant-loop decreases-loop
 returns_2 c =
     let loop = c.before in
     let start = loop.before.before in
-    read_all start.args.s.now start.args.at start.args.width loop.loop.words loop.loop.blank loop.loop.k (omega arith) loop.loop.invariant.3
+    read_all start.args.s.now start.args.at start.args.width loop.loop-k.words loop.loop-k.blank loop.loop-k.k (omega arith) loop.loop-k.invariant.3
 
 pub read_leaves_spec : {M : Type 1} → statement M
 read_leaves_spec = tie.close (tie.spec invariant-loop decreases-loop loop_holds mul_read_leaf add_read_leaf

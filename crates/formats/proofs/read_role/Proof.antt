@@ -12,12 +12,12 @@ read_role_spec = tie.close (tie.spec
     let reading = c.before.before in
     let read = reading.before.before in
     let start = read.before.before in
-    role_number start.args.s.now reading.reading.given.0.0 c.as-role.result (sym reading.reading.given.1 ∙ read.read.ensures) c.as-role.ensures)
+    role_number start.args.s.now reading.reading-1.given.0.0 c.as_role.result (sym reading.reading-1.given.1 ∙ read.read-reading.ensures) c.as_role.ensures)
     (λ c.
     let read = c.before.before in
     let start = read.before.before in
-    role_blank start.args.s.now (sym c.enum_told.given.1 ∙ read.read.ensures))
+    role_blank start.args.s.now (sym c.enum_told-1.given.1 ∙ read.read-reading.ensures))
     (λ c.
     let read = c.before.before in
     let start = read.before.before in
-    role_unread start.args.s.now (sym c.enum-told2.given.1 ∙ read.read.ensures)))
+    role_unread start.args.s.now (sym c.enum_told-in-Unreadable-1.given.1 ∙ read.read-reading.ensures)))

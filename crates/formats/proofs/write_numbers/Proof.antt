@@ -11,13 +11,13 @@ use Rattle.formats.proofs.Loops.{write_more, write_all}
 use Rattle.formats.proofs.write_numbers.Statement.{statement}
 use Rattle.formats.proofs.write_numbers.Tie as tie
 
-abbrev invariant-loop : tie.invariant-loop
+abbrev invariant-loop : tie.invariant-loop-i
 invariant-loop s₀ at width numbers i₀ s i = (i ≤ max_leaves) × (length s ≡ length s₀) × (s ≡ put_items s₀ at (items_of width (take i numbers)))
 
-abbrev decreases-loop : tie.decreases-loop
+abbrev decreases-loop : tie.decreases-loop-i
 decreases-loop s₀ at width numbers i₀ s i = max_leaves - i
 
-loop_holds : tie.Need-loop-init invariant-loop decreases-loop
+loop_holds : tie.Need-loop-i-init invariant-loop decreases-loop
 unfolding put_items
 loop_holds c = (search rules, refl, refl)
 
@@ -25,29 +25,29 @@ mul_write : tie.Need-overflow-mul-write invariant-loop decreases-loop
 mul_write c =
     let loop = c.before.before in
     let start = loop.before.before in
-    omega (arith, mul-le-mul_right start.args.width loop.loop.invariant.0)
+    omega (arith, mul-le-mul_right start.args.width loop.loop-i.invariant.0)
 
 add_write : tie.Need-overflow-add-write invariant-loop decreases-loop
 add_write c =
     let loop = c.before.before in
     let start = loop.before.before in
-    omega (arith, mul-le-mul_right start.args.width loop.loop.invariant.0)
+    omega (arith, mul-le-mul_right start.args.width loop.loop-i.invariant.0)
 
-loop_again : tie.Need-loop-preserved invariant-loop decreases-loop
+loop_again : tie.Need-loop-i-preserved invariant-loop decreases-loop
 loop_again c =
     let write = c.before.before in
     let start_at = write.before.before.before in
     let loop = start_at in
     let start = loop.before.before in
     let long : length start.args.t4 ≡ max_leaves = let g = start.well_formed in search rules in
-    (omega arith, write.write.auto.0 ∙ loop.loop.invariant.1, write_more start.args.s.now start.args.at start.args.width start.args.t4 loop.loop.i loop.loop.s write.write.new.0 (omega (arith, long)) loop.loop.invariant.2 write.write.ensures.1)
+    (omega arith, write.write.auto.0 ∙ loop.loop-i.invariant.1, write_more start.args.s-1.now start.args.at start.args.width start.args.t4 loop.loop-i.i loop.loop-i.s-1 write.write.new.0 (omega (arith, long)) loop.loop-i.invariant.2 write.write.ensures.1)
 
 returns : tie.Need-returns invariant-loop decreases-loop
 returns c =
     let loop = c.before in
     let start = loop.before.before in
     let long : length start.args.t4 ≡ max_leaves = let g = start.well_formed in search rules in
-    (write_all start.args.s.now start.args.at start.args.width start.args.t4 loop.loop.i loop.loop.s (omega (arith, long)) loop.loop.invariant.2, long)
+    (write_all start.args.s-1.now start.args.at start.args.width start.args.t4 loop.loop-i.i loop.loop-i.s-1 (omega (arith, long)) loop.loop-i.invariant.2, long)
 
 pub write_numbers_spec : {M : Type 1} → statement M
 write_numbers_spec = tie.close (tie.spec invariant-loop decreases-loop loop_holds mul_write add_write

@@ -56,15 +56,15 @@ pub +handle-spec : {M : Type 1} → statement M
     (λ c κs.
     let handed_on = c.before.before.before.before.before.before in
     let start = handed_on.before.before in
-    (start.requires.1.0.low, handed_on.handed-on.ensures.low))
+    (start.requires.1.0.low, handed_on.handed_on-part.ensures.low))
     (λ c κs.
     let operand = c.before in
     let enclose = operand.before.before in
     let if1 = enclose.before.before.before.before in
     let handed_on = if1.before in
     let start = handed_on.before.before in
-    let l = low_part start.args.rows.now start.args.row start.requires.1.0 (handed_on.handed-on.ensures.on if1.if1.true) operand.operand.ensures in
-    (omega (arith, start.requires.0), (fine_part start.args.rows.now start.args.row start.requires.1.0 (handed_on.handed-on.ensures.on if1.if1.true) operand.operand.ensures enclose.enclose.ensures.room, start.requires.1.1)))
+    let l = low_part start.args.rows.now start.args.row start.requires.1.0 (handed_on.handed_on-part.ensures.on if1.if-part-ne0.true) operand.operand.ensures in
+    (omega (arith, start.requires.0), (fine_part start.args.rows.now start.args.row start.requires.1.0 (handed_on.handed_on-part.ensures.on if1.if-part-ne0.true) operand.operand.ensures enclose.enclose-under.ensures.room, start.requires.1.1)))
     (λ c κs.
     let start = c.before.before.before.before.before.before.before.before.before.before.before.before in
     start.requires.1.0.low)
@@ -75,10 +75,10 @@ pub +handle-spec : {M : Type 1} → statement M
     let if1 = enclose.before.before.before.before in
     let handed_on = if1.before in
     let start = handed_on.before.before in
-    handle_part start.args.rows.now start.args.state.now handle.handle.new.1.0 c.pass.new.1.0 start.args.row start.args.env.now
-    start.args.depth start.args.e.role (event_path start.args.e) (event_action start.args.e) handle.handle.result c.pass.result c.pass.ensures
-    (handed_on.handed-on.ensures.on if1.if1.true) operand.operand.ensures enclose.enclose.new.1.1.1.0 enclose.enclose.result
-    enclose.enclose.ensures handle.handle.ensures)
+    handle_part start.args.rows.now start.args.state.now handle.handle-told.new.1.0 c.pass.new.1.0 start.args.row start.args.env.now
+    start.args.depth start.args.e.role (event_path start.args.e) (event_action start.args.e) handle.handle-told.result c.pass.result c.pass.ensures
+    (handed_on.handed_on-part.ensures.on if1.if-part-ne0.true) operand.operand.ensures enclose.enclose-under.new.1.1.1.0 enclose.enclose-under.result
+    enclose.enclose-under.ensures handle.handle-told.ensures)
     (λ c κs. (c.before.before.before.requires.1.0.low, omega arith))
     (λ c κs.
     let start = c.before.before.before.before in
@@ -88,20 +88,20 @@ pub +handle-spec : {M : Type 1} → statement M
     let operand2 = match_at.before in
     let get = operand2.before in
     let start = get.before.before.before.before in
-    let q = call_a (start.requires.0, start.requires.1.0) get.get.result operand2.operand2.result get.get.ensures operand2.operand2.ensures (omega (arith, match_at.match.keys1)) (omega (arith, match_at.match.keys1)) in
+    let q = call_a (start.requires.0, start.requires.1.0) get.get-kind.result operand2.operand-a.result get.get-kind.ensures operand2.operand-a.ensures (omega (arith, match_at.in_default-1.keys1)) (omega (arith, match_at.in_default-1.keys1)) in
     (q.0, (q.1, start.requires.1.1)))
     (λ c κs.
     let match_at = c.before in
     let operand2 = match_at.before in
     let get = operand2.before in
     let start = get.before.before.before.before in
-    let h = low_a start.requires.1.0 get.get.result operand2.operand2.result get.get.ensures operand2.operand2.ensures (omega (arith, match_at.match.keys2)) (omega (arith, match_at.match.keys2)) in
-    fine_at start.requires.1.0 operand2.operand2.result 0 (omega arith) (omega arith))
+    let h = low_a start.requires.1.0 get.get-kind.result operand2.operand-a.result get.get-kind.ensures operand2.operand-a.ensures (omega (arith, match_at.in_default-1.keys2)) (omega (arith, match_at.in_default-1.keys2)) in
+    fine_at start.requires.1.0 operand2.operand-a.result 0 (omega arith) (omega arith))
     (λ c κs.
     let match_at = c.before.before.before.before in
     let get = match_at.before.before in
     let start = get.before.before.before.before in
-    (start.requires.1.0, omega (arith, get.get.ensures, match_at.match.keys2), omega (arith, get.get.ensures, match_at.match.keys2)))
+    (start.requires.1.0, omega (arith, get.get-kind.ensures, match_at.in_default-1.keys2), omega (arith, get.get-kind.ensures, match_at.in_default-1.keys2)))
     (λ c κs. search rules)
     (λ c.
     let attempt = c.before in
@@ -114,15 +114,15 @@ pub +handle-spec : {M : Type 1} → statement M
     let handed_on = if1.before in
     let start = handed_on.before.before in
     handle_continue start.args.rows.now start.args.state.now attempt.attempt.new.1.0 start.args.row start.args.env.now
-    start.args.depth c.answer.result start.args.e operand2.operand2.result Going-on.Going-on.result
-    (handed_on.handed-on.ensures.none if1.if1.false) (sym get.get.ensures ∙ match_at.match.keys2) operand2.operand2.ensures
-    Going-on.Going-on.ensures attempt.attempt.result c.answer.ensures if2.if2.true attempt.attempt.ensures)
+    start.args.depth c.answer.result start.args.e operand2.operand-a.result Going-on.Going-on.result
+    (handed_on.handed_on-part.ensures.none if1.if-part-ne0.false) (sym get.get-kind.ensures ∙ match_at.in_default-1.keys2) operand2.operand-a.ensures
+    Going-on.Going-on.ensures attempt.attempt.result c.answer.ensures if2.if-found.true attempt.attempt.ensures)
     (λ c κs.
     let match_at = c.before.before.before.before in
     let operand2 = match_at.before in
     let get = operand2.before in
     let start = get.before.before.before.before in
-    let q = call_a (start.requires.0, start.requires.1.0) get.get.result operand2.operand2.result get.get.ensures operand2.operand2.ensures (omega (arith, match_at.match.keys2)) (omega (arith, match_at.match.keys2)) in
+    let q = call_a (start.requires.0, start.requires.1.0) get.get-kind.result operand2.operand-a.result get.get-kind.ensures operand2.operand-a.ensures (omega (arith, match_at.in_default-1.keys2)) (omega (arith, match_at.in_default-1.keys2)) in
     (q.0, (q.1, start.requires.1.1)))
     (λ c κs.
     let match_at = c.before in
@@ -130,14 +130,14 @@ pub +handle-spec : {M : Type 1} → statement M
     let if1 = get.before in
     let handed_on = if1.before in
     let start = handed_on.before.before in
-    (start.requires.1.0, sym get.get.ensures ∙ match_at.match.keys3, (handed_on.handed-on.ensures.none if1.if1.false), start.requires.1.1))
+    (start.requires.1.0, sym get.get-kind.ensures ∙ match_at.in_default-1.keys3, (handed_on.handed_on-part.ensures.none if1.if-part-ne0.false), start.requires.1.1))
     (λ c κs. search rules)
     (λ c κs.
     let if4 = c.before in
     let if3 = if4.before in
     let get = if3.before.before.before in
     let start = get.before.before.before.before in
-    (fine_at start.requires.1.0 start.args.row 0 (omega arith) (omega arith), omega (arith, get.get.ensures, if3.if3.false), omega (arith, get.get.ensures, if4.if4.true), start.requires.1.1.2))
+    (fine_at start.requires.1.0 start.args.row 0 (omega arith) (omega arith), omega (arith, get.get-kind.ensures, if3.if-kind-lt40.false), omega (arith, get.get-kind.ensures, if4.if-kind-lt43.true), start.requires.1.1.2))
     (λ c κs. search rules)
     (λ c κs.
     let start = c.before.before.before.before.before.before.before.before.before.before in
@@ -151,8 +151,8 @@ pub +handle-spec : {M : Type 1} → statement M
     let operand2 = if5.before.before.before.before in
     let get = operand2.before in
     let start = get.before.before.before.before in
-    let q = call_a (start.requires.0, start.requires.1.0) get.get.result operand2.operand2.result get.get.ensures operand2.operand2.ensures (omega (arith, if5.if5.false))
-    (omega (arith, c.before.before.before.before.before.before.before.if6.true)) in
+    let q = call_a (start.requires.0, start.requires.1.0) get.get-kind.result operand2.operand-a.result get.get-kind.ensures operand2.operand-a.ensures (omega (arith, if5.if-kind-lt46.false))
+    (omega (arith, c.before.before.before.before.before.before.before.if-kind-lt48.true)) in
     (q.0, (q.1, subst KnownEvent (sym c.inside.ensures) start.requires.1.1)))
     (λ c. search rules)
     (λ c κs. search rules)
@@ -161,8 +161,8 @@ pub +handle-spec : {M : Type 1} → statement M
     let if5 = operand3.before.before in
     let get = if5.before.before.before.before.before in
     let start = get.before.before.before.before in
-    let q = call_b (start.requires.0, start.requires.1.0) get.get.result operand3.operand3.result get.get.ensures operand3.operand3.ensures (omega (arith, if5.if5.false)) in
-    (q.0, (q.1, subst KnownEvent (sym c.inside2.ensures) start.requires.1.1)))
+    let q = call_b (start.requires.0, start.requires.1.0) get.get-kind.result operand3.operand-b.result get.get-kind.ensures operand3.operand-b.ensures (omega (arith, if5.if-kind-lt46.false)) in
+    (q.0, (q.1, subst KnownEvent (sym c.inside-in-Second.ensures) start.requires.1.1)))
     (λ c.
     let match_at = c.before.before in
     let operand2 = match_at.before in
@@ -170,10 +170,10 @@ pub +handle-spec : {M : Type 1} → statement M
     let if1 = get.before in
     let handed_on = if1.before in
     let start = handed_on.before.before in
-    handle_then start.args.rows.now start.args.state.now c.handle2.new.1.0 start.args.row start.args.env.now
-    start.args.depth c.handle2.result start.args.e.role operand2.operand2.result (event_path start.args.e) (event_action start.args.e)
-    (handed_on.handed-on.ensures.none if1.if1.false) (sym get.get.ensures ∙ match_at.match.keys1) operand2.operand2.ensures
-    c.handle2.ensures)
+    handle_then start.args.rows.now start.args.state.now c.handle.new.1.0 start.args.row start.args.env.now
+    start.args.depth c.handle.result start.args.e.role operand2.operand-a.result (event_path start.args.e) (event_action start.args.e)
+    (handed_on.handed_on-part.ensures.none if1.if-part-ne0.false) (sym get.get-kind.ensures ∙ match_at.in_default-1.keys1) operand2.operand-a.ensures
+    c.handle.ensures)
     (λ c.
     let if2 = c.before.before in
     let Going-on = if2.before in
@@ -183,20 +183,20 @@ pub +handle-spec : {M : Type 1} → statement M
     let if1 = get.before in
     let handed_on = if1.before in
     let start = handed_on.before.before in
-    handle_next start.args.rows.now start.args.state.now c.handle3.new.1.0 start.args.row start.args.env.now
-    start.args.depth c.handle3.result start.args.e operand2.operand2.result Going-on.Going-on.result
-    (handed_on.handed-on.ensures.none if1.if1.false) (sym get.get.ensures ∙ match_at.match.keys2) operand2.operand2.ensures
-    Going-on.Going-on.ensures if2.if2.false c.handle3.ensures)
+    handle_next start.args.rows.now start.args.state.now c.handle-in-44.new.1.0 start.args.row start.args.env.now
+    start.args.depth c.handle-in-44.result start.args.e operand2.operand-a.result Going-on.Going-on.result
+    (handed_on.handed_on-part.ensures.none if1.if-part-ne0.false) (sym get.get-kind.ensures ∙ match_at.in_default-1.keys2) operand2.operand-a.ensures
+    Going-on.Going-on.ensures if2.if-found.false c.handle-in-44.ensures)
     (λ c.
     let pick = c.before in
     let start = pick.before.before.before.before.before.before.before.before in
     subst (HandleOk start.args.rows.now start.args.state.now pick.pick.new.1.0 start.args.row start.args.env.now start.args.depth start.args.e.role (event_path start.args.e) (event_action start.args.e))
-    (sym c.answer2.ensures) pick.pick.ensures)
+    (sym c.answer-in-48.ensures) pick.pick.ensures)
     (λ c.
     let edit = c.before in
     let start = edit.before.before.before.before.before.before.before.before.before.before in
     subst (HandleOk start.args.rows.now start.args.state.now edit.edit.new.1.0 start.args.row start.args.env.now start.args.depth start.args.e.role (event_path start.args.e) (event_action start.args.e))
-    (sym c.answer3.ensures) (edit.edit.ensures start.args.env.now start.args.depth))
+    (sym c.answer-in-40-to-42.ensures) (edit.edit.ensures start.args.env.now start.args.depth))
     (λ c.
     let front_mark = c.before.before in
     let if6 = front_mark.before.before in
@@ -206,9 +206,9 @@ pub +handle-spec : {M : Type 1} → statement M
     let handed_on = if1.before in
     let start = handed_on.before.before in
     handle_unmarked start.args.rows.now start.args.state.now start.args.row start.args.env.now start.args.depth start.args.e.role
-    (event_path start.args.e) (event_action start.args.e) (handed_on.handed-on.ensures.none if1.if1.false)
-    (omega (arith, get.get.ensures, if5.if5.false)) (omega (arith, get.get.ensures, if6.if6.true))
-    (front_empty (event_path start.args.e) (sym c.enum_told.given.1 ∙ front_mark.front-mark.ensures)))
+    (event_path start.args.e) (event_action start.args.e) (handed_on.handed_on-part.ensures.none if1.if-part-ne0.false)
+    (omega (arith, get.get-kind.ensures, if5.if-kind-lt46.false)) (omega (arith, get.get-kind.ensures, if6.if-kind-lt48.true))
+    (front_empty (event_path start.args.e) (sym c.enum_told-1.given.1 ∙ front_mark.front_mark-front.ensures)))
     (λ c.
     let inside = c.before in
     let front = inside.before.before.before in
@@ -220,13 +220,13 @@ pub +handle-spec : {M : Type 1} → statement M
     let if1 = get.before in
     let handed_on = if1.before in
     let start = handed_on.before.before in
-    handle_first start.args.rows.now start.args.state.now c.handle4.new.1.0 start.args.row start.args.env.now
-    start.args.depth c.handle4.result start.args.e.role (event_path start.args.e) (event_action start.args.e)
-    (handed_on.handed-on.ensures.none if1.if1.false) (omega (arith, get.get.ensures, if5.if5.false))
-    (omega (arith, get.get.ensures, if6.if6.true)) operand2.operand2.result (path_of front.front.given.0.0)
-    operand2.operand2.ensures
-    (front_one (event_path start.args.e) front.front.given.0.0 (sym front.front.given.1 ∙ front_mark.front-mark.ensures))
-    (subst (λ f. HandleOk start.args.rows.now start.args.state.now c.handle4.new.1.0 operand2.operand2.result start.args.env.now start.args.depth f.role (event_path f) (event_action f) c.handle4.result) inside.inside.ensures c.handle4.ensures))
+    handle_first start.args.rows.now start.args.state.now c.handle-in-First.new.1.0 start.args.row start.args.env.now
+    start.args.depth c.handle-in-First.result start.args.e.role (event_path start.args.e) (event_action start.args.e)
+    (handed_on.handed_on-part.ensures.none if1.if-part-ne0.false) (omega (arith, get.get-kind.ensures, if5.if-kind-lt46.false))
+    (omega (arith, get.get-kind.ensures, if6.if-kind-lt48.true)) operand2.operand-a.result (path_of front.front-1.given.0.0)
+    operand2.operand-a.ensures
+    (front_one (event_path start.args.e) front.front-1.given.0.0 (sym front.front-1.given.1 ∙ front_mark.front_mark-front.ensures))
+    (subst (λ f. HandleOk start.args.rows.now start.args.state.now c.handle-in-First.new.1.0 operand2.operand-a.result start.args.env.now start.args.depth f.role (event_path f) (event_action f) c.handle-in-First.result) inside.inside.ensures c.handle-in-First.ensures))
     (λ c.
     let inside2 = c.before in
     let front2 = inside2.before.before.before in
@@ -238,21 +238,21 @@ pub +handle-spec : {M : Type 1} → statement M
     let if1 = get.before in
     let handed_on = if1.before in
     let start = handed_on.before.before in
-    handle_second start.args.rows.now start.args.state.now c.handle5.new.1.0 start.args.row start.args.env.now
-    start.args.depth c.handle5.result start.args.e.role (event_path start.args.e) (event_action start.args.e)
-    (handed_on.handed-on.ensures.none if1.if1.false) (omega (arith, get.get.ensures, if5.if5.false))
-    (omega (arith, get.get.ensures, if6.if6.true)) operand3.operand3.result (path_of front2.front2.given.0.0)
-    operand3.operand3.ensures
-    (front_two (event_path start.args.e) front2.front2.given.0.0 (sym front2.front2.given.1 ∙ front_mark.front-mark.ensures))
-    (subst (λ f. HandleOk start.args.rows.now start.args.state.now c.handle5.new.1.0 operand3.operand3.result start.args.env.now start.args.depth f.role (event_path f) (event_action f) c.handle5.result) inside2.inside2.ensures c.handle5.ensures))
+    handle_second start.args.rows.now start.args.state.now c.handle-in-Second.new.1.0 start.args.row start.args.env.now
+    start.args.depth c.handle-in-Second.result start.args.e.role (event_path start.args.e) (event_action start.args.e)
+    (handed_on.handed_on-part.ensures.none if1.if-part-ne0.false) (omega (arith, get.get-kind.ensures, if5.if-kind-lt46.false))
+    (omega (arith, get.get-kind.ensures, if6.if-kind-lt48.true)) operand3.operand-b.result (path_of front2.front-in-Second-1.given.0.0)
+    operand3.operand-b.ensures
+    (front_two (event_path start.args.e) front2.front-in-Second-1.given.0.0 (sym front2.front-in-Second-1.given.1 ∙ front_mark.front_mark-front.ensures))
+    (subst (λ f. HandleOk start.args.rows.now start.args.state.now c.handle-in-Second.new.1.0 operand3.operand-b.result start.args.env.now start.args.depth f.role (event_path f) (event_action f) c.handle-in-Second.result) inside2.inside-in-Second.ensures c.handle-in-Second.ensures))
     (λ c.
     let get = c.before.before.before in
     let if1 = get.before in
     let handed_on = if1.before in
     let start = handed_on.before.before in
     handle_none start.args.rows.now start.args.state.now start.args.row start.args.env.now start.args.depth start.args.e.role
-    (event_path start.args.e) (event_action start.args.e) (handed_on.handed-on.ensures.none if1.if1.false)
-    (λ l h. omega (arith, get.get.ensures, c.if3.true)) (λ l h. omega (arith, get.get.ensures, c.if3.true)))
+    (event_path start.args.e) (event_action start.args.e) (handed_on.handed_on-part.ensures.none if1.if-part-ne0.false)
+    (λ l h. omega (arith, get.get-kind.ensures, c.if-kind-lt40.true)) (λ l h. omega (arith, get.get-kind.ensures, c.if-kind-lt40.true)))
     (λ c.
     let if4 = c.before in
     let match_at = if4.before.before in
@@ -261,9 +261,9 @@ pub +handle-spec : {M : Type 1} → statement M
     let handed_on = if1.before in
     let start = handed_on.before.before in
     handle_none start.args.rows.now start.args.state.now start.args.row start.args.env.now start.args.depth start.args.e.role
-    (event_path start.args.e) (event_action start.args.e) (handed_on.handed-on.ensures.none if1.if1.false)
-    (λ l h. let k = get.get.ensures in let x = if4.if4.false in let m = match_at.match.rest.0.0.1 in let n = match_at.match.rest.0.1 in omega arith)
-    (λ l h. omega (arith, get.get.ensures, c.if5.true)))
+    (event_path start.args.e) (event_action start.args.e) (handed_on.handed_on-part.ensures.none if1.if-part-ne0.false)
+    (λ l h. let k = get.get-kind.ensures in let x = if4.if-kind-lt43.false in let m = match_at.in_default-1.rest.0.0.1 in let n = match_at.in_default-1.rest.0.1 in omega arith)
+    (λ l h. omega (arith, get.get-kind.ensures, c.if-kind-lt46.true)))
     (λ c.
     let match_at = c.before.before.before.before in
     let get = match_at.before.before in
@@ -271,6 +271,6 @@ pub +handle-spec : {M : Type 1} → statement M
     let handed_on = if1.before in
     let start = handed_on.before.before in
     handle_none start.args.rows.now start.args.state.now start.args.row start.args.env.now start.args.depth start.args.e.role
-    (event_path start.args.e) (event_action start.args.e) (handed_on.handed-on.ensures.none if1.if1.false)
-    (λ l h. omega (arith, get.get.ensures, c.if6.false))
-    (λ l h. let k = get.get.ensures in let x = c.if6.false in let m = match_at.match.rest.1 in omega arith))
+    (event_path start.args.e) (event_action start.args.e) (handed_on.handed_on-part.ensures.none if1.if-part-ne0.false)
+    (λ l h. omega (arith, get.get-kind.ensures, c.if-kind-lt48.false))
+    (λ l h. let k = get.get-kind.ensures in let x = c.if-kind-lt48.false in let m = match_at.in_default-1.rest.1 in omega arith))

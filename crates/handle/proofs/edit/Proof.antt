@@ -24,12 +24,12 @@ edit_spec = tie.close (tie.spec
     let get = match_at.before.before in
     let start = get.before in
     λ env d. handle_edit start.args.rows.now start.args.state.now c.fill.new.0 start.args.row env d start.args.e
-    c.fill.result read.read.result (sym get.get.ensures ∙ match_at.match.keys1) read.read.ensures c.fill.ensures)
+    c.fill.result read.read-shape.result (sym get.get-kind.ensures ∙ match_at.in_default.keys1) read.read-shape.ensures c.fill.ensures)
     (λ c κs.
     let operand = c.before in
     let get = operand.before in
     let start = get.before in
-    (let h = low_a start.requires.0 get.get.result operand.operand.result get.get.ensures operand.operand.ensures (let k = start.requires.1 in let g = get.get.ensures in omega arith) (let k = start.requires.2 in let g = get.get.ensures in omega arith) in let l = start.requires.0.low in omega arith))
+    (let h = low_a start.requires.0 get.get-kind.result operand.operand-a.result get.get-kind.ensures operand.operand-a.ensures (let k = start.requires.1 in let g = get.get-kind.ensures in omega arith) (let k = start.requires.2 in let g = get.get-kind.ensures in omega arith) in let l = start.requires.0.low in omega arith))
     (λ c κs.
     let start = c.before.before.before.before.before in
     (start.requires.0.low, start.requires.3))
@@ -39,26 +39,26 @@ edit_spec = tie.close (tie.spec
     let operand = match_at.before in
     let get = operand.before in
     let start = get.before in
-    λ env d. handle_enter start.args.rows.now start.args.state.now c.fill2.new.0 start.args.row env d start.args.e
-    c.fill2.result operand.operand.result row_type.row_type.result (replicate max_binders 0)
-    (sym get.get.ensures ∙ match_at.match.keys2) operand.operand.ensures row_type.row_type.ensures c.fill2.ensures)
+    λ env d. handle_enter start.args.rows.now start.args.state.now c.fill-in-41.new.0 start.args.row env d start.args.e
+    c.fill-in-41.result operand.operand-a.result row_type.row_type-shape.result (replicate max_binders 0)
+    (sym get.get-kind.ensures ∙ match_at.in_default.keys2) operand.operand-a.ensures row_type.row_type-shape.ensures c.fill-in-41.ensures)
     (λ c κs.
     let operand = c.before.before in
     let get = operand.before in
     let start = get.before in
-    ((let h = low_a start.requires.0 get.get.result operand.operand.result get.get.ensures operand.operand.ensures (let k = start.requires.1 in let g = get.get.ensures in omega arith) (let k = start.requires.2 in let g = get.get.ensures in omega arith) in let l = start.requires.0.low in omega arith), omega arith))
+    ((let h = low_a start.requires.0 get.get-kind.result operand.operand-a.result get.get-kind.ensures operand.operand-a.ensures (let k = start.requires.1 in let g = get.get-kind.ensures in omega arith) (let k = start.requires.2 in let g = get.get-kind.ensures in omega arith) in let l = start.requires.0.low in omega arith), omega arith))
     (λ c κs.
     let operand = c.before.before.before.before in
     let get = operand.before in
     let start = get.before in
-    ((let h = low_a start.requires.0 get.get.result operand.operand.result get.get.ensures operand.operand.ensures (let k = start.requires.1 in let g = get.get.ensures in omega arith) (let k = start.requires.2 in let g = get.get.ensures in omega arith) in let l = start.requires.0.low in omega arith), start.requires.3))
+    ((let h = low_a start.requires.0 get.get-kind.result operand.operand-a.result get.get-kind.ensures operand.operand-a.ensures (let k = start.requires.1 in let g = get.get-kind.ensures in omega arith) (let k = start.requires.2 in let g = get.get-kind.ensures in omega arith) in let l = start.requires.0.low in omega arith), start.requires.3))
     (λ c.
     let read2 = c.before.before in
     let match_at = read2.before.before in
     let operand = match_at.before in
     let get = operand.before in
     let start = get.before in
-    λ env d. handle_update start.args.rows.now start.args.state.now c.fill3.new.0 start.args.row env d start.args.e
-    c.fill3.result operand.operand.result read2.read2.result
-    (let g = get.get.ensures in let k = start.requires.1 in let l = start.requires.2 in let m = match_at.match.rest.0.1 in let n = match_at.match.rest.1 in omega arith)
-    operand.operand.ensures read2.read2.ensures c.fill3.ensures))
+    λ env d. handle_update start.args.rows.now start.args.state.now c.fill-in_default.new.0 start.args.row env d start.args.e
+    c.fill-in_default.result operand.operand-a.result read2.read-shape-in_default.result
+    (let g = get.get-kind.ensures in let k = start.requires.1 in let l = start.requires.2 in let m = match_at.in_default.rest.0.1 in let n = match_at.in_default.rest.1 in omega arith)
+    operand.operand-a.ensures read2.read-shape-in_default.ensures c.fill-in_default.ensures))

@@ -10,10 +10,10 @@ use Rattle.handle.proofs.Blanks.{some_blank, none_blank}
 use Rattle.handle.proofs.none_blank.Statement.{statement}
 use Rattle.handle.proofs.none_blank.Tie as tie
 
-abbrev invariant-loop : tie.invariant-loop
+abbrev invariant-loop : tie.invariant-loop-k
 invariant-loop n blank k₀ k = (k ≤ n) × ((j : ℕ) → j < k → get_or blank j false ≡ false)
 
-abbrev decreases-loop : tie.decreases-loop
+abbrev decreases-loop : tie.decreases-loop-k
 decreases-loop n blank k₀ k = n - k
 
 pub none_blank_spec : {M : Type 1} → statement M
@@ -26,11 +26,11 @@ none_blank_spec = tie.close (tie.spec
     let test = c.before in
     let loop = test.before in
     let start = loop.before in
-    some_blank start.args.t1 start.args.n loop.loop.k test.loop-test.true c.if1.true)
+    some_blank start.args.t1 start.args.n loop.loop-k.k test.loop-k-test.true c.if-blank-k.true)
     (λ c. search rules)
     (λ c. search rules)
-    (λ c. let loop = c.before.before in (omega arith, below_more _ _ loop.loop.invariant.1 c.if1.false))
+    (λ c. let loop = c.before.before in (omega arith, below_more _ _ loop.loop-k.invariant.1 c.if-blank-k.false))
     (λ c.
     let loop = c.before in
     let start = loop.before in
-    none_blank start.args.t1 start.args.n loop.loop.k (omega arith) loop.loop.invariant.1))
+    none_blank start.args.t1 start.args.n loop.loop-k.k (omega arith) loop.loop-k.invariant.1))

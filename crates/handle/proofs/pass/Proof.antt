@@ -9,8 +9,8 @@ use Rattle.handle.proofs.pass.Tie as tie
 pub pass_spec : {M : Type 1} → statement M
 pass_spec = tie.close (tie.spec
     (λ c κs. (c.requires, omega arith))
-    (λ c. pass_other (λ e. c.if1.true (c.before.get.ensures ∙ e)))
-    (λ c. pass_none c.if2.true)
+    (λ c. pass_other (λ e. c.if-get-ne-GATE.true (c.before.get.ensures ∙ e)))
+    (λ c. pass_none c.if-answer-eq-NOT_HANDLED.true)
     (λ c κs. search rules)
     (λ c κs. search rules)
     (λ c κs. search rules)
@@ -24,5 +24,5 @@ pass_spec = tie.close (tie.spec
     let if2 = read_touches.before.before in
     let if1 = if2.before in
     let get = if1.before in
-    pass_gate_lem (sym get.get.ensures ∙ if1.if1.false) if2.if2.false get2.get2.ensures read_touches.read-touches.ensures
-    less_one.less_one.ensures put_touches.put-touches.ensures c.gate-verdict.ensures))
+    pass_gate_lem (sym get.get.ensures ∙ if1.if-get-ne-GATE.false) if2.if-answer-eq-NOT_HANDLED.false get2.get-2.ensures read_touches.read_touches-touches.ensures
+    less_one.less_one.ensures put_touches.put_touches.ensures c.gate_verdict.ensures))

@@ -24,7 +24,7 @@ pick_spec = tie.close (tie.spec
     let start = ends.before in
     handle_left start.args.rows.now start.args.state.now c.side.new.1.0 start.args.row start.args.env.now
     start.args.depth c.side.result start.args.e start.requires.2 start.requires.1 operand.operand.result
-    (ends.ends.ensures.yes if1.if1.true) operand.operand.ensures c.side.ensures)
+    (ends.ends.ensures.yes if1.if-ends.true) operand.operand.ensures c.side.ensures)
     (λ c κs. search rules)
     (λ c κs.
     let start = c.before.before.before.before.before in
@@ -32,21 +32,21 @@ pick_spec = tie.close (tie.spec
     (λ c κs.
     let start = c.before.before.before.before.before.before in
     let f = start.requires.0 in
-    let h = low_b f (number_of (task_k xor_k)) c.operand2.result (sym start.requires.1) c.operand2.ensures (omega arith) in
-    (f.low, fine_at f c.operand2.result start.args.depth (omega arith) f.room))
+    let h = low_b f (number_of (task_k xor_k)) c.operand-then-ends-2.result (sym start.requires.1) c.operand-then-ends-2.ensures (omega arith) in
+    (f.low, fine_at f c.operand-then-ends-2.result start.args.depth (omega arith) f.room))
     (λ c.
     let operand2 = c.before in
     let if2 = operand2.before.before in
     let ends2 = if2.before in
     let start = ends2.before.before.before in
-    handle_right start.args.rows.now start.args.state.now c.side2.new.1.0 start.args.row start.args.env.now
-    start.args.depth c.side2.result start.args.e start.requires.2 start.requires.1 operand2.operand2.result
-    (ends2.ends2.ensures.yes if2.if2.true) operand2.operand2.ensures c.side2.ensures)
+    handle_right start.args.rows.now start.args.state.now c.side-then-ends-2.new.1.0 start.args.row start.args.env.now
+    start.args.depth c.side-then-ends-2.result start.args.e start.requires.2 start.requires.1 operand2.operand-then-ends-2.result
+    (ends2.ends-2.ensures.yes if2.if-ends-2.true) operand2.operand-then-ends-2.ensures c.side-then-ends-2.ensures)
     (λ c.
     let ends2 = c.before in
     let if1 = ends2.before in
     let ends = if1.before in
     let start = ends.before in
     handle_unpicked start.args.rows.now start.args.state.now start.args.row start.args.env.now start.args.depth
-    start.args.e start.requires.2 start.requires.1 start.requires.3 (ends.ends.ensures.no if1.if1.false)
-    (ends2.ends2.ensures.no c.if2.false)))
+    start.args.e start.requires.2 start.requires.1 start.requires.3 (ends.ends.ensures.no if1.if-ends.false)
+    (ends2.ends-2.ensures.no c.if-ends-2.false)))

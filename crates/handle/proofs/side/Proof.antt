@@ -10,7 +10,7 @@ side_spec = tie.close (tie.spec
     let settle = c.before in
     let start = settle.before.before.before in
     side_fails start.args.rows.now start.args.state.now settle.settle.new.1.0 start.args.row start.args.a start.args.tag
-    start.args.env.now start.args.depth settle.settle.result settle.settle.ensures c.if1.true)
+    start.args.env.now start.args.depth settle.settle.result settle.settle.ensures c.if-settle.true)
     (λ c κs.
     let start = c.before.before.before.before.before in
     start.requires.0)
@@ -19,5 +19,5 @@ side_spec = tie.close (tie.spec
     let settle = if1.before in
     let start = settle.before.before.before in
     side_lives start.args.rows.now start.args.state.now settle.settle.new.1.0 start.args.row start.args.a start.args.tag
-    start.args.env.now start.args.depth c.put-tag.new.0 settle.settle.result settle.settle.ensures if1.if1.false
-    c.put-tag.ensures))
+    start.args.env.now start.args.depth c.put_tag.new.0 settle.settle.result settle.settle.ensures if1.if-settle.false
+    c.put_tag.ensures))

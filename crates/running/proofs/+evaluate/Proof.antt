@@ -47,7 +47,7 @@ pub +evaluate-spec : {M : Type 1} → statement M
     let match_at = c.before.before in
     let get = match_at.before in
     let start = get.before in
-    (call_a start.requires get.get.result c.operand.result get.get.ensures c.operand.ensures (omega (arith, match_at.match.keys1)) (omega (arith, match_at.match.keys1))).1)
+    (call_a start.requires get.get-kind.result c.operand.result get.get-kind.ensures c.operand.ensures (omega (arith, match_at.in_default-1.keys1)) (omega (arith, match_at.in_default-1.keys1))).1)
     (λ c κs. search rules)
     (λ c κs.
     let start = c.before.before.before.before.before.before.before.before in
@@ -56,7 +56,7 @@ pub +evaluate-spec : {M : Type 1} → statement M
     let match_at = c.before.before.before.before.before.before.before in
     let get = match_at.before in
     let start = get.before in
-    call_b start.requires get.get.result c.operand2.result get.get.ensures c.operand2.ensures (omega (arith, match_at.match.keys1)))
+    call_b start.requires get.get-kind.result c.operand-then-is_true.result get.get-kind.ensures c.operand-then-is_true.ensures (omega (arith, match_at.in_default-1.keys1)))
     (λ c κs.
     let start = c.before.before.before.before.before.before.before.before.before.before.before in
     start.requires.1.low)
@@ -72,10 +72,10 @@ pub +evaluate-spec : {M : Type 1} → statement M
     let get = match_at.before in
     let start = get.before in
     evaluate_true start.args.rows.now start.args.row start.args.env.now start.args.depth start.args.state.now
-    eval.eval.new.1.0 evaluate.evaluate.new.1.0 put_tag.put-tag.new.0 eval.eval.result evaluate.evaluate.result is_true.is_true.result
-    is_true.is_true.ensures operand.operand.result operand2.operand2.result (sym get.get.ensures ∙ match_at.match.keys1)
-    operand.operand.ensures eval.eval.ensures evaluate.evaluate.ensures if1.if1.true operand2.operand2.ensures
-    put_tag.put-tag.ensures)
+    eval.eval-x.new.1.0 evaluate.evaluate-over.new.1.0 put_tag.put_tag.new.0 eval.eval-x.result evaluate.evaluate-over.result is_true.is_true.result
+    is_true.is_true.ensures operand.operand.result operand2.operand-then-is_true.result (sym get.get-kind.ensures ∙ match_at.in_default-1.keys1)
+    operand.operand.ensures eval.eval-x.ensures evaluate.evaluate-over.ensures if1.if-is_true.true operand2.operand-then-is_true.ensures
+    put_tag.put_tag.ensures)
     (λ c κs.
     let start = c.before.before.before.before.before.before.before.before in
     (start.requires.1.low, omega arith))
@@ -83,7 +83,7 @@ pub +evaluate-spec : {M : Type 1} → statement M
     let match_at = c.before.before.before.before.before.before.before in
     let get = match_at.before in
     let start = get.before in
-    call_c start.requires get.get.result c.operand3.result get.get.ensures c.operand3.ensures (omega (arith, match_at.match.keys1)) (omega (arith, match_at.match.keys1)))
+    call_c start.requires get.get-kind.result c.operand-in-25.result get.get-kind.ensures c.operand-in-25.ensures (omega (arith, match_at.in_default-1.keys1)) (omega (arith, match_at.in_default-1.keys1)))
     (λ c κs.
     let start = c.before.before.before.before.before.before.before.before.before.before.before in
     start.requires.1.low)
@@ -92,7 +92,7 @@ pub +evaluate-spec : {M : Type 1} → statement M
     let match_at = c.before.before in
     let get = match_at.before in
     let start = get.before in
-    (call_a start.requires get.get.result c.operand4.result get.get.ensures c.operand4.ensures (omega (arith, match_at.match.keys2)) (omega (arith, match_at.match.keys2))
+    (call_a start.requires get.get-kind.result c.operand-in-31.result get.get-kind.ensures c.operand-in-31.ensures (omega (arith, match_at.in_default-1.keys2)) (omega (arith, match_at.in_default-1.keys2))
     ).1)
     (λ c κs.
     let start = c.before.before.before.before.before.before in
@@ -109,15 +109,15 @@ pub +evaluate-spec : {M : Type 1} → statement M
     let match_at = bind.before.before.before.before.before.before.before.before.before in
     let get = match_at.before in
     let start = get.before in
-    let h = low_b start.requires.1 get.get.result operand5.operand5.result get.get.ensures operand5.operand5.ensures (omega (arith, match_at.match.keys2)) in
-    (omega (arith, start.requires.0), fine_at start.requires.1 operand5.operand5.result bind.bind.result (omega arith) bind.bind.ensures.room))
+    let h = low_b start.requires.1 get.get-kind.result operand5.operand-in-31-2.result get.get-kind.ensures operand5.operand-in-31-2.ensures (omega (arith, match_at.in_default-1.keys2)) in
+    (omega (arith, start.requires.0), fine_at start.requires.1 operand5.operand-in-31-2.result bind.bind-deeper.result (omega arith) bind.bind-deeper.ensures.room))
     (λ c κs. (c.before.before.before.requires.1.low, omega arith))
     (λ c κs.
     let match_at = c.before.before in
     let get = match_at.before in
     let start = get.before in
-    (call_a start.requires get.get.result c.operand6.result get.get.ensures c.operand6.ensures (⊎_elim (λ e. omega (arith, e)) (λ e. omega (arith, e)) match_at.match.keys3)
-    (⊎_elim (λ e. omega (arith, e)) (λ e. omega (arith, e)) match_at.match.keys3)).1)
+    (call_a start.requires get.get-kind.result c.operand-in-40.result get.get-kind.ensures c.operand-in-40.ensures (⊎_elim (λ e. omega (arith, e)) (λ e. omega (arith, e)) match_at.in_default-1.keys3)
+    (⊎_elim (λ e. omega (arith, e)) (λ e. omega (arith, e)) match_at.in_default-1.keys3)).1)
     (λ c κs.
     let start = c.before.before.before.before.before.before in
     start.requires.1.low)
@@ -134,7 +134,7 @@ pub +evaluate-spec : {M : Type 1} → statement M
     let match_at = c.before.before.before.before.before in
     let get = match_at.before in
     let start = get.before in
-    call_b start.requires get.get.result c.operand7.result get.get.ensures c.operand7.ensures (omega (arith, match_at.match.keys4)))
+    call_b start.requires get.get-kind.result c.operand-in-50.result get.get-kind.ensures c.operand-in-50.ensures (omega (arith, match_at.in_default-1.keys4)))
     (λ c κs.
     let start = c.before.before.before.before.before in
     (start.requires.1.low, omega arith))
@@ -142,7 +142,7 @@ pub +evaluate-spec : {M : Type 1} → statement M
     let if2 = c.before.before.before in
     let get = if2.before.before in
     let start = get.before in
-    call_a start.requires get.get.result c.operand8.result get.get.ensures c.operand8.ensures (omega (arith, if2.if2.left)) (omega (arith, c.before.before.if3.true)))
+    call_a start.requires get.get-kind.result c.operand-in-43-to-44.result get.get-kind.ensures c.operand-in-43-to-44.ensures (omega (arith, if2.in_default.left)) (omega (arith, c.before.before.if-kind-lt45.true)))
     (λ c κs.
     let start = c.before.before.before.before.before.before.before.before in
     start.requires.1.low)
@@ -157,15 +157,15 @@ pub +evaluate-spec : {M : Type 1} → statement M
     let if2 = operand9.before.before.before.before in
     let get = if2.before.before in
     let start = get.before in
-    call_a start.requires get.get.result operand9.operand9.result get.get.ensures operand9.operand9.ensures
-    (omega (arith, if2.if2.left)) (omega (arith, operand9.before.if5.true)))
+    call_a start.requires get.get-kind.result operand9.operand-a.result get.get-kind.ensures operand9.operand-a.ensures
+    (omega (arith, if2.in_default.left)) (omega (arith, operand9.before.if-kind-lt48.true)))
     (λ c κs.
     let operand10 = c.before.before.before in
     let if2 = operand10.before.before.before.before.before in
     let get = if2.before.before in
     let start = get.before in
-    call_b start.requires get.get.result operand10.operand10.result get.get.ensures operand10.operand10.ensures
-    (omega (arith, if2.if2.left)))
+    call_b start.requires get.get-kind.result operand10.operand-b.result get.get-kind.ensures operand10.operand-b.ensures
+    (omega (arith, if2.in_default.left)))
     (λ c κs.
     let start = c.before.before.before.before.before.before.before.before.before.before.before.before.before in
     start.requires.1.low)
@@ -184,10 +184,10 @@ pub +evaluate-spec : {M : Type 1} → statement M
     let get = match_at.before in
     let start = get.before in
     evaluate_false start.args.rows.now start.args.row start.args.env.now start.args.depth start.args.state.now
-    eval.eval.new.1.0 evaluate2.evaluate2.new.1.0 put_tag2.put-tag2.new.0 eval.eval.result evaluate2.evaluate2.result is_true.is_true.result
-    is_true.is_true.ensures operand.operand.result operand3.operand3.result (sym get.get.ensures ∙ match_at.match.keys1)
-    operand.operand.ensures eval.eval.ensures evaluate2.evaluate2.ensures if1.if1.false operand3.operand3.ensures
-    put_tag2.put-tag2.ensures)
+    eval.eval-x.new.1.0 evaluate2.evaluate-over-in-25.new.1.0 put_tag2.put_tag-in-25.new.0 eval.eval-x.result evaluate2.evaluate-over-in-25.result is_true.is_true.result
+    is_true.is_true.ensures operand.operand.result operand3.operand-in-25.result (sym get.get-kind.ensures ∙ match_at.in_default-1.keys1)
+    operand.operand.ensures eval.eval-x.ensures evaluate2.evaluate-over-in-25.ensures if1.if-is_true.false operand3.operand-in-25.ensures
+    put_tag2.put_tag-in-25.ensures)
     (λ c.
     let evaluate3 = c.before in
     let operand5 = evaluate3.before.before in
@@ -199,10 +199,10 @@ pub +evaluate-spec : {M : Type 1} → statement M
     let get = match_at.before in
     let start = get.before in
     evaluate_let start.args.rows.now start.args.row start.args.env.now start.args.depth start.args.state.now
-    eval2.eval2.new.1.0 put_value.put-value.new.0 evaluate3.evaluate3.new.1.0 bind.bind.new.1.1.0 bind.bind.result
-    eval2.eval2.result evaluate3.evaluate3.result operand4.operand4.result operand5.operand5.result operand4.operand4.ensures
-    operand5.operand5.ensures eval2.eval2.ensures put_value.put-value.ensures bind.bind.ensures evaluate3.evaluate3.ensures
-    (sym get.get.ensures ∙ match_at.match.keys2))
+    eval2.eval-x-in-31.new.1.0 put_value.put_value.new.0 evaluate3.evaluate-over-in-31.new.1.0 bind.bind-deeper.new.1.1.0 bind.bind-deeper.result
+    eval2.eval-x-in-31.result evaluate3.evaluate-over-in-31.result operand4.operand-in-31.result operand5.operand-in-31-2.result operand4.operand-in-31.ensures
+    operand5.operand-in-31-2.ensures eval2.eval-x-in-31.ensures put_value.put_value.ensures bind.bind-deeper.ensures evaluate3.evaluate-over-in-31.ensures
+    (sym get.get-kind.ensures ∙ match_at.in_default-1.keys2))
     (λ c.
     let eval3 = c.before.before in
     let operand6 = eval3.before in
@@ -210,8 +210,8 @@ pub +evaluate-spec : {M : Type 1} → statement M
     let get = match_at.before in
     let start = get.before in
     evaluate_content start.args.rows.now start.args.row start.args.env.now start.args.depth start.args.state.now
-    eval3.eval3.new.1.0 c.put-value2.new.0 operand6.operand6.result eval3.eval3.result operand6.operand6.ensures
-    eval3.eval3.ensures c.put-value2.ensures (subst (OneOf content_kinds) get.get.ensures match_at.match.keys3))
+    eval3.eval-x-in-40.new.1.0 c.put_value-in-40.new.0 operand6.operand-in-40.result eval3.eval-x-in-40.result operand6.operand-in-40.ensures
+    eval3.eval-x-in-40.ensures c.put_value-in-40.ensures (subst (OneOf content_kinds) get.get-kind.ensures match_at.in_default-1.keys3))
     (λ c.
     let operand7 = c.before in
     let put_touches = operand7.before.before in
@@ -220,8 +220,8 @@ pub +evaluate-spec : {M : Type 1} → statement M
     let get = match_at.before in
     let start = get.before in
     evaluate_gate start.args.rows.now start.args.row start.args.env.now start.args.depth start.args.state.now
-    put_touches.put-touches.new.0 c.evaluate4.new.1.0 operand7.operand7.result get2.get2.result c.evaluate4.result operand7.operand7.ensures
-    get2.get2.ensures put_touches.put-touches.ensures c.evaluate4.ensures (sym get.get.ensures ∙ match_at.match.keys4))
+    put_touches.put_touches.new.0 c.evaluate.new.1.0 operand7.operand-in-50.result get2.get.result c.evaluate.result operand7.operand-in-50.ensures
+    get2.get.ensures put_touches.put_touches.ensures c.evaluate.ensures (sym get.get-kind.ensures ∙ match_at.in_default-1.keys4))
     (λ c.
     let evaluate5 = c.before.before in
     let operand8 = evaluate5.before in
@@ -230,9 +230,9 @@ pub +evaluate-spec : {M : Type 1} → statement M
     let get = if2.before.before in
     let start = get.before in
     evaluate_step start.args.rows.now start.args.row start.args.env.now start.args.depth start.args.state.now
-    evaluate5.evaluate5.new.1.0 c.put-tag3.new.0 operand8.operand8.result evaluate5.evaluate5.result operand8.operand8.ensures
-    evaluate5.evaluate5.ensures c.put-tag3.ensures (omega (arith, get.get.ensures, if2.if2.left))
-    (omega (arith, get.get.ensures, if3.if3.true)))
+    evaluate5.evaluate-over-in-43-to-44.new.1.0 c.put_tag-in-43-to-44.new.0 operand8.operand-in-43-to-44.result evaluate5.evaluate-over-in-43-to-44.result operand8.operand-in-43-to-44.ensures
+    evaluate5.evaluate-over-in-43-to-44.ensures c.put_tag-in-43-to-44.ensures (omega (arith, get.get-kind.ensures, if2.in_default.left))
+    (omega (arith, get.get-kind.ensures, if3.if-kind-lt45.true)))
     (λ c.
     let evaluate7 = c.before.before in
     let evaluate6 = evaluate7.before.before in
@@ -243,18 +243,18 @@ pub +evaluate-spec : {M : Type 1} → statement M
     let get = if4.before.before.before.before in
     let start = get.before in
     evaluate_two start.args.rows.now start.args.row start.args.env.now start.args.depth start.args.state.now
-    evaluate6.evaluate6.new.1.0 evaluate7.evaluate7.new.1.0 c.put-tag4.new.0 operand9.operand9.result
-    operand10.operand10.result evaluate6.evaluate6.result evaluate7.evaluate7.result operand9.operand9.ensures operand10.operand10.ensures evaluate6.evaluate6.ensures
-    evaluate7.evaluate7.ensures c.put-tag4.ensures (omega (arith, get.get.ensures, if4.if4.false))
-    (omega (arith, get.get.ensures, if5.if5.true)))
+    evaluate6.evaluate-left.new.1.0 evaluate7.evaluate-right.new.1.0 c.put_tag-in-46-to-47.new.0 operand9.operand-a.result
+    operand10.operand-b.result evaluate6.evaluate-left.result evaluate7.evaluate-right.result operand9.operand-a.ensures operand10.operand-b.ensures evaluate6.evaluate-left.ensures
+    evaluate7.evaluate-right.ensures c.put_tag-in-46-to-47.ensures (omega (arith, get.get-kind.ensures, if4.if-kind-lt46.false))
+    (omega (arith, get.get-kind.ensures, if5.if-kind-lt48.true)))
     (λ c.
     let if2 = c.before.before in
     let match_at = if2.before in
     let get = match_at.before in
     let start = get.before in
-    let k = get.get.ensures in
+    let k = get.get-kind.ensures in
     evaluate_tag start.args.rows.now start.args.row start.args.env.now start.args.depth start.args.state.now
-    c.put-tag5.new.0 c.put-tag5.ensures (λ e. match_at.match.rest.0.0.0.1 (k ∙ e)) (λ e. match_at.match.rest.0.0.1 (k ∙ e))
-    (λ e. match_at.match.rest.0.1 (subst (OneOf content_kinds) (sym k) e)) (λ e. match_at.match.rest.1 (k ∙ e))
-    (λ p q. ⊎_elim (λ z. omega (arith, k, z.taken)) (⊎_elim (λ z. omega (arith, k, z.1.left)) (λ z. omega (arith, k, z.1.left))) if2.if2.branch)
-    (λ p q. ⊎_elim (λ z. omega (arith, k, z.taken)) (⊎_elim (λ z. omega (arith, k, z.2.taken)) (λ z. omega (arith, k, z.3.left))) if2.if2.branch))
+    c.put_tag-in_default.new.0 c.put_tag-in_default.ensures (λ e. match_at.in_default-1.rest.0.0.0.1 (k ∙ e)) (λ e. match_at.in_default-1.rest.0.0.1 (k ∙ e))
+    (λ e. match_at.in_default-1.rest.0.1 (subst (OneOf content_kinds) (sym k) e)) (λ e. match_at.in_default-1.rest.1 (k ∙ e))
+    (λ p q. ⊎_elim (λ z. omega (arith, k, z.taken)) (⊎_elim (λ z. omega (arith, k, z.1.left)) (λ z. omega (arith, k, z.1.left))) if2.in_default.branch)
+    (λ p q. ⊎_elim (λ z. omega (arith, k, z.taken)) (⊎_elim (λ z. omega (arith, k, z.2.taken)) (λ z. omega (arith, k, z.3.left))) if2.in_default.branch))

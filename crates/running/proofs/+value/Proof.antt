@@ -43,19 +43,19 @@ pub +value-spec : {M : Type 1} → statement M
 +value-spec = close μ_value λ t. value-lts.spec (value_calls t) (value_at_lem t)
     value.Post
     (λ c κs. c.requires.1.low)
-    (λ c κs. (c.before.before.requires.1.low, c.before.handed-on.ensures.low))
+    (λ c κs. (c.before.before.requires.1.low, c.before.handed_on-k.ensures.low))
     (λ c κs.
     let if1 = c.before in
     let handed_on = if1.before in
     let start = handed_on.before in
-    let l = low_part start.args.rows.now start.args.row start.requires.1 (handed_on.handed-on.ensures.on if1.if1.true) c.operand.ensures in
-    (omega (arith, start.requires.0), fine_part start.args.rows.now start.args.row start.requires.1 (handed_on.handed-on.ensures.on if1.if1.true) c.operand.ensures start.requires.1.room))
+    let l = low_part start.args.rows.now start.args.row start.requires.1 (handed_on.handed_on-k.ensures.on if1.if-k-ne0.true) c.operand.ensures in
+    (omega (arith, start.requires.0), fine_part start.args.rows.now start.args.row start.requires.1 (handed_on.handed_on-k.ensures.on if1.if-k-ne0.true) c.operand.ensures start.requires.1.room))
     (λ c.
     let operand = c.before in
     let if1 = operand.before in
     let handed_on = if1.before in
     let start = handed_on.before in
-    value_hands start.args.rows.now start.args.state.now start.args.row (handed_on.handed-on.ensures.on if1.if1.true)
+    value_hands start.args.rows.now start.args.state.now start.args.row (handed_on.handed_on-k.ensures.on if1.if-k-ne0.true)
     operand.operand.ensures c.value.result c.value.ensures)
     (λ c κs. (c.before.before.requires.1.low, omega arith))
     (λ c κs.
@@ -76,8 +76,8 @@ pub +value-spec : {M : Type 1} → statement M
     let match_at = read.before in
     let get = match_at.before in
     let start = get.before.before.before in
-    subst (ValueOk start.args.rows.now start.args.state.now start.args.row) (sym c.some2.ensures)
-    (value_entered start.args.rows.now start.args.state.now start.args.row read_value2.read-value2.result (sym get.get.ensures ∙ match_at.match.keys2) (sym read.read.ensures ∙ if2.if2.true) read_value2.read-value2.ensures))
+    subst (ValueOk start.args.rows.now start.args.state.now start.args.row) (sym c.some-then-read-eq-ONE.ensures)
+    (value_entered start.args.rows.now start.args.state.now start.args.row read_value2.read_value-then-read-eq-ONE.result (sym get.get-kind.ensures ∙ match_at.in_default.keys2) (sym read.read.ensures ∙ if2.if-read-eq-ONE.true) read_value2.read_value-then-read-eq-ONE.ensures))
     (λ c κs. search rules)
     (λ c κs.
     let start = c.before.before.before.before in
@@ -86,7 +86,7 @@ pub +value-spec : {M : Type 1} → statement M
     let match_at = c.before in
     let get = match_at.before in
     let start = get.before.before.before in
-    let h = low_a start.requires.1 get.get.result c.operand2.result get.get.ensures c.operand2.ensures (omega (arith, match_at.match.keys3)) (omega (arith, match_at.match.keys3)) in
+    let h = low_a start.requires.1 get.get-kind.result c.operand-cell.result get.get-kind.ensures c.operand-cell.ensures (omega (arith, match_at.in_default.keys3)) (omega (arith, match_at.in_default.keys3)) in
     let l = start.requires.1.low in
     omega arith)
     (λ c κs. search rules)
@@ -97,7 +97,7 @@ pub +value-spec : {M : Type 1} → statement M
     let match_at = c.before in
     let get = match_at.before in
     let start = get.before.before.before in
-    call_a start.requires get.get.result c.operand3.result get.get.ensures c.operand3.ensures (omega (arith, match_at.match.keys4)) (omega (arith, match_at.match.keys4)))
+    call_a start.requires get.get-kind.result c.operand-in-46.result get.get-kind.ensures c.operand-in-46.ensures (omega (arith, match_at.in_default.keys4)) (omega (arith, match_at.in_default.keys4)))
     (λ c κs.
     let start = c.before.before.before.before.before.before in
     (start.requires.1.low, omega arith))
@@ -105,7 +105,7 @@ pub +value-spec : {M : Type 1} → statement M
     let match_at = c.before.before.before in
     let get = match_at.before in
     let start = get.before.before.before in
-    call_b start.requires get.get.result c.operand4.result get.get.ensures c.operand4.ensures (omega (arith, match_at.match.keys4)))
+    call_b start.requires get.get-kind.result c.operand-in-46-2.result get.get-kind.ensures c.operand-in-46-2.ensures (omega (arith, match_at.in_default.keys4)))
     (λ c κs. search rules)
     (λ c κs.
     let start = c.before.before.before.before in
@@ -114,7 +114,7 @@ pub +value-spec : {M : Type 1} → statement M
     let match_at = c.before in
     let get = match_at.before in
     let start = get.before.before.before in
-    call_a start.requires get.get.result c.operand5.result get.get.ensures c.operand5.ensures (omega (arith, match_at.match.keys5)) (omega (arith, match_at.match.keys5)))
+    call_a start.requires get.get-kind.result c.operand-in-47.result get.get-kind.ensures c.operand-in-47.ensures (omega (arith, match_at.in_default.keys5)) (omega (arith, match_at.in_default.keys5)))
     (λ c.
     let value4 = c.before in
     let operand5 = value4.before in
@@ -123,9 +123,9 @@ pub +value-spec : {M : Type 1} → statement M
     let if1 = get.before in
     let handed_on = if1.before in
     let start = handed_on.before in
-    value_first start.args.rows.now start.args.state.now start.args.row operand5.operand5.result operand5.operand5.ensures
-    (handed_on.handed-on.ensures.none if1.if1.false) (sym get.get.ensures ∙ match_at.match.keys5) value4.value4.result
-    value4.value4.ensures c.if3.true)
+    value_first start.args.rows.now start.args.state.now start.args.row operand5.operand-in-47.result operand5.operand-in-47.ensures
+    (handed_on.handed_on-k.ensures.none if1.if-k-ne0.false) (sym get.get-kind.ensures ∙ match_at.in_default.keys5) value4.value-left.result
+    value4.value-left.ensures c.if-left.true)
     (λ c κs.
     let start = c.before.before.before.before.before.before.before in
     (start.requires.1.low, omega arith))
@@ -133,7 +133,7 @@ pub +value-spec : {M : Type 1} → statement M
     let match_at = c.before.before.before.before in
     let get = match_at.before in
     let start = get.before.before.before in
-    call_b start.requires get.get.result c.operand6.result get.get.ensures c.operand6.ensures (omega (arith, match_at.match.keys5)))
+    call_b start.requires get.get-kind.result c.operand-in-47-2.result get.get-kind.ensures c.operand-in-47-2.ensures (omega (arith, match_at.in_default.keys5)))
     (λ c κs. search rules)
     (λ c.
     let read_value = c.before in
@@ -141,7 +141,7 @@ pub +value-spec : {M : Type 1} → statement M
     let get = match_at.before in
     let start = get.before.before.before in
     subst (ValueOk start.args.rows.now start.args.state.now start.args.row) (sym c.some.ensures)
-    (value_content start.args.rows.now start.args.state.now start.args.row read_value.read-value.result (subst (OneOf content_kinds) get.get.ensures match_at.match.keys1) read_value.read-value.ensures))
+    (value_content start.args.rows.now start.args.state.now start.args.row read_value.read_value.result (subst (OneOf content_kinds) get.get-kind.ensures match_at.in_default.keys1) read_value.read_value.ensures))
     (λ c.
     let if2 = c.before in
     let read = if2.before in
@@ -149,15 +149,15 @@ pub +value-spec : {M : Type 1} → statement M
     let get = match_at.before in
     let start = get.before.before.before in
     subst (ValueOk start.args.rows.now start.args.state.now start.args.row) (sym c.none.ensures)
-    (value_blank start.args.rows.now start.args.state.now start.args.row (sym get.get.ensures ∙ match_at.match.keys2) (λ e. if2.if2.false (read.read.ensures ∙ e))))
+    (value_blank start.args.rows.now start.args.state.now start.args.row (sym get.get-kind.ensures ∙ match_at.in_default.keys2) (λ e. if2.if-read-eq-ONE.false (read.read.ensures ∙ e))))
     (λ c.
     let read_value3 = c.before in
     let operand2 = read_value3.before in
     let match_at = operand2.before in
     let get = match_at.before in
     let start = get.before.before.before in
-    subst (ValueOk start.args.rows.now start.args.state.now start.args.row) (sym c.some3.ensures)
-    (value_shared start.args.rows.now start.args.state.now start.args.row operand2.operand2.result read_value3.read-value3.result (sym get.get.ensures ∙ match_at.match.keys3) operand2.operand2.ensures read_value3.read-value3.ensures))
+    subst (ValueOk start.args.rows.now start.args.state.now start.args.row) (sym c.some-in-42.ensures)
+    (value_shared start.args.rows.now start.args.state.now start.args.row operand2.operand-cell.result read_value3.read_value-in-42.result (sym get.get-kind.ensures ∙ match_at.in_default.keys3) operand2.operand-cell.ensures read_value3.read_value-in-42.ensures))
     (λ c.
     let value3 = c.before in
     let operand4 = value3.before in
@@ -166,9 +166,9 @@ pub +value-spec : {M : Type 1} → statement M
     let match_at = operand3.before in
     let get = match_at.before in
     let start = get.before.before.before in
-    value_both start.args.rows.now start.args.state.now start.args.row operand3.operand3.result operand3.operand3.ensures
-    operand4.operand4.result value2.value2.result value3.value3.result c.both.result
-    (sym get.get.ensures ∙ match_at.match.keys4) operand4.operand4.ensures value2.value2.ensures value3.value3.ensures
+    value_both start.args.rows.now start.args.state.now start.args.row operand3.operand-in-46.result operand3.operand-in-46.ensures
+    operand4.operand-in-46-2.result value2.value-x.result value3.value-y.result c.both.result
+    (sym get.get-kind.ensures ∙ match_at.in_default.keys4) operand4.operand-in-46-2.ensures value2.value-x.ensures value3.value-y.ensures
     c.both.ensures)
     (λ c.
     let operand6 = c.before in
@@ -180,14 +180,14 @@ pub +value-spec : {M : Type 1} → statement M
     let if1 = get.before in
     let handed_on = if1.before in
     let start = handed_on.before in
-    value_else start.args.rows.now start.args.state.now start.args.row operand5.operand5.result operand5.operand5.ensures
-    (handed_on.handed-on.ensures.none if1.if1.false) (sym get.get.ensures ∙ match_at.match.keys5) value4.value4.result
-    value4.value4.ensures operand6.operand6.result c.value5.result operand6.operand6.ensures if3.if3.false c.value5.ensures)
+    value_else start.args.rows.now start.args.state.now start.args.row operand5.operand-in-47.result operand5.operand-in-47.ensures
+    (handed_on.handed_on-k.ensures.none if1.if-k-ne0.false) (sym get.get-kind.ensures ∙ match_at.in_default.keys5) value4.value-left.result
+    value4.value-left.ensures operand6.operand-in-47-2.result c.value-in-47.result operand6.operand-in-47-2.ensures if3.if-left.false c.value-in-47.ensures)
     (λ c.
     let match_at = c.before in
     let get = match_at.before in
     let if1 = get.before in
     let handed_on = if1.before in
     let start = handed_on.before in
-    subst (ValueOk start.args.rows.now start.args.state.now start.args.row) (sym c.none2.ensures)
-    (value_none start.args.rows.now start.args.state.now start.args.row (handed_on.handed-on.ensures.none if1.if1.false) (λ e. match_at.match.rest.0.0.0.0.1 (subst (OneOf content_kinds) (sym get.get.ensures) e)) (λ e. match_at.match.rest.0.0.0.1 (get.get.ensures ∙ e)) (λ e. match_at.match.rest.0.0.1 (get.get.ensures ∙ e)) (λ e. match_at.match.rest.0.1 (get.get.ensures ∙ e)) (λ e. match_at.match.rest.1 (get.get.ensures ∙ e))))
+    subst (ValueOk start.args.rows.now start.args.state.now start.args.row) (sym c.none-in_default.ensures)
+    (value_none start.args.rows.now start.args.state.now start.args.row (handed_on.handed_on-k.ensures.none if1.if-k-ne0.false) (λ e. match_at.in_default.rest.0.0.0.0.1 (subst (OneOf content_kinds) (sym get.get-kind.ensures) e)) (λ e. match_at.in_default.rest.0.0.0.1 (get.get-kind.ensures ∙ e)) (λ e. match_at.in_default.rest.0.0.1 (get.get-kind.ensures ∙ e)) (λ e. match_at.in_default.rest.0.1 (get.get-kind.ensures ∙ e)) (λ e. match_at.in_default.rest.1 (get.get-kind.ensures ∙ e))))

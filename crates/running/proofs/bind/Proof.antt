@@ -13,4 +13,4 @@ bind_spec = tie.close (tie.spec
     (λ c.
     let read_value = c.before in
     let if1 = read_value.before.before in
-    bound_push if1.if1.false read_value.read-value.ensures c.push.ensures))
+    bound_push if1.if-depth-ge-MAX_BINDERS.false read_value.read_value.ensures c.push.ensures))

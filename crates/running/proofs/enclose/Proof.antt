@@ -14,19 +14,19 @@ enclose_spec = tie.close (tie.spec
     (λ c.
     let match_at = c.before.before in
     let get = match_at.before in
-    under_let (sym get.get.ensures ∙ match_at.match.keys1) c.bind.ensures)
+    under_let (sym get.get-kind.ensures ∙ match_at.in_default-1.keys1) c.bind.ensures)
     (λ c.
     let get = c.before.before.before.before.before in
-    let g = get.get.ensures in
-    under_step (omega arith) (omega arith) c.bind2.ensures)
+    let g = get.get-kind.ensures in
+    under_step (omega arith) (omega arith) c.bind-in-43-to-44.ensures)
     (λ c.
     let match_at = c.before in
     let get = match_at.before in
     let start = get.before in
-    let g = get.get.ensures in
-    under_none start.requires.1 (λ z. match_at.match.rest.1 (g ∙ z)) (λ z y. omega arith))
+    let g = get.get-kind.ensures in
+    under_none start.requires.1 (λ z. match_at.in_default-1.rest.1 (g ∙ z)) (λ z y. omega arith))
     (λ c.
     let get = c.before.before.before in
     let start = get.before in
-    let g = get.get.ensures in
+    let g = get.get-kind.ensures in
     under_none start.requires.1 (λ z. omega arith) (λ z y. omega arith)))

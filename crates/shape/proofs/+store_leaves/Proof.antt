@@ -33,37 +33,37 @@ pub +store-leaves-spec : {M : Type 1} → statement M
 )
     (store_leaves_at t)
     store-leaves.Post
-    (λ c. let q = c.before.args in store_end q.d q.c q.i q.kinds c.if1.true)
+    (λ c. let q = c.before.args in store_end q.d q.c q.i q.kinds c.if-d-eq0.true)
     (λ c. search rules)
     (λ c κs.
     let if1 = c.before in
     let start = if1.before in
     let q = start.args in
-    (omega (arith, start.requires.0, if1.if1.false), room_pair q.d q.c q.i q.kinds if1.if1.false max_leaves c.if2.true start.requires.1))
+    (omega (arith, start.requires.0, if1.if-d-eq0.false), room_pair q.d q.c q.i q.kinds if1.if-d-eq0.false max_leaves c.if-c-eq0.true start.requires.1))
     (λ c.
     let if2 = c.before in
     let if1 = if2.before in
     let start = if1.before in
     let q = start.args in
-    store_pair q.d q.c q.i q.kinds if1.if1.false c.store-leaves.result if2.if2.true c.store-leaves.ensures)
+    store_pair q.d q.c q.i q.kinds if1.if-d-eq0.false c.store_leaves.result if2.if-c-eq0.true c.store_leaves.ensures)
     (λ c. search rules)
     (λ c.
     let s = c.before.before in
     let q = s.args in
-    (room_leaf q.d q.c q.i q.kinds c.before.if1.false max_leaves c.if2.false s.requires.1).0)
+    (room_leaf q.d q.c q.i q.kinds c.before.if-d-eq0.false max_leaves c.if-c-eq0.false s.requires.1).0)
     (λ c.
     let s = c.before.before in
     let q = s.args in
-    omega (arith, (room_leaf q.d q.c q.i q.kinds c.before.if1.false max_leaves c.if2.false s.requires.1).0))
+    omega (arith, (room_leaf q.d q.c q.i q.kinds c.before.if-d-eq0.false max_leaves c.if-c-eq0.false s.requires.1).0))
     (λ c. search rules)
     (λ c κs.
     let if1 = c.before in
     let start = if1.before in
     let q = start.args in
-    (omega (arith, start.requires.0, if1.if1.false), (room_leaf q.d q.c q.i q.kinds if1.if1.false max_leaves c.if2.false start.requires.1).1))
+    (omega (arith, start.requires.0, if1.if-d-eq0.false), (room_leaf q.d q.c q.i q.kinds if1.if-d-eq0.false max_leaves c.if-c-eq0.false start.requires.1).1))
     (λ c.
     let if2 = c.before in
     let if1 = if2.before in
     let start = if1.before in
     let q = start.args in
-    store_leaf q.d q.c q.i q.kinds if1.if1.false c.store-leaves2.result if2.if2.false c.store-leaves2.ensures)
+    store_leaf q.d q.c q.i q.kinds if1.if-d-eq0.false c.store_leaves-2.result if2.if-c-eq0.false c.store_leaves-2.ensures)

@@ -28,12 +28,12 @@ pub +width-of-spec : {M : Type 1} → statement M
     (width_of_below t, width_of_lem.Post)
     (width_of_at t)
     width_of_lem.Post
-    (λ c. (width_one c.before.args.n c.if1.true, omega arith))
+    (λ c. (width_one c.before.args.n c.if-n-lt2.true, omega arith))
     (λ c. search rules)
     (λ c κs. search rules)
     (λ c.
     let if1 = c.before in
     let start = if1.before in
     omega
-    (arith, width_fits start.args.n start.requires.1, width_more start.args.n c.width_of_lem.result if1.if1.false c.width_of_lem.ensures.0))
-    (λ c. (width_more c.before.before.args.n c.width_of_lem.result c.before.if1.false c.width_of_lem.ensures.0, omega arith))
+    (arith, width_fits start.args.n start.requires.1, width_more start.args.n c.width_of_lem.result if1.if-n-lt2.false c.width_of_lem.ensures.0))
+    (λ c. (width_more c.before.before.args.n c.width_of_lem.result c.before.if-n-lt2.false c.width_of_lem.ensures.0, omega arith))

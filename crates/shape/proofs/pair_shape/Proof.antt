@@ -12,12 +12,12 @@ pair_shape_spec =
     (λ c.
     let Leaves-of = c.before in
     let start = Leaves-of.before in
-    pair_left start.args.a start.args.b (sym Leaves-of.Leaves-of.ensures.0 ∙ c.if1.true))
+    pair_left start.args.a start.args.b (sym Leaves-of.Leaves-of.ensures.0 ∙ c.if-m-eq0.true))
     (λ c κs. search rules)
     (λ c.
     let leaves_of2 = c.before in
     let start = leaves_of2.before.before.before in
-    pair_right start.args.a start.args.b (sym leaves_of2.leaves-of2.ensures.0 ∙ c.if2.true))
+    pair_right start.args.a start.args.b (sym leaves_of2.leaves_of-n.ensures.0 ∙ c.if-n-eq0.true))
     (λ c. search rules)
     (λ c.
     let if2 = c.before in
@@ -26,9 +26,9 @@ pair_shape_spec =
     let Leaves-of = if1.before in
     let start = Leaves-of.before in
     let m = Leaves-of.Leaves-of in
-    let n = leaves_of2.leaves-of2 in
-    pair_over start.args.a start.args.b m.result n.result m.ensures.0 n.ensures.0 if1.if1.false if2.if2.false
-    c.if3.true)
+    let n = leaves_of2.leaves_of-n in
+    pair_over start.args.a start.args.b m.result n.result m.ensures.0 n.ensures.0 if1.if-m-eq0.false if2.if-n-eq0.false
+    c.if-m-n-gt-MAX_LEAVES.true)
     (λ c κs. search rules)
     (λ c κs.
     let if3 = c.before in
@@ -38,9 +38,9 @@ pair_shape_spec =
     let Leaves-of = if1.before in
     let start = Leaves-of.before in
     let m = Leaves-of.Leaves-of in
-    let n = leaves_of2.leaves-of2 in
-    pair_fits start.args.a start.args.b m.result n.result m.ensures.0 n.ensures.0 if1.if1.false if2.if2.false
-    c.width_of_lem.result c.width_of_lem.ensures.0 if3.if3.false)
+    let n = leaves_of2.leaves_of-n in
+    pair_fits start.args.a start.args.b m.result n.result m.ensures.0 n.ensures.0 if1.if-m-eq0.false if2.if-n-eq0.false
+    c.width_of_lem.result c.width_of_lem.ensures.0 if3.if-m-n-gt-MAX_LEAVES.false)
     (λ c.
     let width_of_lem = c.before in
     let if3 = width_of_lem.before in
@@ -50,7 +50,7 @@ pair_shape_spec =
     let Leaves-of = if1.before in
     let start = Leaves-of.before in
     let m = Leaves-of.Leaves-of in
-    let n = leaves_of2.leaves-of2 in
+    let n = leaves_of2.leaves_of-n in
     let w = width_of_lem.width_of_lem in
-    c.joined.ensures ∙ pair_yes start.args.a start.args.b m.result n.result m.ensures.0 n.ensures.0 if1.if1.false
-    if2.if2.false w.result w.ensures.0 if3.if3.false))
+    c.joined.ensures ∙ pair_yes start.args.a start.args.b m.result n.result m.ensures.0 n.ensures.0 if1.if-m-eq0.false
+    if2.if-n-eq0.false w.result w.ensures.0 if3.if-m-n-gt-MAX_LEAVES.false))

@@ -45,7 +45,7 @@ pub +clear-spec : {M : Type 1} → statement M
     let match_at = operand.before in
     let get = match_at.before in
     let start = get.before in
-    let h = low_b start.requires.1 get.get.result operand.operand.result get.get.ensures operand.operand.ensures (omega (arith, match_at.match.keys1)) in
+    let h = low_b start.requires.1 get.get-kind.result operand.operand-b.result get.get-kind.ensures operand.operand-b.ensures (omega (arith, match_at.in_default-1.keys1)) in
     (omega (arith, start.requires.0), fine_at start.requires.1 _ _ (omega arith) start.requires.1.room))
     (λ c κs. search rules)
     (λ c κs.
@@ -53,7 +53,7 @@ pub +clear-spec : {M : Type 1} → statement M
     let match_at = operand2.before.before.before.before in
     let get = match_at.before in
     let start = get.before in
-    let h = low_c start.requires.1 get.get.result operand2.operand2.result get.get.ensures operand2.operand2.ensures (omega (arith, match_at.match.keys1)) (omega (arith, match_at.match.keys1)) in
+    let h = low_c start.requires.1 get.get-kind.result operand2.operand-c.result get.get-kind.ensures operand2.operand-c.ensures (omega (arith, match_at.in_default-1.keys1)) (omega (arith, match_at.in_default-1.keys1)) in
     (omega (arith, start.requires.0), fine_at start.requires.1 _ _ (omega arith) start.requires.1.room))
     (λ c κs.
     let start = c.before.before.before.before.before.before.before.before.before in
@@ -66,15 +66,15 @@ pub +clear-spec : {M : Type 1} → statement M
     let match_at = operand.before in
     let get = match_at.before in
     let start = get.before in
-    clear_if start.args.rows.now start.args.row (sym get.get.ensures ∙ match_at.match.keys1) operand.operand.ensures
-    operand2.operand2.ensures clear.clear.ensures clear2.clear2.ensures c.clear-row.ensures)
+    clear_if start.args.rows.now start.args.row (sym get.get-kind.ensures ∙ match_at.in_default-1.keys1) operand.operand-b.ensures
+    operand2.operand-c.ensures clear.clear.ensures clear2.clear-in-25.ensures c.clear_row.ensures)
     (λ c κs. search rules)
     (λ c κs.
     let operand3 = c.before in
     let match_at = operand3.before in
     let get = match_at.before in
     let start = get.before in
-    let h = low_b start.requires.1 get.get.result operand3.operand3.result get.get.ensures operand3.operand3.ensures (⊎_elim (λ e. omega (arith, e)) (λ e. omega (arith, e)) match_at.match.keys2) in
+    let h = low_b start.requires.1 get.get-kind.result operand3.operand-b-in-31.result get.get-kind.ensures operand3.operand-b-in-31.ensures (⊎_elim (λ e. omega (arith, e)) (λ e. omega (arith, e)) match_at.in_default-1.keys2) in
     (omega (arith, start.requires.0), fine_at start.requires.1 _ _ (omega arith) start.requires.1.room))
     (λ c κs.
     let start = c.before.before.before.before.before.before in
@@ -87,25 +87,25 @@ pub +clear-spec : {M : Type 1} → statement M
     let start = get.before in
     let rs = start.args.rows.now in
     let i = start.args.row in
-    let q = sym get.get.ensures in
+    let q = sym get.get-kind.ensures in
     ⊎_elim
-    (λ e. clear_let rs i (q ∙ e) operand3.operand3.ensures clear3.clear3.ensures c.clear-row2.ensures)
-    (λ e. clear_gate rs i (q ∙ e) operand3.operand3.ensures clear3.clear3.ensures c.clear-row2.ensures)
-    match_at.match.keys2)
+    (λ e. clear_let rs i (q ∙ e) operand3.operand-b-in-31.ensures clear3.clear-in-31.ensures c.clear_row-in-31.ensures)
+    (λ e. clear_gate rs i (q ∙ e) operand3.operand-b-in-31.ensures clear3.clear-in-31.ensures c.clear_row-in-31.ensures)
+    match_at.in_default-1.keys2)
     (λ c κs. c.before.before.before.requires.1.low)
     (λ c.
     let match_at = c.before.before in
     let get = match_at.before in
     let start = get.before in
-    let e = sym get.get.ensures ∙ match_at.match.keys3 in
-    clear_leaf start.args.rows.now start.args.row (λ z. omega arith) (λ z. omega arith) (λ z. omega arith) (λ x y z. z e) c.clear-row3.ensures)
+    let e = sym get.get-kind.ensures ∙ match_at.in_default-1.keys3 in
+    clear_leaf start.args.rows.now start.args.row (λ z. omega arith) (λ z. omega arith) (λ z. omega arith) (λ x y z. z e) c.clear_row-in-45.ensures)
     (λ c κs. search rules)
     (λ c κs.
     let operand4 = c.before in
     let if1 = operand4.before.before in
     let get = if1.before.before in
     let start = get.before in
-    let h = low_a start.requires.1 get.get.result operand4.operand4.result get.get.ensures operand4.operand4.ensures (omega (arith, if1.if1.left)) (omega (arith, operand4.before.if2.true)) in
+    let h = low_a start.requires.1 get.get-kind.result operand4.operand-a.result get.get-kind.ensures operand4.operand-a.ensures (omega (arith, if1.in_default.left)) (omega (arith, operand4.before.if-kind-lt49.true)) in
     (omega (arith, start.requires.0), fine_at start.requires.1 _ _ (omega arith) start.requires.1.room))
     (λ c κs. search rules)
     (λ c κs.
@@ -113,7 +113,7 @@ pub +clear-spec : {M : Type 1} → statement M
     let if1 = operand5.before.before.before.before.before in
     let get = if1.before.before in
     let start = get.before in
-    let h = low_b start.requires.1 get.get.result operand5.operand5.result get.get.ensures operand5.operand5.ensures (omega (arith, if1.if1.left)) in
+    let h = low_b start.requires.1 get.get-kind.result operand5.operand-b-in-43-to-48.result get.get-kind.ensures operand5.operand-b-in-43-to-48.ensures (omega (arith, if1.in_default.left)) in
     (omega (arith, start.requires.0), fine_at start.requires.1 _ _ (omega arith) start.requires.1.room))
     (λ c κs.
     let start = c.before.before.before.before.before.before.before.before.before.before.before in
@@ -128,9 +128,9 @@ pub +clear-spec : {M : Type 1} → statement M
     let match_at = if1.before in
     let get = match_at.before in
     let start = get.before in
-    clear_fork start.args.rows.now start.args.row get.get.result get.get.ensures if1.if1.left (omega (arith, if2.if2.true))
-    (λ e. match_at.match.rest.1 e) operand4.operand4.ensures operand5.operand5.ensures clear4.clear4.ensures clear5.clear5.ensures
-    c.clear-row4.ensures)
+    clear_fork start.args.rows.now start.args.row get.get-kind.result get.get-kind.ensures if1.in_default.left (omega (arith, if2.if-kind-lt49.true))
+    (λ e. match_at.in_default-1.rest.1 e) operand4.operand-a.ensures operand5.operand-b-in-43-to-48.ensures clear4.clear-in-43-to-48.ensures clear5.clear-in-43-to-48-2.ensures
+    c.clear_row-in-43-to-48.ensures)
     (λ c κs.
     let start = c.before.before.before.before in
     start.requires.1.low)
@@ -139,7 +139,7 @@ pub +clear-spec : {M : Type 1} → statement M
     let match_at = if1.before in
     let get = match_at.before in
     let start = get.before in
-    clear_leaf start.args.rows.now start.args.row (λ e. match_at.match.rest.0.0.1 (get.get.ensures ∙ e))
-    (λ e. match_at.match.rest.0.1 (inl (get.get.ensures ∙ e)))
-    (λ e. match_at.match.rest.0.1 (inr (get.get.ensures ∙ e)))
-    (λ x y z. ⊎_elim (λ a. omega (arith, get.get.ensures)) (λ a. omega (arith, get.get.ensures)) if1.if1.branch) c.clear-row5.ensures)
+    clear_leaf start.args.rows.now start.args.row (λ e. match_at.in_default-1.rest.0.0.1 (get.get-kind.ensures ∙ e))
+    (λ e. match_at.in_default-1.rest.0.1 (inl (get.get-kind.ensures ∙ e)))
+    (λ e. match_at.in_default-1.rest.0.1 (inr (get.get-kind.ensures ∙ e)))
+    (λ x y z. ⊎_elim (λ a. omega (arith, get.get-kind.ensures)) (λ a. omega (arith, get.get-kind.ensures)) if1.in_default.branch) c.clear_row-in_default.ensures)

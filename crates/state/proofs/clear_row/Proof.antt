@@ -7,10 +7,10 @@ use Rattle.state.proofs.Words.{put_is, ClearTo, clear_none, clear_more, clear_al
 use Rattle.state.proofs.clear_row.Statement.{statement}
 use Rattle.state.proofs.clear_row.Tie as tie
 
-abbrev invariant-loop : tie.invariant-loop
+abbrev invariant-loop : tie.invariant-loop-m
 invariant-loop state₀ row m₀ state m = (m ≤ state_words) × ClearTo state₀ state row m
 
-abbrev decreases-loop : tie.decreases-loop
+abbrev decreases-loop : tie.decreases-loop-m
 decreases-loop state₀ row m₀ state m = state_words - m
 
 pub clear_row_spec : {M : Type 1} → statement M
@@ -20,6 +20,6 @@ clear_row_spec = tie.close (tie.spec
     (λ c. (search rules, clear_none _ _))
     (λ c κs. search rules) (λ c. search rules) (λ c. search rules)
     (λ c.
-    let l = c.before.before.before.loop in
+    let l = c.before.before.before.loop-m in
     (omega arith, clear_more (search rules) (put_is (search rules) c.put.ensures.0 c.put.ensures.1) l.invariant.1))
-    (λ c. clear_all c.loop-test.false c.before.loop.invariant.1))
+    (λ c. clear_all c.loop-m-test.false c.before.loop-m.invariant.1))

@@ -12,35 +12,35 @@ use Rattle.state.proofs.Binders.{binder_in, binder_out}
 use Rattle.state.proofs.env_get.Statement.{statement}
 use Rattle.state.proofs.env_get.Tie as tie
 
-abbrev invariant-loop : tie.invariant-loop
+abbrev invariant-loop : tie.invariant-loop-i
 invariant-loop env depth k inward shape leaves₀ i₀ leaves i = (i ≤ max_leaves) × (length leaves ≡ max_leaves) × FilledTo (λ j. slot env inward (1 + j)) 0 i leaves
 
-abbrev decreases-loop : tie.decreases-loop
+abbrev decreases-loop : tie.decreases-loop-i
 decreases-loop env depth k inward shape leaves₀ i₀ leaves i = max_leaves - i
 
 pub env_get_spec : {M : Type 1} → statement M
 env_get_spec = tie.close (tie.spec
     invariant-loop
     decreases-loop
-    (λ c. let a = c.before.args in binder_out a.env.now a.depth a.k c.if1.true)
+    (λ c. let a = c.before.args in binder_out a.env.now a.depth a.k c.if-depth-k.true)
     (λ c. search rules) (λ c. search rules) (λ c κs. search rules)
     (λ c. search rules)
     (λ c. search rules) (λ c κs. search rules) (λ c. search rules) (λ c. search rules) (λ c. search rules) (λ c. search rules)
     (λ c.
     let loop = c.before.before in
     let start = loop.before.before.before in
-    let l = loop.loop in
+    let l = loop.loop-i in
     let a = start.args in
-    let x = c.read-slot2.result in
-    (omega arith, length-set l.leaves l.i x ∙ l.invariant.1, filled_more (λ j. slot a.env.now (a.depth - 1 - a.k) (1 + j)) 0 l.leaves l.i x (omega arith) c.read-slot2.ensures l.invariant.2))
+    let x = c.read_slot.result in
+    (omega arith, length-set l.leaves l.i x ∙ l.invariant.1, filled_more (λ j. slot a.env.now (a.depth - 1 - a.k) (1 + j)) 0 l.leaves l.i x (omega arith) c.read_slot.ensures l.invariant.2))
     (λ c.
     let loop = c.before in
     let read_slot = loop.before in
     let if1 = read_slot.before in
     let start = if1.before in
-    let l = loop.loop in
-    let r = read_slot.read-slot in
+    let l = loop.loop-i in
+    let r = read_slot.read_slot-shape in
     let a = start.args in
     let n = a.depth - 1 - a.k in
-    binder_in a.env.now a.depth a.k n _ refl if1.if1.false
-    (value_filled (slot a.env.now n) (λ j. slot a.env.now n (1 + j)) r.result l.i l.leaves r.ensures (λ i. ap (slot a.env.now n) (omega arith)) l.invariant.1 c.loop-test.false l.invariant.2)))
+    binder_in a.env.now a.depth a.k n _ refl if1.if-depth-k.false
+    (value_filled (slot a.env.now n) (λ j. slot a.env.now n (1 + j)) r.result l.i l.leaves r.ensures (λ i. ap (slot a.env.now n) (omega arith)) l.invariant.1 c.loop-i-test.false l.invariant.2)))

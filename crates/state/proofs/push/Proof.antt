@@ -11,11 +11,11 @@ use Rattle.state.proofs.Binders.{PushedTo, push_none, push_more, push_all}
 use Rattle.state.proofs.push.Statement.{statement}
 use Rattle.state.proofs.push.Tie as tie
 
-abbrev invariant-loop : tie.invariant-loop
+abbrev invariant-loop : tie.invariant-loop-i
 invariant-loop env₀ depth leaves i₀ env i =
     (i ≤ max_leaves) × ((was xs : List ℕ) → ((m : ℕ) → m < max_leaves → get_or leaves m 0 ≡ get_or xs (1 + m) 0) → PushedTo was env₀ depth 1 xs → PushedTo was env depth (1 + i) xs)
 
-abbrev decreases-loop : tie.decreases-loop
+abbrev decreases-loop : tie.decreases-loop-i
 decreases-loop env₀ depth leaves i₀ env i = max_leaves - i
 
 pub push_spec : {M : Type 1} → statement M
@@ -28,15 +28,15 @@ push_spec = tie.close (tie.spec
     (λ c.
     let loop = c.before.before.before in
     let start = loop.before.before.before.before in
-    let l = loop.loop in
-    let ls = start.args.v.leaves in
+    let l = loop.loop-i in
+    let ls = start.args.v.leaves-1 in
     let x = get_or ls l.i 0 in
-    (omega arith, λ was xs h p. push_more x (omega arith) (omega arith) (h l.i (omega arith)) c.put-slot2.ensures.0 c.put-slot2.ensures.1 (l.invariant.1 was xs h p)))
+    (omega arith, λ was xs h p. push_more x (omega arith) (omega arith) (h l.i (omega arith)) c.put_slot-in-loop-i.ensures.0 c.put_slot-in-loop-i.ensures.1 (l.invariant.1 was xs h p)))
     (λ c.
     let loop = c.before in
     let put_slot = loop.before in
     let start = put_slot.before.before.before in
-    let l = loop.loop in
+    let l = loop.loop-i in
     let v = start.args.v in
     push_all v (omega arith)
-    (l.invariant.1 start.args.env.now (words_of v) (λ m h. ap (λ j. get_or (words_of v) j 0) {x = suc m} {y = 1 + m} (omega arith)) (push_more v.shape (omega arith) (omega arith) refl put_slot.put-slot.ensures.0 put_slot.put-slot.ensures.1 (push_none start.args.env.now start.args.depth (words_of v))))))
+    (l.invariant.1 start.args.env.now (words_of v) (λ m h. ap (λ j. get_or (words_of v) j 0) {x = suc m} {y = 1 + m} (omega arith)) (push_more v.shape (omega arith) (omega arith) refl put_slot.put_slot.ensures.0 put_slot.put_slot.ensures.1 (push_none start.args.env.now start.args.depth (words_of v))))))

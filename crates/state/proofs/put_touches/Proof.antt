@@ -14,5 +14,5 @@ put_touches_spec = tie.close (tie.spec
     (λ c.
     let shape = c.before.before in
     let tag = shape.before.before in
-    laid_more refl (put_is (omega arith) c.put2.ensures.0 c.put2.ensures.1)
-    (laid_more refl (put_is (omega arith) shape.put.ensures.0 shape.put.ensures.1) tag.put-tag.ensures)))
+    laid_more refl (put_is (omega arith) c.put-2.ensures.0 c.put-2.ensures.1)
+    (laid_more refl (put_is (omega arith) shape.put.ensures.0 shape.put.ensures.1) tag.put_tag.ensures)))

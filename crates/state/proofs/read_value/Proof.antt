@@ -11,10 +11,10 @@ use Rattle.state.proofs.Words.{value_filled}
 use Rattle.state.proofs.read_value.Statement.{statement}
 use Rattle.state.proofs.read_value.Tie as tie
 
-abbrev invariant-loop : tie.invariant-loop
+abbrev invariant-loop : tie.invariant-loop-i
 invariant-loop state row shape leaves₀ i₀ leaves i = (i ≤ max_leaves) × (length leaves ≡ max_leaves) × FilledTo (λ j. at state row (2 + j)) 0 i leaves
 
-abbrev decreases-loop : tie.decreases-loop
+abbrev decreases-loop : tie.decreases-loop-i
 decreases-loop state row shape leaves₀ i₀ leaves i = max_leaves - i
 
 pub read_value_spec : {M : Type 1} → statement M
@@ -27,15 +27,15 @@ read_value_spec = tie.close (tie.spec
     (λ c.
     let loop = c.before.before in
     let start = loop.before.before in
-    let l = loop.loop in
+    let l = loop.loop-i in
     let a = start.args in
-    let x = c.read2.result in
-    (omega arith, length-set l.leaves l.i x ∙ l.invariant.1, filled_more (λ j. at a.state.now a.row (2 + j)) 0 l.leaves l.i x (omega arith) c.read2.ensures l.invariant.2))
+    let x = c.read.result in
+    (omega arith, length-set l.leaves l.i x ∙ l.invariant.1, filled_more (λ j. at a.state.now a.row (2 + j)) 0 l.leaves l.i x (omega arith) c.read.ensures l.invariant.2))
     (λ c.
     let loop = c.before in
     let read = loop.before in
     let start = read.before in
-    let l = loop.loop in
+    let l = loop.loop-i in
     let a = start.args in
-    value_filled (λ m. at a.state.now a.row (suc m)) (λ j. at a.state.now a.row (2 + j)) read.read.result l.i l.leaves
-    read.read.ensures (λ i. ap (at a.state.now a.row) (omega arith)) l.invariant.1 c.loop-test.false l.invariant.2))
+    value_filled (λ m. at a.state.now a.row (suc m)) (λ j. at a.state.now a.row (2 + j)) read.read-shape.result l.i l.leaves
+    read.read-shape.ensures (λ i. ap (at a.state.now a.row) (omega arith)) l.invariant.1 c.loop-i-test.false l.invariant.2))

@@ -63,7 +63,7 @@ pub +copy-task-spec : {M : Type 1} → statement M
     let part = c.before in
     let part_at = part.before.before in
     let start = part_at.before.before in
-    let h = lower_as start.args.row part_at.part_at.ensures.1 part.part.given.1 in
+    let h = lower_as start.args.row part_at.part_at-part.ensures.1 part.part-1.given.1 in
     let m = start.requires.1.low in
     omega arith)
     (λ c κs.
@@ -77,29 +77,29 @@ pub +copy-task-spec : {M : Type 1} → statement M
     let part2 = c.before.before.before.before in
     let part_at = part2.before.before in
     let start = part_at.before.before in
-    call_lower start.requires part2.part2.given.0.0 start.args.depth
-    (lower_as start.args.row part_at.part_at.ensures.1 part2.part2.given.1) start.requires.1.room)
+    call_lower start.requires part2.part-in-Below-1.given.0.0 start.args.depth
+    (lower_as start.args.row part_at.part_at-part.ensures.1 part2.part-in-Below-1.given.1) start.requires.1.room)
     (λ c. search rules)
     (λ c κs.
     let part3 = c.before in
     let part_at = part3.before.before in
     let start = part_at.before.before in
-    let h = (lower_as start.args.row part_at.part_at.ensures.1 part3.part3.given.1).0 in
+    let h = (lower_as start.args.row part_at.part_at-part.ensures.1 part3.part-in-Bound-1.given.1).0 in
     let m = start.requires.1.low in
     omega arith)
     (λ c κs.
     let start = c.before.before.before.before.before.before.before in
     start.requires.1.low)
-    (λ c κs. c.if2.true)
+    (λ c κs. c.if-depth-lt-MAX_BINDERS.true)
     (λ c. search rules)
     (λ c κs.
     let if2 = c.before.before in
     let part3 = if2.before.before.before.before.before.before in
     let part_at = part3.before.before in
     let start = part_at.before.before in
-    let m = if2.if2.true in
-    call_lower start.requires part3.part3.given.0.1.0 (start.args.depth + 1)
-    (lower_as start.args.row part_at.part_at.ensures.1 part3.part3.given.1).1 (omega arith))
+    let m = if2.if-depth-lt-MAX_BINDERS.true in
+    call_lower start.requires part3.part-in-Bound-1.given.0.1.0 (start.args.depth + 1)
+    (lower_as start.args.row part_at.part_at-part.ensures.1 part3.part-in-Bound-1.given.1).1 (omega arith))
     (λ c.
     let bound = c.before.before in
     let if1 = bound.before.before in
@@ -110,8 +110,8 @@ pub +copy-task-spec : {M : Type 1} → statement M
     let read = part_at.before in
     let start = read.before in
     copy_bound start.args.rows.now start.args.state.now start.args.work.now start.args.row start.args.env start.args.depth
-    read.read.result part_at.part_at.result read.read.ensures part_at.part_at.ensures.0 part3.part3.given.1
-    row_type2.row-type2.ensures copy_value2.copy-value2.ensures if1.if1.true bound.bound.ensures c.copy-task2.ensures)
+    read.read-tag.result part_at.part_at-part.result read.read-tag.ensures part_at.part_at-part.ensures.0 part3.part-in-Bound-1.given.1
+    row_type2.row_type-t-in-Bound.ensures copy_value2.copy_value-in-Bound.ensures if1.if-copy_value.true bound.bound-inner.ensures c.copy_task-then-depth-lt-MAX_BINDERS.ensures)
     (λ c.
     let copy_value2 = c.before.before in
     let row_type2 = copy_value2.before.before in
@@ -120,8 +120,8 @@ pub +copy-task-spec : {M : Type 1} → statement M
     let read = part_at.before in
     let start = read.before in
     copy_deep start.args.rows.now start.args.state.now start.args.work.now start.args.row start.args.env start.args.depth
-    read.read.result part_at.part_at.result read.read.ensures part_at.part_at.ensures.0 part3.part3.given.1
-    row_type2.row-type2.ensures copy_value2.copy-value2.ensures c.if2.false)
+    read.read-tag.result part_at.part_at-part.result read.read-tag.ensures part_at.part_at-part.ensures.0 part3.part-in-Bound-1.given.1
+    row_type2.row_type-t-in-Bound.ensures copy_value2.copy_value-in-Bound.ensures c.if-depth-lt-MAX_BINDERS.false)
     (λ c. search rules)
     (λ c κs.
     let start = c.before.before.before.before.before.before in
@@ -130,14 +130,14 @@ pub +copy-task-spec : {M : Type 1} → statement M
     let part4 = c.before.before.before.before in
     let part_at = part4.before.before in
     let start = part_at.before.before in
-    call_lower start.requires part4.part4.given.0.0 start.args.depth
-    (lower_as start.args.row part_at.part_at.ensures.1 part4.part4.given.1).0 start.requires.1.room)
+    call_lower start.requires part4.part-in-Two-1.given.0.0 start.args.depth
+    (lower_as start.args.row part_at.part_at-part.ensures.1 part4.part-in-Two-1.given.1).0 start.requires.1.room)
     (λ c κs.
     let part4 = c.before.before.before.before.before.before.before in
     let part_at = part4.before.before in
     let start = part_at.before.before in
-    call_lower start.requires part4.part4.given.0.1.0 start.args.depth
-    (lower_as start.args.row part_at.part_at.ensures.1 part4.part4.given.1).1 start.requires.1.room)
+    call_lower start.requires part4.part-in-Two-1.given.0.1.0 start.args.depth
+    (lower_as start.args.row part_at.part_at-part.ensures.1 part4.part-in-Two-1.given.1).1 start.requires.1.room)
     (λ c.
     let if3 = c.before.before in
     let copy_task3 = if3.before in
@@ -147,8 +147,8 @@ pub +copy-task-spec : {M : Type 1} → statement M
     let read = part_at.before in
     let start = read.before in
     copy_two start.args.rows.now start.args.state.now start.args.work.now start.args.row start.args.env start.args.depth
-    read.read.result part_at.part_at.result read.read.ensures part_at.part_at.ensures.0 part4.part4.given.1
-    put_tag3.put-tag3.ensures copy_task3.copy-task3.ensures if3.if3.true c.copy-task4.ensures)
+    read.read-tag.result part_at.part_at-part.result read.read-tag.ensures part_at.part_at-part.ensures.0 part4.part-in-Two-1.given.1
+    put_tag3.put_tag-in-Two.ensures copy_task3.copy_task-in-Two.ensures if3.if-copy_task.true c.copy_task-then-copy_task.ensures)
     (λ c. search rules)
     (λ c κs.
     let start = c.before.before.before.before.before.before in
@@ -157,8 +157,8 @@ pub +copy-task-spec : {M : Type 1} → statement M
     let part5 = c.before.before.before.before.before in
     let part_at = part5.before.before in
     let start = part_at.before.before in
-    call_lower start.requires part5.part5.given.0.0 start.args.depth
-    (lower_as start.args.row part_at.part_at.ensures.1 part5.part5.given.1) start.requires.1.room)
+    call_lower start.requires part5.part-in-Gate-1.given.0.0 start.args.depth
+    (lower_as start.args.row part_at.part_at-part.ensures.1 part5.part-in-Gate-1.given.1) start.requires.1.room)
     (λ c.
     let if4 = c.before.before in
     let copy_touches = if4.before in
@@ -167,22 +167,22 @@ pub +copy-task-spec : {M : Type 1} → statement M
     let read = part_at.before in
     let start = read.before in
     copy_gate start.args.rows.now start.args.state.now start.args.work.now start.args.row start.args.env start.args.depth
-    read.read.result part_at.part_at.result read.read.ensures part_at.part_at.ensures.0 part5.part5.given.1
-    copy_touches.copy-touches.ensures if4.if4.true c.copy-task5.ensures)
+    read.read-tag.result part_at.part_at-part.result read.read-tag.ensures part_at.part_at-part.ensures.0 part5.part-in-Gate-1.given.1
+    copy_touches.copy_touches.ensures if4.if-copy_touches.true c.copy_task-then-copy_touches.ensures)
     (λ c.
     let part_at = c.before.before in
     let read = part_at.before in
     let start = read.before in
     copy_bad start.args.rows.now start.args.state.now start.args.work.now start.args.row start.args.env start.args.depth
-    read.read.result part_at.part_at.result read.read.ensures part_at.part_at.ensures.0 c.enum_told.given.1)
+    read.read-tag.result part_at.part_at-part.result read.read-tag.ensures part_at.part_at-part.ensures.0 c.enum_told-1.given.1)
     (λ c.
     let enum_told2 = c.before.before in
     let part_at = enum_told2.before.before in
     let read = part_at.before in
     let start = read.before in
     copy_alone start.args.rows.now start.args.state.now start.args.work.now start.args.row start.args.env start.args.depth
-    read.read.result part_at.part_at.result read.read.ensures part_at.part_at.ensures.0 enum_told2.enum-told2.given.1
-    c.put-tag.ensures)
+    read.read-tag.result part_at.part_at-part.result read.read-tag.ensures part_at.part_at-part.ensures.0 enum_told2.enum_told-in-Alone-1.given.1
+    c.put_tag.ensures)
     (λ c.
     let row_type = c.before.before in
     let part = row_type.before.before in
@@ -190,8 +190,8 @@ pub +copy-task-spec : {M : Type 1} → statement M
     let read = part_at.before in
     let start = read.before in
     copy_filled start.args.rows.now start.args.state.now start.args.work.now start.args.row start.args.env
-    start.args.depth read.read.result part_at.part_at.result read.read.ensures part_at.part_at.ensures.0 part.part.given.1
-    row_type.row_type.ensures c.copy-value.ensures)
+    start.args.depth read.read-tag.result part_at.part_at-part.result read.read-tag.ensures part_at.part_at-part.ensures.0 part.part-1.given.1
+    row_type.row_type-t.ensures c.copy_value.ensures)
     (λ c.
     let put_tag2 = c.before.before in
     let part2 = put_tag2.before.before.before in
@@ -199,8 +199,8 @@ pub +copy-task-spec : {M : Type 1} → statement M
     let read = part_at.before in
     let start = read.before in
     copy_below start.args.rows.now start.args.state.now start.args.work.now start.args.row start.args.env start.args.depth
-    read.read.result part_at.part_at.result read.read.ensures part_at.part_at.ensures.0 part2.part2.given.1
-    put_tag2.put-tag2.ensures c.copy-task.ensures)
+    read.read-tag.result part_at.part_at-part.result read.read-tag.ensures part_at.part_at-part.ensures.0 part2.part-in-Below-1.given.1
+    put_tag2.put_tag-in-Below.ensures c.copy_task.ensures)
     (λ c.
     let copy_value2 = c.before in
     let row_type2 = copy_value2.before.before in
@@ -209,8 +209,8 @@ pub +copy-task-spec : {M : Type 1} → statement M
     let read = part_at.before in
     let start = read.before in
     copy_unbound start.args.rows.now start.args.state.now start.args.work.now start.args.row start.args.env
-    start.args.depth read.read.result part_at.part_at.result read.read.ensures part_at.part_at.ensures.0
-    part3.part3.given.1 row_type2.row-type2.ensures copy_value2.copy-value2.ensures c.if1.false)
+    start.args.depth read.read-tag.result part_at.part_at-part.result read.read-tag.ensures part_at.part_at-part.ensures.0
+    part3.part-in-Bound-1.given.1 row_type2.row_type-t-in-Bound.ensures copy_value2.copy_value-in-Bound.ensures c.if-copy_value.false)
     (λ c.
     let copy_task3 = c.before in
     let put_tag3 = copy_task3.before.before in
@@ -219,8 +219,8 @@ pub +copy-task-spec : {M : Type 1} → statement M
     let read = part_at.before in
     let start = read.before in
     copy_first start.args.rows.now start.args.state.now start.args.work.now start.args.row start.args.env start.args.depth
-    read.read.result part_at.part_at.result read.read.ensures part_at.part_at.ensures.0 part4.part4.given.1
-    put_tag3.put-tag3.ensures copy_task3.copy-task3.ensures c.if3.false)
+    read.read-tag.result part_at.part_at-part.result read.read-tag.ensures part_at.part_at-part.ensures.0 part4.part-in-Two-1.given.1
+    put_tag3.put_tag-in-Two.ensures copy_task3.copy_task-in-Two.ensures c.if-copy_task.false)
     (λ c.
     let copy_touches = c.before in
     let part5 = copy_touches.before.before.before in
@@ -228,5 +228,5 @@ pub +copy-task-spec : {M : Type 1} → statement M
     let read = part_at.before in
     let start = read.before in
     copy_ungated start.args.rows.now start.args.state.now start.args.work.now start.args.row start.args.env
-    start.args.depth read.read.result part_at.part_at.result read.read.ensures part_at.part_at.ensures.0
-    part5.part5.given.1 copy_touches.copy-touches.ensures c.if4.false)
+    start.args.depth read.read-tag.result part_at.part_at-part.result read.read-tag.ensures part_at.part_at-part.ensures.0
+    part5.part-in-Gate-1.given.1 copy_touches.copy_touches.ensures c.if-copy_touches.false)

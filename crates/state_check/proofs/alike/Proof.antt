@@ -7,10 +7,10 @@ use Rattle.state_check.proofs.Deciding.{alike_none, alike_more, alike_yes, alike
 use Rattle.state_check.proofs.alike.Statement.{statement}
 use Rattle.state_check.proofs.alike.Tie as tie
 
-abbrev invariant-loop : tie.invariant-loop
+abbrev invariant-loop : tie.invariant-loop-k
 invariant-loop x y m k₀ k = (k ≤ m) × Alike x y k
 
-abbrev decreases-loop : tie.decreases-loop
+abbrev decreases-loop : tie.decreases-loop-k
 decreases-loop x y m k₀ k = m - k
 
 pub alike_spec : {M : Type 1} → statement M
@@ -22,18 +22,18 @@ alike_spec = tie.close (tie.spec invariant-loop decreases-loop
     let loop = test.before in
     let start = loop.before in
     let s = start.args in
-    alike_no s.x.now s.y.now loop.loop.k s.m test.loop-test.true c.if1.true)
+    alike_no s.x.now s.y.now loop.loop-k.k s.m test.loop-k-test.true c.if-x-k.true)
     (λ c. search rules)
-    (λ c. let l = c.before.before.before.loop-test.true in omega arith)
+    (λ c. let l = c.before.before.before.loop-k-test.true in omega arith)
     (λ c.
     let test = c.before.before.before in
     let loop = test.before in
     let start = loop.before in
     let s = start.args in
-    let l = test.loop-test.true in
-    (omega arith, alike_more s.x.now s.y.now loop.loop.k loop.loop.invariant.1 c.if1.false))
+    let l = test.loop-k-test.true in
+    (omega arith, alike_more s.x.now s.y.now loop.loop-k.k loop.loop-k.invariant.1 c.if-x-k.false))
     (λ c.
     let loop = c.before in
     let start = loop.before in
     let s = start.args in
-    alike_yes s.x.now s.y.now loop.loop.k s.m loop.loop.invariant.1 c.loop-test.false))
+    alike_yes s.x.now s.y.now loop.loop-k.k s.m loop.loop-k.invariant.1 c.loop-k-test.false))

@@ -13,6 +13,6 @@ copy_cell_spec = tie.close (tie.spec
     let get = if1.before in
     let start = get.before in
     let s = start.args in
-    copy_cell_is s.rows.now s.row s.state.now get.get.ensures if1.if1.true cell_shape.cell-shape.ensures
-    c.copy-value.ensures)
-    (λ c. let s = c.before.before.args in copy_cell_none s.rows.now s.row s.state.now c.before.get.ensures c.if1.false))
+    copy_cell_is s.rows.now s.row s.state.now get.get.ensures if1.if-get-eq-CELL.true cell_shape.cell_shape-t.ensures
+    c.copy_value.ensures)
+    (λ c. let s = c.before.before.args in copy_cell_none s.rows.now s.row s.state.now c.before.get.ensures c.if-get-eq-CELL.false))

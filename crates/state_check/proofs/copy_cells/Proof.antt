@@ -9,10 +9,10 @@ use Rattle.state_check.proofs.Cells.{no_cells, next_cells, no_more_cells, all_ce
 use Rattle.state_check.proofs.copy_cells.Statement.{statement}
 use Rattle.state_check.proofs.copy_cells.Tie as tie
 
-abbrev invariant-loop : tie.invariant-loop
+abbrev invariant-loop : tie.invariant-loop-i
 invariant-loop rows n state work₀ i₀ work i = (i ≤ n) × CellsOk rows state work₀ work i true
 
-abbrev decreases-loop : tie.decreases-loop
+abbrev decreases-loop : tie.decreases-loop-i
 decreases-loop rows n state work₀ i₀ work i = n - i
 
 pub copy_cells_spec : {M : Type 1} → statement M
@@ -21,7 +21,7 @@ copy_cells_spec = tie.close (tie.spec invariant-loop decreases-loop
     (λ c κs.
     let test = c.before in
     let start = test.before.before in
-    let l = test.loop-test.true in
+    let l = test.loop-i-test.true in
     let h = start.requires in
     omega arith)
     (λ c.
@@ -30,20 +30,20 @@ copy_cells_spec = tie.close (tie.spec invariant-loop decreases-loop
     let loop = test.before in
     let start = loop.before in
     let s = start.args in
-    no_more_cells s.rows.now s.state.now loop.loop.i s.n loop.loop.invariant.1 test.loop-test.true copy_cell.copy-cell.ensures
-    c.if1.true)
+    no_more_cells s.rows.now s.state.now loop.loop-i.i s.n loop.loop-i.invariant.1 test.loop-i-test.true copy_cell.copy_cell.ensures
+    c.if-not-copy_cell.true)
     (λ c. search rules)
-    (λ c. let l = c.before.before.before.loop-test.true in omega arith)
+    (λ c. let l = c.before.before.before.loop-i-test.true in omega arith)
     (λ c.
     let copy_cell = c.before in
     let test = copy_cell.before.before in
     let loop = test.before in
     let start = loop.before in
-    let l = test.loop-test.true in
-    (omega arith, next_cells start.args.state.now loop.loop.invariant.1 copy_cell.copy-cell.ensures c.if1.false))
+    let l = test.loop-i-test.true in
+    (omega arith, next_cells start.args.state.now loop.loop-i.invariant.1 copy_cell.copy_cell.ensures c.if-not-copy_cell.false))
     (λ c.
     let loop = c.before in
     let start = loop.before in
-    let l = c.loop-test.false in
-    let k = loop.loop.invariant.0 in
-    all_cells start.args.state.now loop.loop.invariant.1 (let e : loop.loop.i ≡ start.args.n = omega arith in e)))
+    let l = c.loop-i-test.false in
+    let k = loop.loop-i.invariant.0 in
+    all_cells start.args.state.now loop.loop-i.invariant.1 (let e : loop.loop-i.i ≡ start.args.n = omega arith in e)))

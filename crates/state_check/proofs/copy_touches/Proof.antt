@@ -10,7 +10,7 @@ pub copy_touches_spec : {M : Type 1} → statement M
 unfolding as_shape put
 copy_touches_spec = tie.close (tie.spec
     (λ c κs. (search rules, omega arith))
-    (λ c. let read = c.before in let s = read.before.args in touches_shape s.state.now s.row s.most read.read.ensures c.if1.true)
+    (λ c. let read = c.before in let s = read.before.args in touches_shape s.state.now s.row s.most read.read.ensures c.if-read-ne-NUMBER.true)
     (λ c κs. search rules)
     (λ c. search rules)
     (λ c.
@@ -18,7 +18,7 @@ copy_touches_spec = tie.close (tie.spec
     let if1 = touches.before in
     let read = if1.before in
     let s = read.before.args in
-    touches_more s.state.now s.row s.most read.read.ensures touches.read-touches.ensures if1.if1.false c.if2.true)
+    touches_more s.state.now s.row s.most read.read.ensures touches.read_touches-touches.ensures if1.if-read-ne-NUMBER.false c.if-most-touches.true)
     (λ c κs. search rules)
     (λ c.
     let if2 = c.before.before in
@@ -26,4 +26,4 @@ copy_touches_spec = tie.close (tie.spec
     let if1 = touches.before in
     let read = if1.before in
     let s = read.before.args in
-    touches_yes s.state.now s.row s.most read.read.ensures touches.read-touches.ensures if1.if1.false (omega (arith, if2.if2.false)) c.put-touches.ensures))
+    touches_yes s.state.now s.row s.most read.read.ensures touches.read_touches-touches.ensures if1.if-read-ne-NUMBER.false (omega (arith, if2.if-most-touches.false)) c.put_touches.ensures))

@@ -13,12 +13,12 @@ copy_value_spec = tie.close (tie.spec
     let read_value = fits2.before in
     let start = read_value.before in
     let s = start.args in
-    copy_value_yes s.state.now s.row s.shape read_value.read-value.ensures fits2.fits2.ensures.1 fits2.fits2.ensures.0
-    if1.if1.true c.put-value.ensures)
+    copy_value_yes s.state.now s.row s.shape read_value.read_value-v.ensures fits2.fits2.ensures.1 fits2.fits2.ensures.0
+    if1.if-fits.true c.put_value.ensures)
     (λ c.
     let fits2 = c.before in
     let read_value = fits2.before in
     let start = read_value.before in
     let s = start.args in
-    copy_value_no s.state.now s.row s.shape read_value.read-value.ensures fits2.fits2.ensures.1 fits2.fits2.ensures.0
-    c.if1.false))
+    copy_value_no s.state.now s.row s.shape read_value.read_value-v.ensures fits2.fits2.ensures.1 fits2.fits2.ensures.0
+    c.if-fits.false))

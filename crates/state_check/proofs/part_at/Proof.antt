@@ -18,6 +18,6 @@ part_at_spec = tie.close (tie.spec
     let operand = operand2.before in
     let get = operand.before in
     let start = get.before in
-    part_is start.args.tag get.get.result operand.operand.result operand2.operand2.result operand3.operand3.result
-    c.part-from.result start.requires get.get.ensures operand.operand.ensures operand2.operand2.ensures operand3.operand3.ensures
-    c.part-from.ensures))
+    part_is start.args.tag get.get-kind.result operand.operand-a.result operand2.operand-b.result operand3.operand-c.result
+    c.part_from.result start.requires get.get-kind.ensures operand.operand-a.ensures operand2.operand-b.ensures operand3.operand-c.ensures
+    c.part_from.ensures))

@@ -13,25 +13,25 @@ part_from_spec = tie.close (tie.spec
     (λ c κs. search rules) (λ c κs. search rules) (λ c κs. search rules) (λ c κs. search rules) (λ c κs. search rules)
     (λ c κs. search rules) (λ c κs. search rules) (λ c κs. search rules) (λ c κs. search rules)
     (λ c κs. search rules)
-    (λ c. let q = c.before.before.args in let e = c.by-tag.ensures in part_one q.tag q.a q.b q.c (25 ∷ []) q.kind (e, tt) c.before.match.keys1)
-    (λ c. let q = c.before.before.args in let e = c.by-tag2.ensures in part_one q.tag q.a q.b q.c (31 ∷ []) q.kind (e, tt) c.before.match.keys2)
-    (λ c. let q = c.before.before.args in let e = c.by-tag3.ensures in part_one q.tag q.a q.b q.c (40 ∷ 49 ∷ []) q.kind (e, (e, tt)) c.before.match.keys3)
-    (λ c. let q = c.before.before.args in let e = c.by-tag4.ensures in part_one q.tag q.a q.b q.c (41 ∷ []) q.kind (e, tt) c.before.match.keys4)
-    (λ c. let q = c.before.before.args in let e = c.by-tag5.ensures in part_one q.tag q.a q.b q.c (42 ∷ 45 ∷ []) q.kind (e, (e, tt)) c.before.match.keys5)
-    (λ c. let q = c.before.before.args in let e = c.by-tag6.ensures in part_one q.tag q.a q.b q.c (46 ∷ []) q.kind (e, tt) c.before.match.keys6)
-    (λ c. let q = c.before.before.args in let e = c.by-tag7.ensures in part_one q.tag q.a q.b q.c (47 ∷ []) q.kind (e, tt) c.before.match.keys7)
-    (λ c. let q = c.before.before.args in let e = c.by-tag8.ensures in part_one q.tag q.a q.b q.c (48 ∷ []) q.kind (e, tt) c.before.match.keys8)
-    (λ c. let q = c.before.before.args in let e = c.by-tag9.ensures in part_one q.tag q.a q.b q.c (50 ∷ []) q.kind (e, tt) c.before.match.keys9)
+    (λ c. let q = c.before.before.args in let e = c.by_tag.ensures in part_one q.tag q.a q.b q.c (25 ∷ []) q.kind (e, tt) c.before.in_default-1.keys1)
+    (λ c. let q = c.before.before.args in let e = c.by_tag-in-31.ensures in part_one q.tag q.a q.b q.c (31 ∷ []) q.kind (e, tt) c.before.in_default-1.keys2)
+    (λ c. let q = c.before.before.args in let e = c.by_tag-in-40.ensures in part_one q.tag q.a q.b q.c (40 ∷ 49 ∷ []) q.kind (e, (e, tt)) c.before.in_default-1.keys3)
+    (λ c. let q = c.before.before.args in let e = c.by_tag-in-41.ensures in part_one q.tag q.a q.b q.c (41 ∷ []) q.kind (e, tt) c.before.in_default-1.keys4)
+    (λ c. let q = c.before.before.args in let e = c.by_tag-in-42.ensures in part_one q.tag q.a q.b q.c (42 ∷ 45 ∷ []) q.kind (e, (e, tt)) c.before.in_default-1.keys5)
+    (λ c. let q = c.before.before.args in let e = c.by_tag-in-46.ensures in part_one q.tag q.a q.b q.c (46 ∷ []) q.kind (e, tt) c.before.in_default-1.keys6)
+    (λ c. let q = c.before.before.args in let e = c.by_tag-in-47.ensures in part_one q.tag q.a q.b q.c (47 ∷ []) q.kind (e, tt) c.before.in_default-1.keys7)
+    (λ c. let q = c.before.before.args in let e = c.by_tag-in-48.ensures in part_one q.tag q.a q.b q.c (48 ∷ []) q.kind (e, tt) c.before.in_default-1.keys8)
+    (λ c. let q = c.before.before.args in let e = c.by_tag-in-50.ensures in part_one q.tag q.a q.b q.c (50 ∷ []) q.kind (e, tt) c.before.in_default-1.keys9)
     (λ c.
     let if2 = c.before in
     let if1 = if2.before in
     let match_at = if1.before in
     let start = match_at.before in
     let q = start.args in
-    part_step q.tag q.a q.b q.c q.kind if1.if1.false if2.if2.true match_at.match.rest c.by-tag10.ensures)
-    (λ c. let q = c.before.before.args in part_low q.tag q.a q.b q.c q.kind c.if1.true c.before.match.rest)
+    part_step q.tag q.a q.b q.c q.kind if1.if-kind-lt40.false if2.if-kind-lt45.true match_at.in_default-1.rest c.by_tag-in-43-to-44.ensures)
+    (λ c. let q = c.before.before.args in part_low q.tag q.a q.b q.c q.kind c.if-kind-lt40.true c.before.in_default-1.rest)
     (λ c.
     let match_at = c.before.before in
     let start = match_at.before in
     let q = start.args in
-    part_high q.tag q.a q.b q.c q.kind c.if2.false match_at.match.rest))
+    part_high q.tag q.a q.b q.c q.kind c.if-kind-lt45.false match_at.in_default-1.rest))

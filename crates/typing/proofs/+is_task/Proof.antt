@@ -41,30 +41,30 @@ pub +is-task-spec : {M : Type 1} → statement M
     let get = match_at.before in
     let start = get.before in
     let q = start.args in
-    task_branch q.rows.now q.row get.get.result get.get.ensures operand.operand.result c.is-task.result
-    match_at.match.keys1 operand.operand.ensures if1.if1.true c.is-task.ensures)
+    task_branch q.rows.now q.row get.get-k.result get.get-k.ensures operand.operand-b.result c.is_task.result
+    match_at.in_default-1.keys1 operand.operand-b.ensures if1.if-b-row.true c.is_task.ensures)
     (λ c.
     let operand = c.before in
     let match_at = operand.before in
     let get = match_at.before in
     let start = get.before in
     let q = start.args in
-    task_high q.rows.now q.row get.get.result get.get.ensures operand.operand.result match_at.match.keys1
-    operand.operand.ensures c.if1.false)
+    task_high q.rows.now q.row get.get-k.result get.get-k.ensures operand.operand-b.result match_at.in_default-1.keys1
+    operand.operand-b.ensures c.if-b-row.false)
     (λ c.
     let if2 = c.before in
     let get = if2.before.before in
     let start = get.before in
     let q = start.args in
-    task_own q.rows.now q.row get.get.result get.get.ensures if2.if2.false c.if3.true)
+    task_own q.rows.now q.row get.get-k.result get.get-k.ensures if2.if-k-lt40.false c.if-k-lt51.true)
     (λ c.
     let match_at = c.before in
     let get = match_at.before in
     let start = get.before in
     let q = start.args in
-    task_none q.rows.now q.row get.get.result get.get.ensures c.if2.true match_at.match.rest)
+    task_none q.rows.now q.row get.get-k.result get.get-k.ensures c.if-k-lt40.true match_at.in_default-1.rest)
     (λ c.
     let get = c.before.before.before in
     let start = get.before in
     let q = start.args in
-    task_past q.rows.now q.row get.get.result get.get.ensures c.if3.false)
+    task_past q.rows.now q.row get.get-k.result get.get-k.ensures c.if-k-lt51.false)

@@ -14,10 +14,10 @@ cell_shape_spec = tie.close (tie.spec
     let operand = kind.before.before in
     let start = operand.before in
     let s = start.args in
-    shape_truth s.rows.now s.row operand.operand.ensures kind.kind.ensures c.if1.true)
+    shape_truth s.rows.now s.row operand.operand-a.ensures kind.kind.ensures c.if-kind-eq-TRUTH.true)
     (λ c.
     let kind = c.before in
     let operand = kind.before.before in
     let start = operand.before in
     let s = start.args in
-    shape_number s.rows.now s.row operand.operand.ensures kind.kind.ensures c.if1.false))
+    shape_number s.rows.now s.row operand.operand-a.ensures kind.kind.ensures c.if-kind-eq-TRUTH.false))

@@ -4,5 +4,5 @@ use Rattle.typing.proofs.named1.Tie as tie
 
 pub named1_spec : {M : Type 1} → statement M
 named1_spec = tie.close (tie.spec
-    (λ c. simp (lt-ltb _ _ c.if1.true))
-    (λ c. simp (le-ltb _ _ c.if1.false)))
+    (λ c. simp (lt-ltb _ _ c.if-a-i.true))
+    (λ c. simp (le-ltb _ _ c.if-a-i.false)))

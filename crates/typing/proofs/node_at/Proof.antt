@@ -19,5 +19,5 @@ node_at_spec =
     let get = get2.before in
     let start = get.before in
     let q = start.args in
-    node_is q.rows.now q.row get.get.result get2.get2.result get3.get3.result get4.get4.result c.node-from.result
-    get.get.ensures get2.get2.ensures get3.get3.ensures get4.get4.ensures c.node-from.ensures))
+    node_is q.rows.now q.row get.get-k.result get2.get-a.result get3.get-b.result get4.get-c.result c.node_from.result
+    get.get-k.ensures get2.get-a.ensures get3.get-b.ensures get4.get-c.ensures c.node_from.ensures))

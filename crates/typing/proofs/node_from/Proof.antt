@@ -23,60 +23,60 @@ node_from_spec =
     (λ c κs. search rules)
     (λ c κs. search rules)
     (λ c κs. search rules)
-    (λ c. let q = c.before.args in node_one q.i q.a q.b q.c (1 ∷ 20 ∷ []) q.k (refl, (refl, tt)) c.match.keys1)
-    (λ c. let q = c.before.args in node_one q.i q.a q.b q.c (2 ∷ 21 ∷ []) q.k (refl, (refl, tt)) c.match.keys2)
-    (λ c. let q = c.before.args in node_one q.i q.a q.b q.c (3 ∷ 22 ∷ []) q.k (refl, (refl, tt)) c.match.keys3)
-    (λ c. let q = c.before.args in node_one q.i q.a q.b q.c (23 ∷ []) q.k (refl, tt) c.match.keys4)
+    (λ c. let q = c.before.args in node_one q.i q.a q.b q.c (1 ∷ 20 ∷ []) q.k (refl, (refl, tt)) c.in_default-1.keys1)
+    (λ c. let q = c.before.args in node_one q.i q.a q.b q.c (2 ∷ 21 ∷ []) q.k (refl, (refl, tt)) c.in_default-1.keys2)
+    (λ c. let q = c.before.args in node_one q.i q.a q.b q.c (3 ∷ 22 ∷ []) q.k (refl, (refl, tt)) c.in_default-1.keys3)
+    (λ c. let q = c.before.args in node_one q.i q.a q.b q.c (23 ∷ []) q.k (refl, tt) c.in_default-1.keys4)
     (λ c. let q = c.before.before.args in
     let e = c.named2.ensures in
-    node_one q.i q.a q.b q.c (24 ∷ []) q.k (e, tt) c.before.match.keys5)
+    node_one q.i q.a q.b q.c (24 ∷ []) q.k (e, tt) c.before.in_default-1.keys5)
     (λ c. let q = c.before.before.args in
     let e = c.named3.ensures in
-    node_one q.i q.a q.b q.c (25 ∷ []) q.k (e, tt) c.before.match.keys6)
+    node_one q.i q.a q.b q.c (25 ∷ []) q.k (e, tt) c.before.in_default-1.keys6)
     (λ c. let q = c.before.before.args in
-    let e = c.named22.ensures in
-    node_one q.i q.a q.b q.c (4 ∷ 26 ∷ 46 ∷ []) q.k (e, (e, (e, tt))) c.before.match.keys7)
+    let e = c.named2-in-4.ensures in
+    node_one q.i q.a q.b q.c (4 ∷ 26 ∷ 46 ∷ []) q.k (e, (e, (e, tt))) c.before.in_default-1.keys7)
     (λ c. let q = c.before.before.args in
     let e = c.named1.ensures in
-    node_one q.i q.a q.b q.c (27 ∷ []) q.k (e, tt) c.before.match.keys8)
+    node_one q.i q.a q.b q.c (27 ∷ []) q.k (e, tt) c.before.in_default-1.keys8)
     (λ c. let q = c.before.before.args in
-    let e = c.named12.ensures in
-    node_one q.i q.a q.b q.c (28 ∷ []) q.k (e, tt) c.before.match.keys9)
+    let e = c.named1-in-28.ensures in
+    node_one q.i q.a q.b q.c (28 ∷ []) q.k (e, tt) c.before.in_default-1.keys9)
     (λ c. let q = c.before.before.args in
-    let e = c.named13.ensures in
-    node_one q.i q.a q.b q.c (10 ∷ 29 ∷ 45 ∷ 49 ∷ []) q.k (e, (e, (e, (e, tt)))) c.before.match.keys10)
+    let e = c.named1-in-10.ensures in
+    node_one q.i q.a q.b q.c (10 ∷ 29 ∷ 45 ∷ 49 ∷ []) q.k (e, (e, (e, (e, tt)))) c.before.in_default-1.keys10)
     (λ c. let q = c.before.before.args in
-    let e = c.named23.ensures in
-    node_one q.i q.a q.b q.c (30 ∷ []) q.k (e, tt) c.before.match.keys11)
+    let e = c.named2-in-30.ensures in
+    node_one q.i q.a q.b q.c (30 ∷ []) q.k (e, tt) c.before.in_default-1.keys11)
     (λ c. let q = c.before.before.args in
-    let e = c.named24.ensures in
-    node_one q.i q.a q.b q.c (31 ∷ []) q.k (e, tt) c.before.match.keys12)
+    let e = c.named2-in-31.ensures in
+    node_one q.i q.a q.b q.c (31 ∷ []) q.k (e, tt) c.before.in_default-1.keys12)
     (λ c. let q = c.before.before.args in
-    let e = c.named14.ensures in
-    node_one q.i q.a q.b q.c (50 ∷ []) q.k (e, tt) c.before.match.keys13)
+    let e = c.named1-in-50.ensures in
+    node_one q.i q.a q.b q.c (50 ∷ []) q.k (e, tt) c.before.in_default-1.keys13)
     (λ c.
     let if2 = c.before in
     let if1 = if2.before in
     let start = if1.before.before in
     let q = start.args in
-    let e = c.named15.ensures in
-    node_range q.i q.a q.b q.c 40 3 q.k (e, (e, (e, tt))) if1.if1.false if2.if2.true)
+    let e = c.named1-in-40-to-42.ensures in
+    node_range q.i q.a q.b q.c 40 3 q.k (e, (e, (e, tt))) if1.if-k-lt40.false if2.if-k-lt43.true)
     (λ c.
     let if3 = c.before in
     let if2 = if3.before in
     let start = if2.before.before.before in
     let q = start.args in
-    let e = c.named25.ensures in
-    node_range q.i q.a q.b q.c 43 2 q.k (e, (e, tt)) if2.if2.false if3.if3.true)
+    let e = c.named2-in-43-to-44.ensures in
+    node_range q.i q.a q.b q.c 43 2 q.k (e, (e, tt)) if2.if-k-lt43.false if3.if-k-lt45.true)
     (λ c.
     let if4 = c.before in
     let if3 = if4.before in
     let match_at = if3.before.before.before in
     let start = match_at.before in
     let q = start.args in
-    node_choice q.i q.a q.b q.c q.k if3.if3.false if4.if4.true match_at.match.rest c.named26.ensures)
-    (λ c. let q = c.before.before.args in node_none q.i q.a q.b q.c q.k c.if1.true c.before.match.rest)
+    node_choice q.i q.a q.b q.c q.k if3.if-k-lt45.false if4.if-k-lt49.true match_at.in_default-1.rest c.named2-in-47-to-48.ensures)
+    (λ c. let q = c.before.before.args in node_none q.i q.a q.b q.c q.k c.if-k-lt40.true c.before.in_default-1.rest)
     (λ c.
     let match_at = c.before.before.before.before in
     let q = match_at.before.args in
-    node_past q.i q.a q.b q.c q.k c.if4.false match_at.match.rest))
+    node_past q.i q.a q.b q.c q.k c.if-k-lt49.false match_at.in_default-1.rest))

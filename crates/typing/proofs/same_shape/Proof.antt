@@ -4,5 +4,5 @@ use Rattle.typing.proofs.same_shape.Tie as tie
 
 pub same_shape_spec : {M : Type 1} → statement M
 same_shape_spec = tie.close (tie.spec
-    (λ c. simp (eq-eqb _ _ c.if1.true))
-    (λ c. simp (ne_eqb _ _ c.if1.false)))
+    (λ c. simp (eq-eqb _ _ c.if-t-u.true))
+    (λ c. simp (ne_eqb _ _ c.if-t-u.false)))

@@ -11,13 +11,13 @@ computed_spec = tie.close (tie.spec
     (λ c.
     let match_at = c.before.before in
     let s = match_at.before in
-    sum_is s.args.op s.args.x s.args.y c.result.result match_at.match.keys1 (c.result.ensures _ c.before.add.ensures))
+    sum_is s.args.op s.args.x s.args.y c.result.result match_at.in_default.keys1 (c.result.ensures _ c.before.add.ensures))
     (λ c.
     let match_at = c.before.before in
     let s = match_at.before in
-    difference_is s.args.op s.args.x s.args.y c.result2.result match_at.match.keys2 (c.result2.ensures _ c.before.sub.ensures))
+    difference_is s.args.op s.args.x s.args.y c.result-in-2.result match_at.in_default.keys2 (c.result-in-2.ensures _ c.before.sub.ensures))
     (λ c.
     let match_at = c.before.before in
     let s = match_at.before in
-    product_is s.args.op s.args.x s.args.y c.result3.result
-    (omega (arith, s.requires.0, s.requires.1, match_at.match.rest.0.1, match_at.match.rest.1)) (c.result3.ensures _ c.before.mul.ensures)))
+    product_is s.args.op s.args.x s.args.y c.result-in_default.result
+    (omega (arith, s.requires.0, s.requires.1, match_at.in_default.rest.0.1, match_at.in_default.rest.1)) (c.result-in_default.ensures _ c.before.mul.ensures)))

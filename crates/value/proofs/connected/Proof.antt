@@ -15,28 +15,28 @@ connected_spec = tie.close (tie.spec
     let equal2 = match_at.before in
     let equal = equal2.before in
     let start = equal.before in
-    and_is start.args.op start.args.x start.args.y equal.equal.result equal2.equal2.result equal.equal.ensures
-    equal2.equal2.ensures equal2.equal2.result match_at.match.keys1 (ap (λ p. p && equal2.equal2.result) (sym c.if1.true)))
+    and_is start.args.op start.args.x start.args.y equal.equal-p.result equal2.equal-q.result equal.equal-p.ensures
+    equal2.equal-q.ensures equal2.equal-q.result match_at.in_default.keys1 (ap (λ p. p && equal2.equal-q.result) (sym c.if-p.true)))
     (λ c.
     let match_at = c.before in
     let equal2 = match_at.before in
     let equal = equal2.before in
     let start = equal.before in
-    and_is start.args.op start.args.x start.args.y equal.equal.result equal2.equal2.result equal.equal.ensures
-    equal2.equal2.ensures _ match_at.match.keys1 (c.if1.false ∙ ap (λ p. p && equal2.equal2.result) (sym c.if1.false)))
+    and_is start.args.op start.args.x start.args.y equal.equal-p.result equal2.equal-q.result equal.equal-p.ensures
+    equal2.equal-q.ensures _ match_at.in_default.keys1 (c.if-p.false ∙ ap (λ p. p && equal2.equal-q.result) (sym c.if-p.false)))
     (λ c.
     let match_at = c.before in
     let equal2 = match_at.before in
     let equal = equal2.before in
     let start = equal.before in
-    or_is start.args.op start.args.x start.args.y equal.equal.result equal2.equal2.result equal.equal.ensures
-    equal2.equal2.ensures _ (omega (arith, start.requires.0, start.requires.1, match_at.match.rest.1))
-    (c.if2.true ∙ ap (λ p. p || equal2.equal2.result) (sym c.if2.true)))
+    or_is start.args.op start.args.x start.args.y equal.equal-p.result equal2.equal-q.result equal.equal-p.ensures
+    equal2.equal-q.ensures _ (omega (arith, start.requires.0, start.requires.1, match_at.in_default.rest.1))
+    (c.if-p-2.true ∙ ap (λ p. p || equal2.equal-q.result) (sym c.if-p-2.true)))
     (λ c.
     let match_at = c.before in
     let equal2 = match_at.before in
     let equal = equal2.before in
     let start = equal.before in
-    or_is start.args.op start.args.x start.args.y equal.equal.result equal2.equal2.result equal.equal.ensures
-    equal2.equal2.ensures _ (omega (arith, start.requires.0, start.requires.1, match_at.match.rest.1))
-    (ap (λ p. p || equal2.equal2.result) (sym c.if2.false))))
+    or_is start.args.op start.args.x start.args.y equal.equal-p.result equal2.equal-q.result equal.equal-p.ensures
+    equal2.equal-q.ensures _ (omega (arith, start.requires.0, start.requires.1, match_at.in_default.rest.1))
+    (ap (λ p. p || equal2.equal-q.result) (sym c.if-p-2.false))))

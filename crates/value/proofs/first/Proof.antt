@@ -15,5 +15,5 @@ first_spec = tie.close (tie.spec
     let first_shape_lem = Leaves-of.before.before in
     let start = first_shape_lem.before in
     let a = start.args in
-    let s = first_shape_lem.first-shape.ensures in
-    made s (c.joined.ensures ∙ ap (λ n. joined n a.a.leaves no_leaves) (Leaves-of.Leaves-of.ensures.0 ∙ ap shape_leaves s))))
+    let s = first_shape_lem.first_shape-shape.ensures in
+    made s (c.joined-leaves.ensures ∙ ap (λ n. joined n a.a.leaves no_leaves) (Leaves-of.Leaves-of.ensures.0 ∙ ap shape_leaves s))))

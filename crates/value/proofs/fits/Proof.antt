@@ -14,36 +14,36 @@ use Rattle.value.proofs.Fitting.{met_at, fits_other, fits_none, fits_all, fits_u
 use Rattle.value.proofs.fits.Statement.{statement}
 use Rattle.value.proofs.fits.Tie as tie
 
-abbrev invariant-loop : tie.invariant-loop
+abbrev invariant-loop : tie.invariant-loop-i
 invariant-loop shape kinds leaves i₀ i = (i ≤ max_leaves) × ((j : ℕ) → j < i → met_at kinds leaves j ≡ true) × ((j : ℕ) → j < i → get_or leaves j 0 < words)
 
-abbrev decreases-loop : tie.decreases-loop
+abbrev decreases-loop : tie.decreases-loop-i
 decreases-loop shape kinds leaves i₀ i = max_leaves - i
 
 pub fits_spec : {M : Type 1} → statement M
 fits_spec = tie.close (tie.spec
     invariant-loop
     decreases-loop
-    (λ c. let a = c.before.before.args in (fits_other a.v a.shape c.if1.true, λ z. absurd (false≢true z)))
+    (λ c. let a = c.before.before.args in (fits_other a.v a.shape c.if-v-shape.true, λ z. absurd (false≢true z)))
     (λ c κs. search rules) (λ c. search rules)
-    (λ c. let a = c.before.before.before.before.args in (fits_none a.v a.shape c.before.leaf-kinds.result c.before.leaf-kinds.ensures c.if2.true, λ z. absurd (false≢true z)))
+    (λ c. let a = c.before.before.before.before.args in (fits_none a.v a.shape c.before.leaf_kinds-kinds.result c.before.leaf_kinds-kinds.ensures c.if-kinds-eq-NO_LEAF.true, λ z. absurd (false≢true z)))
     (λ c. (omega arith, (λ j h. absurd (omega arith)), (λ j h. absurd (omega arith))))
     (λ c. search rules) (λ c. search rules) (λ c. search rules) (λ c. search rules) (λ c κs. search rules)
     (λ c.
     let l = c.before.before.before in
     let k = l.before.before.before in
     let a = k.before.before.before.args in (
-      fits_unmet a.v a.shape k.leaf-kinds.result k.leaf-kinds.ensures k.before.if1.false (search rules) (search rules) l.before.before.if2.false l.loop.i c.before.before.loop-test.true
-          (sym c.before.meets.ensures.0 ∙ not-true _ c.if3.true),
+      fits_unmet a.v a.shape k.leaf_kinds-kinds.result k.leaf_kinds-kinds.ensures k.before.if-v-shape.false (search rules) (search rules) l.before.before.if-kinds-eq-NO_LEAF.false l.loop-i.i c.before.before.loop-i-test.true
+          (sym c.before.meets.ensures.0 ∙ not-true _ c.if-not-meets.true),
       λ z. absurd (false≢true z),
     ))
     (λ c. search rules) (λ c. search rules)
-    (λ c. let l = c.before.before.before in (omega arith, below_more _ _ l.loop.invariant.1 (sym c.before.meets.ensures.0 ∙ not-false _ c.if3.false), below_more _ _ l.loop.invariant.2 c.before.meets.ensures.1))
+    (λ c. let l = c.before.before.before in (omega arith, below_more _ _ l.loop-i.invariant.1 (sym c.before.meets.ensures.0 ∙ not-false _ c.if-not-meets.false), below_more _ _ l.loop-i.invariant.2 c.before.meets.ensures.1))
     (λ c.
     let k = c.before.before.before.before in
     let a = k.before.before.before.args in
-    let e : length a.v.leaves ≡ max_leaves = search rules in (
-      fits_all a.v a.shape k.leaf-kinds.result k.leaf-kinds.ensures k.before.if1.false (search rules) (search rules) c.before.before.before.if2.false
-          (λ j h. c.before.loop.invariant.1 j (omega arith)),
-      λ z. bits_below max_leaves a.v.leaves (omega (arith, e)) (λ j h. c.before.loop.invariant.2 j (omega arith)),
+    let e : length a.v.leaves-1 ≡ max_leaves = search rules in (
+      fits_all a.v a.shape k.leaf_kinds-kinds.result k.leaf_kinds-kinds.ensures k.before.if-v-shape.false (search rules) (search rules) c.before.before.before.if-kinds-eq-NO_LEAF.false
+          (λ j h. c.before.loop-i.invariant.1 j (omega arith)),
+      λ z. bits_below max_leaves a.v.leaves-1 (omega (arith, e)) (λ j h. c.before.loop-i.invariant.2 j (omega arith)),
     )))

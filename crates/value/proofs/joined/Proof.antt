@@ -12,10 +12,10 @@ use Rattle.value.proofs.Parts.{joined_front, joined_back}
 use Rattle.value.proofs.joined.Statement.{statement}
 use Rattle.value.proofs.joined.Tie as tie
 
-abbrev invariant-loop : tie.invariant-loop
+abbrev invariant-loop : tie.invariant-loop-i
 invariant-loop n ys xs leaves₀ i₀ leaves i = (i ≤ max_leaves) × (length leaves ≡ max_leaves) × FilledTo (joined_at n xs ys) 0 i leaves
 
-abbrev decreases-loop : tie.decreases-loop
+abbrev decreases-loop : tie.decreases-loop-i
 decreases-loop n ys xs leaves₀ i₀ leaves i = max_leaves - i
 
 pub joined_spec : {M : Type 1} → statement M
@@ -27,11 +27,11 @@ joined_spec = tie.close (tie.spec
     (λ c.
     let loop = c.before.before in
     let start = loop.before in
-    let l = loop.loop in
+    let l = loop.loop-i in
     let a = start.args in
-    let x = ⊎_elim (λ (t, e). joined_front a.t2 a.ys a.n l.i c.if1.leaves t.taken e) (λ (t, g, e). joined_back a.t2 a.ys a.n l.i c.if1.leaves t.left (e ∙ g.ensures)) c.if1.branch in
-    (omega arith, length-set l.leaves l.i c.if1.leaves ∙ l.invariant.1, filled_more (joined_at a.n a.t2 a.ys) 0 l.leaves l.i c.if1.leaves (omega arith) x l.invariant.2))
+    let x = ⊎_elim (λ (t, e). joined_front a.t2 a.ys a.n l.i c.if-i-n.leaves t.taken e) (λ (t, g, e). joined_back a.t2 a.ys a.n l.i c.if-i-n.leaves t.left (e ∙ g.ensures)) c.if-i-n.branch in
+    (omega arith, length-set l.leaves l.i c.if-i-n.leaves ∙ l.invariant.1, filled_more (joined_at a.n a.t2 a.ys) 0 l.leaves l.i c.if-i-n.leaves (omega arith) x l.invariant.2))
     (λ c.
-    let l = c.before.loop in
+    let l = c.before.loop-i in
     let a = c.before.before.args in
-    filled_all (joined_at a.n a.t2 a.ys) 0 max_leaves l.i l.leaves l.invariant.1 c.loop-test.false l.invariant.2))
+    filled_all (joined_at a.n a.t2 a.ys) 0 max_leaves l.i l.leaves l.invariant.1 c.loop-i-test.false l.invariant.2))

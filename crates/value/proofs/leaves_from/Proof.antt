@@ -9,10 +9,10 @@ use Rattle.tophat.specs.Syntax.{max_leaves}
 use Rattle.value.proofs.leaves_from.Statement.{statement}
 use Rattle.value.proofs.leaves_from.Tie as tie
 
-abbrev invariant-loop : tie.invariant-loop
+abbrev invariant-loop : tie.invariant-loop-i
 invariant-loop n xs leaves₀ i₀ leaves i = (i ≤ max_leaves) × (length leaves ≡ max_leaves) × FilledTo (λ j. get_or xs (n + j) 0) 0 i leaves
 
-abbrev decreases-loop : tie.decreases-loop
+abbrev decreases-loop : tie.decreases-loop-i
 decreases-loop n xs leaves₀ i₀ leaves i = max_leaves - i
 
 pub leaves_from_spec : {M : Type 1} → statement M
@@ -24,11 +24,11 @@ leaves_from_spec = tie.close (tie.spec
     (λ c.
     let loop = c.before.before in
     let start = loop.before in
-    let l = loop.loop in
+    let l = loop.loop-i in
     let a = start.args in
     let x = c.leaf.result in
     (omega arith, length-set l.leaves l.i x ∙ l.invariant.1, filled_more (λ j. get_or a.xs (a.n + j) 0) 0 l.leaves l.i x (omega arith) c.leaf.ensures l.invariant.2))
     (λ c.
-    let l = c.before.loop in
+    let l = c.before.loop-i in
     let a = c.before.before.args in
-    filled_all (λ j. get_or a.xs (a.n + j) 0) 0 max_leaves l.i l.leaves l.invariant.1 c.loop-test.false l.invariant.2))
+    filled_all (λ j. get_or a.xs (a.n + j) 0) 0 max_leaves l.i l.leaves l.invariant.1 c.loop-i-test.false l.invariant.2))

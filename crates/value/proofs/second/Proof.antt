@@ -16,5 +16,5 @@ second_spec = tie.close (tie.spec
     let first_shape_lem = Leaves-of.before in
     let start = first_shape_lem.before.before in
     let a = start.args in
-    made c.second-shape.ensures
-    (leaves_from_point.leaves-from.ensures ∙ ap (λ n. leaves_from n a.a.leaves) (Leaves-of.Leaves-of.ensures.0 ∙ ap shape_leaves first_shape_lem.first-shape.ensures))))
+    made c.second_shape.ensures
+    (leaves_from_point.leaves_from-leaves.ensures ∙ ap (λ n. leaves_from n a.a.leaves) (Leaves-of.Leaves-of.ensures.0 ∙ ap shape_leaves first_shape_lem.first_shape.ensures))))

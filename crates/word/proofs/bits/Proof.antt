@@ -12,11 +12,11 @@ use Rattle.word.proofs.bits.Statement.{statement}
 use Rattle.word.proofs.bits.Tie as tie
 
 -- x is negative, and y is -1 - x
-module _ (c : tie.Then1) where
+module _ (c : tie.Then-x-lt0) where
   facts : (negsuc 0 -ℤ to_z w32 (of_z w32 c.before.args.x) ≡ pos (4294967295 - of_z w32 c.before.args.x)) × (half ≤ of_z w32 c.before.args.x) × (of_z w32 c.before.args.x < words)
   facts =
       let b = number_bits c.before.args.x c.before.ranges.x.sfits in
-      let n = negative c.before.args.x c.before.ranges.x.sfits (rw b at c.if1.true) in
+      let n = negative c.before.args.x c.before.ranges.x.sfits (rw b at c.if-x-lt0.true) in
       (rw b n.0, n.1, n.2)
 
   fits_y : SFits w32 (negsuc 0 -ℤ to_z w32 (of_z w32 c.before.args.x))
@@ -26,11 +26,11 @@ module _ (c : tie.Then1) where
   y_is = number_bits (negsuc 0 -ℤ to_z w32 (of_z w32 c.before.args.x)) fits_y.sfits ∙ facts.0
 
 -- x is not, and is its bits
-x_is : (c : tie.Else1) → (to_z w32 (of_z w32 c.before.args.x) ≡ pos (of_z w32 c.before.args.x)) × (of_z w32 c.before.args.x < half)
+x_is : (c : tie.Else-x-lt0) → (to_z w32 (of_z w32 c.before.args.x) ≡ pos (of_z w32 c.before.args.x)) × (of_z w32 c.before.args.x < half)
 x_is c =
     let start = c.before in
     let b = number_bits start.args.x start.ranges.x.sfits in
-    let n = natural start.args.x start.ranges.x.sfits (rw b at c.if1.false) in
+    let n = natural start.args.x start.ranges.x.sfits (rw b at c.if-x-lt0.false) in
     (b ∙ n.0, n.1)
 
 pub bits_spec : {M : Type 1} → statement M

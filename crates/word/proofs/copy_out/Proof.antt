@@ -14,22 +14,22 @@ use Rattle.word.proofs.Laid.{laid_more, laid_done, all_read, all_written}
 use Rattle.word.proofs.copy_out.Statement.{statement}
 use Rattle.word.proofs.copy_out.Tie as tie
 
-abbrev invariant-loop : tie.invariant-loop
+abbrev invariant-loop : tie.invariant-loop-i
 invariant-loop own lent₀ i₀ i-end lent i =
     (i-end ≡ length lent₀) × (i ≤ length own) × (i ≤ length lent₀) × (length lent ≡ length lent₀) × (lent ≡ map (to_z w32) (take i own) ++ drop i lent₀)
 
-abbrev decreases-loop : tie.decreases-loop
+abbrev decreases-loop : tie.decreases-loop-i
 decreases-loop own lent₀ i₀ i-end lent i = i-end - i
 
 pub copy_out_spec : {M : Type 1} → statement M
 copy_out_spec = tie.close (tie.spec invariant-loop decreases-loop
     (λ c. (refl, search rules, search rules, refl, refl))
-    (λ c. c.before.before.loop.invariant.3)
+    (λ c. c.before.before.loop-i.invariant.3)
     (λ c.
     let loop = c.before.before in
     let start = loop.before.before in
     let a = start.args in
-    let l = loop.loop in
+    let l = loop.loop-i in
     laid_done a.own.now a.lent.now l.i (to_z w32) l.lent
     (all_read a.own.now a.lent.now l.i (omega arith) (omega arith) (omega arith)) l.invariant.4)
     (λ c. search rules)
@@ -43,13 +43,13 @@ copy_out_spec = tie.close (tie.spec invariant-loop decreases-loop
     let loop = c.before.before.before.before in
     let start = loop.before.before in
     let a = start.args in
-    let l = loop.loop in
-    (l.invariant.0, omega arith, omega arith, simp length-set l.invariant.3, laid_more (to_z w32) a.own.now a.lent.now l.lent l.i 0 (pos 0) (to_z w32 (of_z w32 c.number.result)) (omega arith) (omega arith) l.invariant.4 (number_bits c.number.result c.number.type-inv ∙ c.number.ensures)))
-    (λ c. c.before.loop.invariant.3)
+    let l = loop.loop-i in
+    (l.invariant.0, omega arith, omega arith, simp length-set l.invariant.3, laid_more (to_z w32) a.own.now a.lent.now l.lent l.i 0 (pos 0) (to_z w32 (of_z w32 c.number-z.result)) (omega arith) (omega arith) l.invariant.4 (number_bits c.number-z.result c.number-z.type-inv ∙ c.number-z.ensures)))
+    (λ c. c.before.loop-i.invariant.3)
     (λ c.
     let loop = c.before in
     let start = loop.before.before in
     let a = start.args in
-    let l = loop.loop in
+    let l = loop.loop-i in
     laid_done a.own.now a.lent.now l.i (to_z w32) l.lent
     (all_written a.own.now a.lent.now l.i (omega arith) (omega arith) (omega arith)) l.invariant.4))

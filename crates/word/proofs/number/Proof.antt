@@ -11,7 +11,7 @@ use Rattle.word.proofs.Signs.{less_pos}
 use Rattle.word.proofs.number.Statement.{statement}
 use Rattle.word.proofs.number.Tie as tie
 
-y_is : (c : tie.Else1) → negsuc 0 -ℤ to_z w32 (4294967295 - c.before.args.u) ≡ negsuc (4294967295 - c.before.args.u)
+y_is : (c : tie.Else-u-lt2147483648) → negsuc 0 -ℤ to_z w32 (4294967295 - c.before.args.u) ≡ negsuc (4294967295 - c.before.args.u)
 y_is c = rw (number_low (4294967295 - c.before.args.u) (omega arith)) (less_pos (4294967295 - c.before.args.u))
 
 pub number_spec : {M : Type 1} → statement M

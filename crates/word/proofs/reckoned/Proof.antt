@@ -13,15 +13,15 @@ use Rattle.word.proofs.reckoned.Tie as tie
 back : (s : tie.Start) → to_z w64 (of_z w64 s.args.z) ≡ s.args.z
 back s = wide_is s.args.z s.ranges.z
 
-z_word : (c : tie.Else2) → IsWord c.before.before.args.z
+z_word : (c : tie.Else-z-gt-GREATEST) → IsWord c.before.before.args.z
 z_word c =
     let s = c.before.before in
-    within s.args.z (rw (back s) at c.before.if1.false) (rw (back s) at c.if2.false)
+    within s.args.z (rw (back s) at c.before.if-z-lt-LEAST.false) (rw (back s) at c.if-z-gt-GREATEST.false)
 
 pub reckoned_spec : {M : Type 1} → statement M
 reckoned_spec = tie.close (tie.spec
-    (λ c. let s = c.before in sym (beyond_low s.args.z (rw (back s) at c.if1.true)))
-    (λ c. let s = c.before.before in sym (beyond_high s.args.z (rw (back s) at c.if2.true)))
+    (λ c. let s = c.before in sym (beyond_low s.args.z (rw (back s) at c.if-z-lt-LEAST.true)))
+    (λ c. let s = c.before.before in sym (beyond_high s.args.z (rw (back s) at c.if-z-gt-GREATEST.true)))
     (λ c. let s = c.before.before in rw (back s) (record { sfits = z_word c }))
     (λ c κs. search rules)
     (λ c.

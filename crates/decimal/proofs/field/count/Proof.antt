@@ -9,10 +9,10 @@ use Rattle.decimal.proofs.ReadLaws.{count_more, count_low, count_high, count_led
 use Rattle.decimal.proofs.field.count.Statement.{statement}
 use Rattle.decimal.proofs.field.count.Tie as tie
 
-abbrev invariant-loop : tie.invariant-loop
+abbrev invariant-loop : tie.invariant-loop-i
 invariant-loop s at end most n₀ i₀ n i = (i ≤ end) × (n ≤ most) × (counted most 0 (slice at end s) ≡ counted most n (slice i end s))
 
-abbrev decreases-loop : tie.decreases-loop
+abbrev decreases-loop : tie.decreases-loop-i
 decreases-loop s at end most n₀ i₀ n i = end - i
 
 pub count_spec : {M : Type 1} → statement M
@@ -23,16 +23,16 @@ count_spec = tie.close (tie.spec invariant-loop decreases-loop
     let test = c.before.before in
     let loop = test.before in
     let start = loop.before in
-    let l = loop.loop in
+    let l = loop.loop-i in
     sym
-    (l.invariant.2 ∙ count_low start.args.most l.n start.args.s.now l.i start.args.end test.loop-test.true start.requires.1 (omega arith)))
+    (l.invariant.2 ∙ count_low start.args.most l.n start.args.s.now l.i start.args.end test.loop-i-test.true start.requires.1 (omega arith)))
     (λ c.
     let test = c.before.before.before in
     let loop = test.before in
     let start = loop.before in
-    let l = loop.loop in
+    let l = loop.loop-i in
     sym
-    (l.invariant.2 ∙ count_high start.args.most l.n start.args.s.now l.i start.args.end test.loop-test.true start.requires.1 (omega arith)))
+    (l.invariant.2 ∙ count_high start.args.most l.n start.args.s.now l.i start.args.end test.loop-i-test.true start.requires.1 (omega arith)))
     (λ c. search rules)
     (λ c. search rules)
     (λ c. search rules)
@@ -41,16 +41,16 @@ count_spec = tie.close (tie.spec invariant-loop decreases-loop
     let test = c.before.before.before.before in
     let loop = test.before in
     let start = loop.before in
-    let l = loop.loop in
+    let l = loop.loop-i in
     sym
-    (l.invariant.2 ∙ count_led start.args.most l.n start.args.s.now l.i start.args.end test.loop-test.true start.requires.1 (omega arith)))
+    (l.invariant.2 ∙ count_led start.args.most l.n start.args.s.now l.i start.args.end test.loop-i-test.true start.requires.1 (omega arith)))
     (λ c.
     let test = c.before.before.before.before.before in
     let loop = test.before in
     let start = loop.before in
-    let l = loop.loop in
+    let l = loop.loop-i in
     sym
-    (l.invariant.2 ∙ count_over start.args.most l.n start.args.s.now l.i start.args.end test.loop-test.true start.requires.1 (omega arith)))
+    (l.invariant.2 ∙ count_over start.args.most l.n start.args.s.now l.i start.args.end test.loop-i-test.true start.requires.1 (omega arith)))
     (λ c. search rules)
     (λ c. search rules)
     (λ c. search rules)
@@ -58,6 +58,6 @@ count_spec = tie.close (tie.spec invariant-loop decreases-loop
     let test = c.before.before.before.before.before in
     let loop = test.before in
     let start = loop.before in
-    let l = loop.loop in
-    (omega arith, omega arith, l.invariant.2 ∙ count_more start.args.most l.n start.args.s.now l.i start.args.end test.loop-test.true start.requires.1 (omega arith) (omega arith) (omega arith) (omega arith)))
-    (λ c. let s = c.before.before in let l = c.before.loop in count_none s.args.most l.n s.args.s.now l.i s.args.end (omega arith) ∙ sym l.invariant.2))
+    let l = loop.loop-i in
+    (omega arith, omega arith, l.invariant.2 ∙ count_more start.args.most l.n start.args.s.now l.i start.args.end test.loop-i-test.true start.requires.1 (omega arith) (omega arith) (omega arith) (omega arith)))
+    (λ c. let s = c.before.before in let l = c.before.loop-i in count_none s.args.most l.n s.args.s.now l.i s.args.end (omega arith) ∙ sym l.invariant.2))

@@ -8,16 +8,16 @@ use Rattle.decimal.proofs.WriteLaws.{length_digits, decimal_count, decimal_0}
 use Rattle.decimal.proofs.field.digits_of.Statement.{statement}
 use Rattle.decimal.proofs.field.digits_of.Tie as tie
 
-abbrev invariant-loop : tie.invariant-loop
+abbrev invariant-loop : tie.invariant-loop-m
 invariant-loop n m₀ k₀ m k = k + length (decimal m) ≡ length (decimal n)
 
-abbrev decreases-loop : tie.decreases-loop
+abbrev decreases-loop : tie.decreases-loop-m
 decreases-loop n m₀ k₀ m k = m
 
 pub digits_of_spec : {M : Type 1} → statement M
 digits_of_spec = tie.close (tie.spec invariant-loop decreases-loop
     (λ c. omega arith)
-    (λ c. let s = c.before.before in let l = c.before.loop in omega (arith, l.invariant, decimal_count l.m c.loop-test.true, length_digits s.args.n s.args.n))
+    (λ c. let s = c.before.before in let l = c.before.loop-m in omega (arith, l.invariant, decimal_count l.m c.loop-m-test.true, length_digits s.args.n s.args.n))
     (λ c. omega arith)
-    (λ c. let l = c.before.loop in omega (arith, l.invariant, decimal_count l.m c.loop-test.true))
-    (λ c. let s = c.before.before in let l = c.before.loop in let z = ap length (decimal_0 l.m (omega arith)) in (omega (arith, l.invariant, z), omega (arith, l.invariant, z, length_digits s.args.n s.args.n))))
+    (λ c. let l = c.before.loop-m in omega (arith, l.invariant, decimal_count l.m c.loop-m-test.true))
+    (λ c. let s = c.before.before in let l = c.before.loop-m in let z = ap length (decimal_0 l.m (omega arith)) in (omega (arith, l.invariant, z), omega (arith, l.invariant, z, length_digits s.args.n s.args.n))))

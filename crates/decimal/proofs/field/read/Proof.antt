@@ -13,25 +13,25 @@ read_spec = tie.close (tie.spec
     let has = c.before in
     let start = has.before.before in
     field_none start.args.s.now start.args.at start.args.width
-    (no_room start.args.at start.args.width (length start.args.s.now) has.has.result has.has.ensures c.if1.true))
+    (no_room start.args.at start.args.width (length start.args.s.now) has.has.result has.has.ensures c.if-not-has.true))
     (λ c.
     let has = c.before in
     let start = has.before.before in
-    omega (arith, room start.args.at start.args.width (length start.args.s.now) has.has.result has.has.ensures c.if1.false))
+    omega (arith, room start.args.at start.args.width (length start.args.s.now) has.has.result has.has.ensures c.if-not-has.false))
     (λ c κs.
     let has = c.before in
     let start = has.before.before in
-    (omega arith, room start.args.at start.args.width (length start.args.s.now) has.has.result has.has.ensures c.if1.false))
+    (omega arith, room start.args.at start.args.width (length start.args.s.now) has.has.result has.has.ensures c.if-not-has.false))
     (λ c κs.
     let if1 = c.before in
     let has = if1.before in
     let start = has.before.before in
-    (c.past-spaces.ensures.1, room start.args.at start.args.width (length start.args.s.now) has.has.result has.has.ensures if1.if1.false))
+    (c.past_spaces-i.ensures.1, room start.args.at start.args.width (length start.args.s.now) has.has.result has.has.ensures if1.if-not-has.false))
     (λ c.
     let past_spaces = c.before in
     let if1 = past_spaces.before in
     let has = if1.before in
     let start = has.before.before in
-    field_read start.args.s.now start.args.at start.args.width past_spaces.past-spaces.result c.read-text.result
-    (room start.args.at start.args.width (length start.args.s.now) has.has.result has.has.ensures if1.if1.false)
-    past_spaces.past-spaces.ensures.2 c.read-text.ensures))
+    field_read start.args.s.now start.args.at start.args.width past_spaces.past_spaces-i.result c.read_text.result
+    (room start.args.at start.args.width (length start.args.s.now) has.has.result has.has.ensures if1.if-not-has.false)
+    past_spaces.past_spaces-i.ensures.2 c.read_text.ensures))

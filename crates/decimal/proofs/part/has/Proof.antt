@@ -10,4 +10,4 @@ use Rattle.decimal.proofs.part.has.Tie as tie
 pub has_spec : {M : Type 1} → statement M
 has_spec = tie.close (tie.spec
     (λ c. let s = c.before in sym (lt-leb (s.args.at + s.args.width) s.args.len (omega arith)))
-    (λ c. let s = c.before in has_rest s.args.len s.args.at s.args.width c.if1.false))
+    (λ c. let s = c.before in has_rest s.args.len s.args.at s.args.width c.if-len-at.false))

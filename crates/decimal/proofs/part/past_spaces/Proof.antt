@@ -9,10 +9,10 @@ use Rattle.decimal.proofs.ReadLaws.{trim_space, trim_stop, trim_none}
 use Rattle.decimal.proofs.part.past_spaces.Statement.{statement}
 use Rattle.decimal.proofs.part.past_spaces.Tie as tie
 
-abbrev invariant-loop : tie.invariant-loop
+abbrev invariant-loop : tie.invariant-loop-i
 invariant-loop s at end i₀ i = (at ≤ i) × (i ≤ end) × (trimmed (slice at end s) ≡ trimmed (slice i end s))
 
-abbrev decreases-loop : tie.decreases-loop
+abbrev decreases-loop : tie.decreases-loop-i
 decreases-loop s at end i₀ i = end - i
 
 pub past_spaces_spec : {M : Type 1} → statement M
@@ -23,14 +23,14 @@ past_spaces_spec = tie.close (tie.spec invariant-loop decreases-loop
     let test = c.before.before in
     let loop = test.before in
     let start = loop.before in
-    let l = loop.loop in
-    (l.invariant.0, l.invariant.1, l.invariant.2 ∙ trim_stop start.args.s.now l.i start.args.end test.loop-test.true start.requires.1 c.if1.true))
+    let l = loop.loop-i in
+    (l.invariant.0, l.invariant.1, l.invariant.2 ∙ trim_stop start.args.s.now l.i start.args.end test.loop-i-test.true start.requires.1 c.if-s-i-ne-SPACE.true))
     (λ c. search rules)
     (λ c. search rules)
     (λ c.
     let test = c.before.before in
     let loop = test.before in
     let start = loop.before in
-    let l = loop.loop in
-    (omega arith, omega arith, l.invariant.2 ∙ trim_space start.args.s.now l.i start.args.end test.loop-test.true start.requires.1 c.if1.false))
-    (λ c. let s = c.before.before in let l = c.before.loop in (l.invariant.0, l.invariant.1, l.invariant.2 ∙ trim_none s.args.s.now l.i s.args.end (omega arith))))
+    let l = loop.loop-i in
+    (omega arith, omega arith, l.invariant.2 ∙ trim_space start.args.s.now l.i start.args.end test.loop-i-test.true start.requires.1 c.if-s-i-ne-SPACE.false))
+    (λ c. let s = c.before.before in let l = c.before.loop-i in (l.invariant.0, l.invariant.1, l.invariant.2 ∙ trim_none s.args.s.now l.i s.args.end (omega arith))))

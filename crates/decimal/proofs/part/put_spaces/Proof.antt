@@ -10,10 +10,10 @@ use Rattle.decimal.proofs.WriteLaws.{spaces_more}
 use Rattle.decimal.proofs.part.put_spaces.Statement.{statement}
 use Rattle.decimal.proofs.part.put_spaces.Tie as tie
 
-abbrev invariant-loop : tie.invariant-loop
+abbrev invariant-loop : tie.invariant-loop-i
 invariant-loop s₀ at n i₀ s i = (i ≤ n) × (length s ≡ length s₀) × (s ≡ sets s₀ at (replicate i space))
 
-abbrev decreases-loop : tie.decreases-loop
+abbrev decreases-loop : tie.decreases-loop-i
 decreases-loop s₀ at n i₀ s i = n - i
 
 pub put_spaces_spec : {M : Type 1} → statement M
@@ -23,6 +23,6 @@ put_spaces_spec = tie.close (tie.spec invariant-loop decreases-loop
     (λ c. search rules)
     (λ c. search rules)
     (λ c. search rules)
-    (λ c. let s = c.before.before in let l = c.before.loop in (omega arith, length-set l.s (s.args.at + l.i) space ∙ l.invariant.1, spaces_more s.args.s.now s.args.at l.i l.s l.invariant.2))
-    (λ c. let l = c.before.loop in l.invariant.1)
-    (λ c. let s = c.before.before in let l = c.before.loop in let e : l.i ≡ s.args.n = omega arith in l.invariant.2 ∙ ap (λ k. sets s.args.s.now s.args.at (replicate k space)) e))
+    (λ c. let s = c.before.before in let l = c.before.loop-i in (omega arith, length-set l.s (s.args.at + l.i) space ∙ l.invariant.1, spaces_more s.args.s.now s.args.at l.i l.s l.invariant.2))
+    (λ c. let l = c.before.loop-i in l.invariant.1)
+    (λ c. let s = c.before.before in let l = c.before.loop-i in let e : l.i ≡ s.args.n = omega arith in l.invariant.2 ∙ ap (λ k. sets s.args.s.now s.args.at (replicate k space)) e))

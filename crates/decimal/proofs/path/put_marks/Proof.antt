@@ -10,10 +10,10 @@ use Rattle.decimal.proofs.PathLaws.{Laid, laid_0, laid_room, laid_more, laid_all
 use Rattle.decimal.proofs.path.put_marks.Statement.{statement}
 use Rattle.decimal.proofs.path.put_marks.Tie as tie
 
-abbrev invariant-loop : tie.invariant-loop
+abbrev invariant-loop : tie.invariant-loop-p
 invariant-loop s₀ at path p₀ i₀ s p i = (length s ≡ length s₀) × Laid path p at i s₀ s
 
-abbrev decreases-loop : tie.decreases-loop
+abbrev decreases-loop : tie.decreases-loop-p
 decreases-loop s₀ at path p₀ i₀ s p i = p
 
 pub put_marks_spec : {M : Type 1} → statement M
@@ -22,10 +22,10 @@ put_marks_spec = tie.close (tie.spec invariant-loop decreases-loop
     (λ c. search rules)
     (λ c. search rules)
     (λ c. search rules)
-    (λ c. let s = c.before.before in let l = c.before.loop in omega (arith, s.requires, l.invariant.0, laid_room s.args.path l.p s.args.at l.i s.args.s.now l.s l.invariant.1, length_front l.p c.loop-test.true))
+    (λ c. let s = c.before.before in let l = c.before.loop-p in omega (arith, s.requires, l.invariant.0, laid_room s.args.path l.p s.args.at l.i s.args.s.now l.s l.invariant.1, length_front l.p c.loop-p-test.true))
     (λ c. search rules)
-    (λ c. let s = c.before.before in let l = c.before.loop in omega (arith, s.requires, l.invariant.0, laid_room s.args.path l.p s.args.at l.i s.args.s.now l.s l.invariant.1, length_front l.p c.loop-test.true))
+    (λ c. let s = c.before.before in let l = c.before.loop-p in omega (arith, s.requires, l.invariant.0, laid_room s.args.path l.p s.args.at l.i s.args.s.now l.s l.invariant.1, length_front l.p c.loop-p-test.true))
     (λ c. search rules)
-    (λ c. let s = c.before.before in let l = c.before.loop in (length-set l.s l.i (nought + 2 - l.p % 2) ∙ l.invariant.0, laid_more s.args.path l.p s.args.at l.i s.args.s.now l.s c.loop-test.true l.invariant.1))
-    (λ c. let l = c.before.loop in l.invariant.0)
-    (λ c. let s = c.before.before in let l = c.before.loop in laid_all s.args.path l.p s.args.at l.i s.args.s.now l.s (omega arith) l.invariant.1))
+    (λ c. let s = c.before.before in let l = c.before.loop-p in (length-set l.s l.i (nought + 2 - l.p % 2) ∙ l.invariant.0, laid_more s.args.path l.p s.args.at l.i s.args.s.now l.s c.loop-p-test.true l.invariant.1))
+    (λ c. let l = c.before.loop-p in l.invariant.0)
+    (λ c. let s = c.before.before in let l = c.before.loop-p in laid_all s.args.path l.p s.args.at l.i s.args.s.now l.s (omega arith) l.invariant.1))

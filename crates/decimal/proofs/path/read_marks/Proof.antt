@@ -10,10 +10,10 @@ use Rattle.decimal.proofs.PathLaws.{marks_small, marks_end, marks_more, marks_no
 use Rattle.decimal.proofs.path.read_marks.Statement.{statement}
 use Rattle.decimal.proofs.path.read_marks.Tie as tie
 
-abbrev invariant-loop : tie.invariant-loop
+abbrev invariant-loop : tie.invariant-loop-i
 invariant-loop s at end path₀ i₀ path i = (at ≤ i) × (i ≤ end) × (marks (slice i end s) ≡ some (path_of path))
 
-abbrev decreases-loop : tie.decreases-loop
+abbrev decreases-loop : tie.decreases-loop-i
 decreases-loop s at end path₀ i₀ path i = i - at
 
 pub read_marks_spec : {M : Type 1} → statement M
@@ -26,34 +26,34 @@ read_marks_spec = tie.close (tie.spec invariant-loop decreases-loop
     let test = c.before.before in
     let loop = test.before in
     let start = loop.before in
-    let l = loop.loop in
-    marks_not start.args.s.now start.args.at l.i start.args.end start.requires.1 test.loop-test.true l.invariant.1
-    (λ e. omega (arith, e, c.if1.true)) (λ e. omega (arith, e, c.if1.true)))
+    let l = loop.loop-i in
+    marks_not start.args.s.now start.args.at l.i start.args.end start.requires.1 test.loop-i-test.true l.invariant.1
+    (λ e. omega (arith, e, c.if-b.true)) (λ e. omega (arith, e, c.if-b.true)))
     (λ c. search rules)
     (λ c.
     let test = c.before.before.before in
     let loop = test.before in
     let start = loop.before in
-    let l = loop.loop in
-    marks_not start.args.s.now start.args.at l.i start.args.end start.requires.1 test.loop-test.true l.invariant.1
-    (λ e. omega (arith, e, c.if2.true)) (λ e. omega (arith, e, c.if2.true)))
+    let l = loop.loop-i in
+    marks_not start.args.s.now start.args.at l.i start.args.end start.requires.1 test.loop-i-test.true l.invariant.1
+    (λ e. omega (arith, e, c.if-b-2.true)) (λ e. omega (arith, e, c.if-b-2.true)))
     (λ c.
     let loop = c.before.before.before.before in
     let start = loop.before in
-    let l = loop.loop in
+    let l = loop.loop-i in
     omega (arith, marks_small start.args.s.now l.i start.args.end start.requires.1 l.path (omega arith) l.invariant.2))
     (λ c. search rules)
     (λ c. search rules)
     (λ c.
     let loop = c.before.before.before.before in
     let start = loop.before in
-    let l = loop.loop in
-    omega (arith, c.if2.false, marks_small start.args.s.now l.i start.args.end start.requires.1 l.path (omega arith) l.invariant.2))
+    let l = loop.loop-i in
+    omega (arith, c.if-b-2.false, marks_small start.args.s.now l.i start.args.end start.requires.1 l.path (omega arith) l.invariant.2))
     (λ c. search rules)
     (λ c. search rules)
     (λ c.
     let loop = c.before.before.before.before in
     let start = loop.before in
-    let l = loop.loop in
+    let l = loop.loop-i in
     (omega arith, omega arith, marks_more start.args.s.now l.i start.args.end start.requires.1 (omega arith) l.invariant.1 l.path l.invariant.2 (omega arith) (omega arith)))
-    (λ c. let s = c.before.before in let l = c.before.loop in marks_all s.args.s.now s.args.at l.i s.args.end l.path (omega arith) l.invariant.2))
+    (λ c. let s = c.before.before in let l = c.before.loop-i in marks_all s.args.s.now s.args.at l.i s.args.end l.path (omega arith) l.invariant.2))

@@ -9,44 +9,44 @@ use Rattle.flow.proofs.EventLaws.{some_leaf, no_leaf, one_more}
 use Rattle.flow.proofs.event.all_zero.Statement.{statement}
 use Rattle.flow.proofs.event.all_zero.Tie as tie
 
-abbrev invariant-loop : tie.invariant-loop
+abbrev invariant-loop : tie.invariant-loop-k
 invariant-loop leaves k₀ k = (k ≤ max_leaves) × ((i : ℕ) → i < k → get_or leaves i 0 ≡ 0)
 
-abbrev decreases-loop : tie.decreases-loop
+abbrev decreases-loop : tie.decreases-loop-k
 decreases-loop leaves k₀ k = max_leaves - k
 
-loop_holds : tie.Need-loop-init invariant-loop decreases-loop
+loop_holds : tie.Need-loop-k-init invariant-loop decreases-loop
 loop_holds c = (omega arith, (λ i l. absurd (omega arith)))
 
 mul_if1 : tie.Need-overflow-mul-if1 invariant-loop decreases-loop
 mul_if1 c = search rules
 
-array_read_if1 : tie.Need-array-read-if1 invariant-loop decreases-loop
+array_read_if1 : tie.Need-bounds-leaves-k invariant-loop decreases-loop
 array_read_if1 c = search rules
 
-returns : tie.Need-returns invariant-loop decreases-loop
+returns : tie.Need-returns-then-leaves-k-ne0 invariant-loop decreases-loop
 returns c =
     let loop = c.before.before in
     let start = loop.before in
-    λ blank z. some_leaf start.args.t1 blank z loop.loop.k (omega arith) c.if1.true
+    λ blank z. some_leaf start.args.t1 blank z loop.loop-k.k (omega arith) c.if-leaves-k-ne0.true
 
 add_k : tie.Need-overflow-add-k invariant-loop decreases-loop
 add_k c = search rules
 
-loop_less : tie.Need-loop-smaller invariant-loop decreases-loop
+loop_less : tie.Need-loop-k-smaller invariant-loop decreases-loop
 loop_less c = omega arith
 
-loop_again : tie.Need-loop-preserved invariant-loop decreases-loop
+loop_again : tie.Need-loop-k-preserved invariant-loop decreases-loop
 loop_again c =
     let loop = c.before.before in
     let start = loop.before in
-    (omega arith, one_more start.args.t1 loop.loop.k loop.loop.invariant.1 c.if1.false)
+    (omega arith, one_more start.args.t1 loop.loop-k.k loop.loop-k.invariant.1 c.if-leaves-k-ne0.false)
 
-returns_2 : tie.Need-returns-2 invariant-loop decreases-loop
+returns_2 : tie.Need-returns invariant-loop decreases-loop
 returns_2 c =
     let loop = c.before in
     let start = loop.before in
-    λ blank z. no_leaf start.args.t1 blank loop.loop.k (omega arith) loop.loop.invariant.1
+    λ blank z. no_leaf start.args.t1 blank loop.loop-k.k (omega arith) loop.loop-k.invariant.1
 
 pub all_zero_spec : {M : Type 1} → statement M
 all_zero_spec =

@@ -6,32 +6,32 @@ use borrow.Author.Rules.{rules}
 use Rattle.flow.proofs.event.known.Statement.{statement}
 use Rattle.flow.proofs.event.known.Tie as tie
 
-returns : tie.Need-returns
-returns c = λ blank z. known_value c.before.args.action (leaves_by c.before.args.leaves blank) c.before.ranges.action.fits c.if1.true
+returns : tie.Need-returns-then-action-eq-GIVE
+returns c = λ blank z. known_value c.before.args.action (leaves_by c.before.args.leaves blank) c.before.ranges.action.fits c.if-action-eq-GIVE.true
 
-returns_2 : tie.Need-returns-2
+returns_2 : tie.Need-returns-then-action-lt-CONTINUE
 returns_2 c =
     let if1 = c.before in
     let start = if1.before in
-    λ blank z. unknown start.args.action (leaves_by start.args.leaves blank) start.ranges.action.fits if1.if1.false (λ e. omega arith) (λ e. omega arith)
+    λ blank z. unknown start.args.action (leaves_by start.args.leaves blank) start.ranges.action.fits if1.if-action-eq-GIVE.false (λ e. omega arith) (λ e. omega arith)
     (λ e. omega arith)
 
-returns_3 : tie.Need-returns-3
+returns_3 : tie.Need-returns-then-action-gt-RIGHT
 returns_3 c =
     let if1 = c.before.before in
     let start = if1.before in
-    λ blank z. unknown start.args.action (leaves_by start.args.leaves blank) start.ranges.action.fits if1.if1.false (λ e. omega arith) (λ e. omega arith)
+    λ blank z. unknown start.args.action (leaves_by start.args.leaves blank) start.ranges.action.fits if1.if-action-eq-GIVE.false (λ e. omega arith) (λ e. omega arith)
     (λ e. omega arith)
 
-all_zero_requires : tie.Need-all-zero-requires
+all_zero_requires : tie.Need-all_zero-requires
 all_zero_requires c κs = search rules
 
-returns_4 : tie.Need-returns-4
+returns_4 : tie.Need-returns
 returns_4 c =
     let if1 = c.before.before.before in
     let start = if1.before in
-    λ blank z. known_other start.args.action (leaves_by start.args.leaves blank) start.ranges.action.fits if1.if1.false (omega arith) (omega arith)
-    c.all-zero.result (c.all-zero.ensures blank z)
+    λ blank z. known_other start.args.action (leaves_by start.args.leaves blank) start.ranges.action.fits if1.if-action-eq-GIVE.false (omega arith) (omega arith)
+    c.all_zero.result (c.all_zero.ensures blank z)
 
 pub known_spec : {M : Type 1} → statement M
 known_spec = tie.close (tie.spec returns returns_2 returns_3 all_zero_requires returns_4)

@@ -6,27 +6,27 @@ use Rattle.flow.proofs.EventLaws.{zero_blanks, says_unread, no_role, no_path, bl
 use Rattle.flow.proofs.event.read_fields.Statement.{statement}
 use Rattle.flow.proofs.event.read_fields.Tie as tie
 
-returns : tie.Need-returns
+returns : tie.Need-returns-then-role-eq0
 returns c =
     let if1 = c.before in
     let role = if1.before in
     let start = role.before.before in
-    says_unread c.unread.result (fields_say start.args.s.now) c.unread.ensures (no_role start.args.s.now role.read-role.result role.read-role.ensures if1.if1.true)
+    says_unread c.unread.result (fields_say start.args.s.now) c.unread.ensures (no_role start.args.s.now role.read_role-role.result role.read_role-role.ensures if1.if-role-eq0.true)
 
-returns_2 : tie.Need-returns-2
+returns_2 : tie.Need-returns-in_default
 returns_2 c =
     let told = c.before in
     let read = told.before.before in
     let if1 = read.before in
     let role = if1.before in
     let start = role.before.before in
-    says_unread c.unread2.result (fields_say start.args.s.now) c.unread2.ensures
-    (no_path start.args.s.now role.read-role.result role.read-role.ensures if1.if1.false (sym told.enum_told.given.1 ∙ read.read.ensures))
+    says_unread c.unread-in_default.result (fields_say start.args.s.now) c.unread-in_default.ensures
+    (no_path start.args.s.now role.read_role-role.result role.read_role-role.ensures if1.if-role-eq0.false (sym told.enum_told-1.given.1 ∙ read.read.ensures))
 
-event_of_requires : tie.Need-event-of-requires
-event_of_requires c κs = zero_blanks c.read-leaves.result _ c.read-leaves.ensures
+event_of_requires : tie.Need-event_of-requires
+event_of_requires c κs = zero_blanks c.read_leaves-leaves.result _ c.read_leaves-leaves.ensures
 
-returns_3 : tie.Need-returns-3
+returns_3 : tie.Need-returns-in-Number
 returns_3 c =
     let leaves = c.before in
     let number = leaves.before.before in
@@ -36,11 +36,11 @@ returns_3 c =
     let if1 = read.before in
     let role = if1.before in
     let start = role.before.before in
-    subst (Says c.event-of.result)
-    (sym (fields_are start.args.s.now role.read-role.result role.read-role.ensures if1.if1.false path.path.given.0.0 (sym path.path.given.1 ∙ read.read.ensures) number.reading.given.0.0 (sym number.reading.given.1 ∙ action.read2.ensures) leaves.read-leaves.result leaves.read-leaves.ensures))
-    c.event-of.ensures
+    subst (Says c.event_of.result)
+    (sym (fields_are start.args.s.now role.read_role-role.result role.read_role-role.ensures if1.if-role-eq0.false path.path-1.given.0.0 (sym path.path-1.given.1 ∙ read.read.ensures) number.reading-1.given.0.0 (sym number.reading-1.given.1 ∙ action.read-reading.ensures) leaves.read_leaves-leaves.result leaves.read_leaves-leaves.ensures))
+    c.event_of.ensures
 
-returns_4 : tie.Need-returns-4
+returns_4 : tie.Need-returns-in-Blank
 returns_4 c =
     let told = c.before in
     let action = told.before.before in
@@ -49,10 +49,10 @@ returns_4 c =
     let if1 = read.before in
     let role = if1.before in
     let start = role.before.before in
-    says_unread c.unread3.result (fields_say start.args.s.now) c.unread3.ensures
-    (blank_action start.args.s.now role.read-role.result role.read-role.ensures if1.if1.false path.path.given.0.0 (sym path.path.given.1 ∙ read.read.ensures) (sym told.enum-told2.given.1 ∙ action.read2.ensures))
+    says_unread c.unread-in-Blank.result (fields_say start.args.s.now) c.unread-in-Blank.ensures
+    (blank_action start.args.s.now role.read_role-role.result role.read_role-role.ensures if1.if-role-eq0.false path.path-1.given.0.0 (sym path.path-1.given.1 ∙ read.read.ensures) (sym told.enum_told-in-Blank-1.given.1 ∙ action.read-reading.ensures))
 
-returns_5 : tie.Need-returns-5
+returns_5 : tie.Need-returns-in-Unreadable
 returns_5 c =
     let told = c.before in
     let action = told.before.before in
@@ -61,8 +61,8 @@ returns_5 c =
     let if1 = read.before in
     let role = if1.before in
     let start = role.before.before in
-    says_unread c.unread4.result (fields_say start.args.s.now) c.unread4.ensures
-    (no_action start.args.s.now role.read-role.result role.read-role.ensures if1.if1.false path.path.given.0.0 (sym path.path.given.1 ∙ read.read.ensures) (sym told.enum-told3.given.1 ∙ action.read2.ensures))
+    says_unread c.unread-in-Unreadable.result (fields_say start.args.s.now) c.unread-in-Unreadable.ensures
+    (no_action start.args.s.now role.read_role-role.result role.read_role-role.ensures if1.if-role-eq0.false path.path-1.given.0.0 (sym path.path-1.given.1 ∙ read.read.ensures) (sym told.enum_told-in-Unreadable-1.given.1 ∙ action.read-reading.ensures))
 
 pub read_fields_spec : {M : Type 1} → statement M
 read_fields_spec = tie.close (tie.spec

@@ -9,26 +9,26 @@ use Rattle.flow.proofs.failed.is_failed.Statement.{statement}
 use Rattle.flow.proofs.failed.is_failed.Tie as tie
 
 -- the two arrays are of one length
-long : (c : tie.After-alike-arg3) → length c.before.before.before.before.before.args.words.now ≡ length c.before.before.before.write-failed.new.1.1.0
+long : (c : tie.After-alike-arg-3-1) → length c.before.before.before.before.before.args.words.now ≡ length c.before.before.before.write_failed.new.1.1.0
 long c =
     let x : length c.before.before.before.before.before.args.words.now ≡ state_size = search rules in
-    let y : length c.before.before.before.write-failed.new.1.1.0 ≡ state_size = search rules in
+    let y : length c.before.before.before.write_failed.new.1.1.0 ≡ state_size = search rules in
     x ∙ sym y
 
-returns : tie.Need-returns
+returns : tie.Need-returns-then-not-alike
 returns c =
     let alike = c.before in
     let written = alike.before.before.before.before in
-    failed_differ written.write-failed.ensures alike.alike.ensures c.if1.true
+    failed_differ written.write_failed.ensures alike.alike.ensures c.if-not-alike.true
 
-returns_2 : tie.Need-returns-2
+returns_2 : tie.Need-returns
 returns_2 c =
     let cleared = c.before.before.before in
     let if1 = cleared.before.before in
     let alike = if1.before in
     let written = alike.before.before.before.before in
     let start = written.before.before in
-    failed_tried written.write-failed.ensures alike.alike.ensures if1.if1.false (long alike.before) start.requires.1.0 cleared.clear-row.ensures c.evaluate.ensures
+    failed_tried written.write_failed.ensures alike.alike.ensures if1.if-not-alike.false (long alike.before) start.requires.1.0 cleared.clear_row.ensures c.evaluate.ensures
 
 pub is_failed_spec : {M : Type 1} → statement M
 is_failed_spec = tie.close (tie.spec
@@ -40,7 +40,7 @@ is_failed_spec = tie.close (tie.spec
     let l = s.requires.0.0 in
     let h = s.requires.0.1.low in
     let x : length s.args.words.now ≡ state_size = search rules in
-    let y : length written.write-failed.new.1.1.0 ≡ state_size = search rules in
+    let y : length written.write_failed.new.1.1.0 ≡ state_size = search rules in
     (omega (arith, l, h, x), omega (arith, l, h, y)))
     returns
     (λ c. search rules)

@@ -13,4 +13,4 @@ write_failed_spec = tie.close (tie.spec
     (λ c.
     let cells = c.before.before in
     let start = cells.before.before in
-    writes_failed start.requires.1 cells.first-cells.ensures c.put-tag.ensures))
+    writes_failed start.requires.1 cells.first_cells.ensures c.put_tag.ensures))

@@ -18,7 +18,7 @@ content_spec = tie.close (tie.spec
     let get = cell_shape.before in
     let start = get.before in
     let a = start.args in
-    content_truth a.rows.now a.row cell_shape.cell-shape.ensures get.get.ensures if1.if1.true _ refl c.truth.ensures)
+    content_truth a.rows.now a.row cell_shape.cell_shape.ensures get.get-w.ensures if1.if-cell_shape-eq-TRUTH.true _ refl c.truth.ensures)
     (λ c κs. search rules)
     (λ c.
     let if1 = c.before in
@@ -26,4 +26,4 @@ content_spec = tie.close (tie.spec
     let get = cell_shape.before in
     let start = get.before in
     let a = start.args in
-    content_number a.rows.now a.row cell_shape.cell-shape.ensures get.get.ensures if1.if1.false c.number.ensures))
+    content_number a.rows.now a.row cell_shape.cell_shape.ensures get.get-w.ensures if1.if-cell_shape-eq-TRUTH.false c.number.ensures))

@@ -7,17 +7,17 @@ use Rattle.flow.proofs.firsts.first_cell.Tie as tie
 get_requires' : tie.Need-get-requires
 get_requires' = λ c κs. search rules
 
-content_requires' : tie.Need-content-requires
+content_requires' : tie.Need-content-v-requires
 content_requires' = λ c κs. search rules
 
-put_value_requires' : tie.Need-put-value-requires
+put_value_requires' : tie.Need-put_value-requires
 put_value_requires' = λ c κs. search rules
 
-returns' : tie.Need-returns
-returns' = λ c. let a = c.before.before.before.before.before.args in first_is a.rows.now a.row c.before.before.before.before.get.ensures c.before.before.before.if1.true c.before.before.content.ensures c.put-value.ensures
+returns' : tie.Need-returns-then-get-eq-CELL
+returns' = λ c. let a = c.before.before.before.before.before.args in first_is a.rows.now a.row c.before.before.before.before.get.ensures c.before.before.before.if-get-eq-CELL.true c.before.before.content-v.ensures c.put_value.ensures
 
-returns_2' : tie.Need-returns-2
-returns_2' = λ c. let a = c.before.before.args in first_none a.rows.now a.row c.before.get.ensures c.if1.false
+returns_2' : tie.Need-returns
+returns_2' = λ c. let a = c.before.before.args in first_none a.rows.now a.row c.before.get.ensures c.if-get-eq-CELL.false
 
 pub first_cell_spec : {M : Type 1} → statement M
 first_cell_spec = tie.close (tie.spec get_requires' content_requires' put_value_requires' returns' returns_2')

@@ -6,26 +6,26 @@ use Rattle.flow.proofs.LookLaws.{fill_fine, fill_shut, fill_8, fill_failed, fill
 use Rattle.flow.proofs.look.fill.Statement.{statement}
 use Rattle.flow.proofs.look.fill.Tie as tie
 
-returns : tie.Need-returns
+returns : tie.Need-returns-then-rest-ne0
 returns c =
     let start_at = c.before.before in
     let start_at_2 = start_at.before.before.before.before in
     let start = start_at_2 in
     let o = start_at.«open» in
-    fill_shut start.args.rows.now start.args.state.now start.args.role start.args.value.now start.args.list.now o.new.1.1.1.0
-    o.new.1.1.1.1.0 o.result o.ensures c.if1.true
+    fill_shut start.args.rows.now start.args.state.now start.args.role start.args.value-1.now start.args.list-1.now o.new.1.1.1.0
+    o.new.1.1.1.1.0 o.result o.ensures c.if-rest-ne0.true
 
-returns_2 : tie.Need-returns-2
+returns_2 : tie.Need-returns-then-not-is_role
 returns_2 c =
     let asked = c.before in
     let if1 = asked.before in
     let opening = if1.before.before in
     let start = opening.before.before.before.before in
     let o = opening.«open» in
-    fill_8 start.args.rows.now start.args.state.now start.args.role start.args.value.now start.args.list.now o.new.1.1.1.0
-    o.new.1.1.1.1.0 o.result o.ensures if1.if1.false (sym asked.is-role.ensures ∙ not-true _ c.if2.true)
+    fill_8 start.args.rows.now start.args.state.now start.args.role start.args.value-1.now start.args.list-1.now o.new.1.1.1.0
+    o.new.1.1.1.1.0 o.result o.ensures if1.if-rest-ne0.false (sym asked.is_role.ensures ∙ not-true _ c.if-not-is_role.true)
 
-returns_3 : tie.Need-returns-3
+returns_3 : tie.Need-returns-then-rest
 returns_3 c =
     let shown = c.before in
     let if3 = shown.before.before in
@@ -35,9 +35,9 @@ returns_3 c =
     let opening = if1.before.before in
     let start = opening.before.before.before.before in
     let o = opening.«open» in
-    let h = shown.show-failed in
-    fill_failed start.args.rows.now start.args.state.now start.args.role start.args.value.now start.args.list.now o.new.1.1.1.0
-    o.new.1.1.1.1.0 o.result o.ensures if1.if1.false (sym asked.is-role.ensures ∙ not-false _ if2.if2.false) if3.if3.true h.result h.new.0 h.ensures
+    let h = shown.show_failed in
+    fill_failed start.args.rows.now start.args.state.now start.args.role start.args.value-1.now start.args.list-1.now o.new.1.1.1.0
+    o.new.1.1.1.1.0 o.result o.ensures if1.if-rest-ne0.false (sym asked.is_role.ensures ∙ not-false _ if2.if-not-is_role.false) if3.if-rest.true h.result h.new.0 h.ensures
 
 show_requires : tie.Need-show-requires
 show_requires c κs =
@@ -46,10 +46,10 @@ show_requires c κs =
     let opening = if1.before.before in
     let start = opening.before.before.before.before in
     let o = opening.«open» in
-    fill_fine start.args.rows.now start.args.state.now start.args.role start.args.value.now start.args.list.now o.new.1.1.1.0
-    o.new.1.1.1.1.0 o.result o.ensures if1.if1.false if3.if3.false
+    fill_fine start.args.rows.now start.args.state.now start.args.role start.args.value-1.now start.args.list-1.now o.new.1.1.1.0
+    o.new.1.1.1.1.0 o.result o.ensures if1.if-rest-ne0.false if3.if-rest.false
 
-returns_4 : tie.Need-returns-4
+returns_4 : tie.Need-returns
 returns_4 c =
     let show = c.before.before.before in
     let if3 = show.before.before.before.before.before in
@@ -60,8 +60,8 @@ returns_4 c =
     let start = opening.before.before.before.before in
     let o = opening.«open» in
     let h = show.show in
-    fill_ready start.args.rows.now start.args.state.now start.args.role start.args.value.now start.args.list.now o.new.1.1.1.0
-    o.new.1.1.1.1.0 o.result o.ensures if1.if1.false (sym asked.is-role.ensures ∙ not-false _ if2.if2.false) if3.if3.false h.result h.new.1.1.1.1.0 h.new.1.1.1.1.1.0 h.ensures
+    fill_ready start.args.rows.now start.args.state.now start.args.role start.args.value-1.now start.args.list-1.now o.new.1.1.1.0
+    o.new.1.1.1.1.0 o.result o.ensures if1.if-rest-ne0.false (sym asked.is_role.ensures ∙ not-false _ if2.if-not-is_role.false) if3.if-rest.false h.result h.new.1.1.1.1.0 h.new.1.1.1.1.1.0 h.ensures
 
 pub fill_spec : {M : Type 1} → statement M
 fill_spec = tie.close (tie.spec (λ c κs. search rules) returns (λ c κs. search rules) returns_2 (λ c κs. search rules) (λ c. search rules) returns_3 show_requires (λ c. search rules) (λ c. search rules) returns_4)

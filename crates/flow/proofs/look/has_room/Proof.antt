@@ -6,12 +6,12 @@ use Rattle.flow.proofs.LookLaws.{room_enough, room_counted}
 use Rattle.flow.proofs.look.has_room.Statement.{statement}
 use Rattle.flow.proofs.look.has_room.Tie as tie
 
-returns : tie.Need-returns
+returns : tie.Need-returns-then-n-room
 returns c =
     let a = c.before.args in
-    room_enough a.role a.own.now a.words.now a.n a.room c.if1.true
+    room_enough a.role a.own.now a.words.now a.n a.room c.if-n-room.true
 
-returns_2 : tie.Need-returns-2
+returns_2 : tie.Need-returns
 returns_2 c =
     let counted = c.before in
     let a = counted.before.before.before.before.args in

@@ -4,13 +4,13 @@ use Rattle.flow.proofs.LookLaws.{part_long, look_is}
 use Rattle.flow.proofs.look.look.Statement.{statement}
 use Rattle.flow.proofs.look.look.Tie as tie
 
-slice_aggregate_result : tie.Need-slice-aggregate-result
+slice_aggregate_result : tie.Need-slice_bounds-result-end
 slice_aggregate_result c =
     let fill = c.before.before.before.before in
     let start_at = fill.before.before.before.before in
     let start = start_at in
-    let f = fill.fill in
-    part_long start.args.rows.now start.args.state.now start.args.role start.args.value.now start.args.list.now f.result f.new.1.1.1.0
+    let f = fill.fill-seen in
+    part_long start.args.rows.now start.args.state.now start.args.role start.args.value-1.now start.args.list-1.now f.result f.new.1.1.1.0
     f.new.1.1.1.1.0 f.ensures
 
 returns : tie.Need-returns
@@ -18,8 +18,8 @@ returns c =
     let fill = c.before.before.before.before in
     let start_at = fill.before.before.before.before in
     let start = start_at in
-    let f = fill.fill in
-    look_is start.args.rows.now start.args.state.now start.args.role start.args.value.now start.args.list.now f.result f.new.1.1.1.0
+    let f = fill.fill-seen in
+    look_is start.args.rows.now start.args.state.now start.args.role start.args.value-1.now start.args.list-1.now f.result f.new.1.1.1.0
     f.new.1.1.1.1.0 f.ensures
 
 pub look_spec : {M : Type 1} → statement M

@@ -6,13 +6,13 @@ use Rattle.flow.proofs.LookLaws.{show_24, show_0}
 use Rattle.flow.proofs.look.show.Statement.{statement}
 use Rattle.flow.proofs.look.show.Tie as tie
 
-returns : tie.Need-returns
+returns : tie.Need-returns-then-not-has_room
 returns c =
     let asked = c.before in
     let a = asked.before.before.args in
-    show_24 a.role a.own.now a.words.now a.n a.value.now a.list.now asked.has_room.result asked.has_room.ensures (not-true _ c.if1.true)
+    show_24 a.role a.own.now a.words.now a.n a.value-found.now a.list-1.now asked.has_room.result asked.has_room.ensures (not-true _ c.if-not-has_room.true)
 
-returns_2 : tie.Need-returns-2
+returns_2 : tie.Need-returns
 returns_2 c =
     let out = c.before in
     let has = out.before.before in
@@ -23,9 +23,9 @@ returns_2 c =
     let if1 = listed.before.before.before in
     let asked = if1.before in
     let a = asked.before.before.args in
-    let v = found.value in
-    show_0 a.role a.own.now a.words.now a.n a.value.now a.list.now asked.has_room.result asked.has_room.ensures (not-false _ if1.if1.false) listed.entries.ensures.1
-    v.result v.ensures out.value_out.ensures.1 fails.fails.ensures failed.flag.ensures has.flag2.ensures out.value_out.ensures.0
+    let v = found.value-found in
+    show_0 a.role a.own.now a.words.now a.n a.value-found.now a.list-1.now asked.has_room.result asked.has_room.ensures (not-false _ if1.if-not-has_room.false) listed.entries-bytes.ensures.1
+    v.result v.ensures out.value_out.ensures.1 fails.fails.ensures failed.flag-failed.ensures has.flag-has_value.ensures out.value_out.ensures.0
 
 pub show_spec : {M : Type 1} → statement M
 show_spec = tie.close (tie.spec (λ c κs. search rules) returns (λ c. search rules) (λ c κs. (c.before.before.before.before.before.requires.1, at_start)) (λ c. search rules) (λ c κs. search rules) (λ c. search rules)

@@ -17,59 +17,59 @@ use Rattle.state_check.proofs.held.Reads as held_reads
 use Rattle.flow.proofs.failed.is_failed.Reads as is-failed-reads
 use Rattle.flow.proofs.open.not_failed.Reads as not-failed-reads
 
-returns : tie.Need-returns
+returns : tie.Need-returns-then-n-eq0
 returns c =
     let if1 = c.before in
     let rows = if1.before in
     let start = rows.before.before in
-    let q = rows.accepted-rows in
-    subst (OpenOk start.args.rows.now start.args.state.now start.args.fits q.new.1.0 start.args.words.now) (sym c.not-failed.ensures)
-    (open_20 start.args.rows.now start.args.state.now q.new.1.0 start.args.words.now start.args.fits q.result q.ensures.0 if1.if1.true)
+    let q = rows.accepted_rows-n in
+    subst (OpenOk start.args.rows.now start.args.state.now start.args.fits q.new.1.0 start.args.words.now) (sym c.not_failed.ensures)
+    (open_20 start.args.rows.now start.args.state.now q.new.1.0 start.args.words.now start.args.fits q.result q.ensures.0 if1.if-n-eq0.true)
 
 mul_if2 : tie.Need-overflow-mul-if2
 mul_if2 c =
     let if1 = c in
     let rows = if1.before in
     let start = rows.before.before in
-    let q = rows.accepted-rows in
-    let z = (site_of start.args.rows.now q.result q.ensures.0 q.ensures.1.0 q.ensures.1.1.0 if1.if1.false).3 in
+    let q = rows.accepted_rows-n in
+    let z = (site_of start.args.rows.now q.result q.ensures.0 q.ensures.1.0 q.ensures.1.1.0 if1.if-n-eq0.false).3 in
     let f = few_rows z in
     record { fits = omega (arith, f) }
 
-returns_2 : tie.Need-returns-2
+returns_2 : tie.Need-returns-then-state-n
 returns_2 c =
     let if2 = c.before in
     let if1 = if2.before in
     let rows = if1.before in
     let start = rows.before.before in
-    let q = rows.accepted-rows in
-    let z = (site_of start.args.rows.now q.result q.ensures.0 q.ensures.1.0 q.ensures.1.1.0 if1.if1.false).3 in
-    let wr = some_words start.args.rows.now q.result q.ensures.0 q.ensures.1.1.0 if1.if1.false in
-    subst (OpenOk start.args.rows.now start.args.state.now start.args.fits q.new.1.0 start.args.words.now) (sym c.not-failed2.ensures)
-    (open_length start.args.rows.now start.args.state.now q.new.1.0 start.args.words.now start.args.fits q.result z wr if2.if2.true)
+    let q = rows.accepted_rows-n in
+    let z = (site_of start.args.rows.now q.result q.ensures.0 q.ensures.1.0 q.ensures.1.1.0 if1.if-n-eq0.false).3 in
+    let wr = some_words start.args.rows.now q.result q.ensures.0 q.ensures.1.1.0 if1.if-n-eq0.false in
+    subst (OpenOk start.args.rows.now start.args.state.now start.args.fits q.new.1.0 start.args.words.now) (sym c.not_failed-then-state-n.ensures)
+    (open_length start.args.rows.now start.args.state.now q.new.1.0 start.args.words.now start.args.fits q.result z wr if2.if-state-n.true)
 
-returns_3 : tie.Need-returns-3
+returns_3 : tie.Need-returns-then-not-fits
 returns_3 c =
     let if3 = c.before in
     let if1 = if3.before.before in
     let rows = if1.before in
     let start = rows.before.before in
-    let q = rows.accepted-rows in
-    let z = (site_of start.args.rows.now q.result q.ensures.0 q.ensures.1.0 q.ensures.1.1.0 if1.if1.false).3 in
-    let wr = some_words start.args.rows.now q.result q.ensures.0 q.ensures.1.1.0 if1.if1.false in
-    subst (OpenOk start.args.rows.now start.args.state.now start.args.fits q.new.1.0 start.args.words.now) (sym c.not-failed3.ensures)
-    (open_misfit start.args.rows.now start.args.state.now q.new.1.0 start.args.words.now start.args.fits q.result z wr if3.if3.true)
+    let q = rows.accepted_rows-n in
+    let z = (site_of start.args.rows.now q.result q.ensures.0 q.ensures.1.0 q.ensures.1.1.0 if1.if-n-eq0.false).3 in
+    let wr = some_words start.args.rows.now q.result q.ensures.0 q.ensures.1.1.0 if1.if-n-eq0.false in
+    subst (OpenOk start.args.rows.now start.args.state.now start.args.fits q.new.1.0 start.args.words.now) (sym c.not_failed-then-not-fits.ensures)
+    (open_misfit start.args.rows.now start.args.state.now q.new.1.0 start.args.words.now start.args.fits q.result z wr if3.if-not-fits.true)
 
-state_in_requires : tie.Need-state-in-requires
+state_in_requires : tie.Need-state_in-requires
 state_in_requires c κs =
     let if2 = c.before.before in
     let start_at = if2.before in
     let if1 = start_at in
     let rows = if1.before in
     let start = rows.before.before in
-    let q = rows.accepted-rows in
-    let z = (site_of start.args.rows.now q.result q.ensures.0 q.ensures.1.0 q.ensures.1.1.0 if1.if1.false).3 in
-    ((if2.if2.false, few_rows z), start.requires.1)
+    let q = rows.accepted_rows-n in
+    let z = (site_of start.args.rows.now q.result q.ensures.0 q.ensures.1.0 q.ensures.1.1.0 if1.if-n-eq0.false).3 in
+    ((if2.if-state-n.false, few_rows z), start.requires.1)
 
 held_requires : tie.Need-held-requires
 held_requires c κs =
@@ -80,13 +80,13 @@ held_requires c κs =
     let if1 = if2.before in
     let rows = if1.before in
     let start = rows.before.before in
-    let q = rows.accepted-rows in
-    let z = (site_of start.args.rows.now q.result q.ensures.0 q.ensures.1.0 q.ensures.1.1.0 if1.if1.false).3 in
-    let wr = some_words start.args.rows.now q.result q.ensures.0 q.ensures.1.1.0 if1.if1.false in
+    let q = rows.accepted_rows-n in
+    let z = (site_of start.args.rows.now q.result q.ensures.0 q.ensures.1.0 q.ensures.1.1.0 if1.if-n-eq0.false).3 in
+    let wr = some_words start.args.rows.now q.result q.ensures.0 q.ensures.1.1.0 if1.if-n-eq0.false in
     let w = state_in.state_in in
-    ((some_rows z, is_fine z), (ends start.args.rows.now start.args.state.now q.new.1.0 w.new.1.1.0 start.args.fits q.result z wr if3.if3.false if2.if2.false w.ensures.1 w.ensures.0, refl))
+    ((some_rows z, is_fine z), (ends start.args.rows.now start.args.state.now q.new.1.0 w.new.1.1.0 start.args.fits q.result z wr if3.if-not-fits.false if2.if-state-n.false w.ensures.1 w.ensures.0, refl))
 
-is_failed_requires : tie.Need-is-failed-requires
+is_failed_requires : tie.Need-is_failed-requires
 is_failed_requires c κs =
     let if4 = c.before.before.before in
     let held = if4.before in
@@ -96,19 +96,19 @@ is_failed_requires c κs =
     let if1 = if2.before in
     let rows = if1.before in
     let start = rows.before.before in
-    let q = rows.accepted-rows in
-    let z = (site_of start.args.rows.now q.result q.ensures.0 q.ensures.1.0 q.ensures.1.1.0 if1.if1.false).3 in
-    let wr = some_words start.args.rows.now q.result q.ensures.0 q.ensures.1.1.0 if1.if1.false in
+    let q = rows.accepted_rows-n in
+    let z = (site_of start.args.rows.now q.result q.ensures.0 q.ensures.1.0 q.ensures.1.1.0 if1.if-n-eq0.false).3 in
+    let wr = some_words start.args.rows.now q.result q.ensures.0 q.ensures.1.1.0 if1.if-n-eq0.false in
     let w = copied.state_in in (
       (some_rows z, is_fine z),
       (
         ends start.args.rows.now start.args.state.now q.new.1.0 w.new.1.1.0 start.args.fits q.result z wr
-            if3.if3.false if2.if2.false w.ensures.1 w.ensures.0,
-        held.held.ensures.1 (not-true held.held.result if4.if4.true),
+            if3.if-not-fits.false if2.if-state-n.false w.ensures.1 w.ensures.0,
+        held.held.ensures.1 (not-true held.held.result if4.if-not-held.true),
       ),
     )
 
-returns_4 : tie.Need-returns-4
+returns_4 : tie.Need-returns-then-is_failed
 returns_4 c =
     let failed = c.before in
     let if4 = failed.before.before.before.before in
@@ -119,17 +119,17 @@ returns_4 c =
     let if1 = if2.before in
     let rows = if1.before in
     let start = rows.before.before in
-    let q = rows.accepted-rows in
-    let z = (site_of start.args.rows.now q.result q.ensures.0 q.ensures.1.0 q.ensures.1.1.0 if1.if1.false).3 in
-    let wr = some_words start.args.rows.now q.result q.ensures.0 q.ensures.1.1.0 if1.if1.false in
+    let q = rows.accepted_rows-n in
+    let z = (site_of start.args.rows.now q.result q.ensures.0 q.ensures.1.0 q.ensures.1.1.0 if1.if-n-eq0.false).3 in
+    let wr = some_words start.args.rows.now q.result q.ensures.0 q.ensures.1.1.0 if1.if-n-eq0.false in
     let w = copied.state_in in
     let h = held.held in
-    let k = failed.is-failed in
+    let k = failed.is_failed in
     open_failed start.args.rows.now start.args.state.now q.new.1.0 w.new.1.1.0 start.args.fits q.result z wr
-    if3.if3.false if2.if2.false w.ensures.1 w.ensures.0 h.result h.new.1.1.1.0 h.ensures.0 if4.if4.true
-    k.result k.ensures c.if5.true
+    if3.if-not-fits.false if2.if-state-n.false w.ensures.1 w.ensures.0 h.result h.new.1.1.1.0 h.ensures.0 if4.if-not-held.true
+    k.result k.ensures c.if-is_failed.true
 
-returns_5 : tie.Need-returns-5
+returns_5 : tie.Need-returns-then-not-held
 returns_5 c =
     let if5 = c.before in
     let failed = if5.before in
@@ -141,16 +141,16 @@ returns_5 c =
     let if1 = if2.before in
     let rows = if1.before in
     let start = rows.before.before in
-    let q = rows.accepted-rows in
-    let z = (site_of start.args.rows.now q.result q.ensures.0 q.ensures.1.0 q.ensures.1.1.0 if1.if1.false).3 in
-    let wr = some_words start.args.rows.now q.result q.ensures.0 q.ensures.1.1.0 if1.if1.false in
+    let q = rows.accepted_rows-n in
+    let z = (site_of start.args.rows.now q.result q.ensures.0 q.ensures.1.0 q.ensures.1.1.0 if1.if-n-eq0.false).3 in
+    let wr = some_words start.args.rows.now q.result q.ensures.0 q.ensures.1.1.0 if1.if-n-eq0.false in
     let w = copied.state_in in
     let h = held.held in
-    let k = failed.is-failed in
-    subst (OpenOk start.args.rows.now start.args.state.now start.args.fits q.new.1.0 w.new.1.1.0) (sym c.not-failed4.ensures)
+    let k = failed.is_failed in
+    subst (OpenOk start.args.rows.now start.args.state.now start.args.fits q.new.1.0 w.new.1.1.0) (sym c.not_failed-then-not-held.ensures)
     (open_22 start.args.rows.now start.args.state.now q.new.1.0 w.new.1.1.0 start.args.fits q.result z wr
-    if3.if3.false if2.if2.false w.ensures.1 w.ensures.0 h.result h.new.1.1.1.0 h.ensures.0 if4.if4.true
-    k.result k.ensures if5.if5.false)
+    if3.if-not-fits.false if2.if-state-n.false w.ensures.1 w.ensures.0 h.result h.new.1.1.1.0 h.ensures.0 if4.if-not-held.true
+    k.result k.ensures if5.if-is_failed.false)
 
 sub_stride : tie.Need-overflow-sub-stride
 sub_stride c =
@@ -158,8 +158,8 @@ sub_stride c =
     let start_at = if1.before in
     let rows = start_at in
     let start = rows.before.before in
-    let q = rows.accepted-rows in
-    let z = (site_of start.args.rows.now q.result q.ensures.0 q.ensures.1.0 q.ensures.1.1.0 if1.if1.false).3 in
+    let q = rows.accepted_rows-n in
+    let z = (site_of start.args.rows.now q.result q.ensures.0 q.ensures.1.0 q.ensures.1.1.0 if1.if-n-eq0.false).3 in
     some_rows z
 
 stride_requires : tie.Need-stride-requires
@@ -168,11 +168,11 @@ stride_requires c κs =
     let start_at = if1.before in
     let rows = start_at in
     let start = rows.before.before in
-    let q = rows.accepted-rows in
-    let z = (site_of start.args.rows.now q.result q.ensures.0 q.ensures.1.0 q.ensures.1.1.0 if1.if1.false).3 in
+    let q = rows.accepted_rows-n in
+    let z = (site_of start.args.rows.now q.result q.ensures.0 q.ensures.1.0 q.ensures.1.1.0 if1.if-n-eq0.false).3 in
     is_fine z
 
-returns_6 : tie.Need-returns-6
+returns_6 : tie.Need-returns-then-stride
 returns_6 c =
     let if6 = c.before in
     let stride = if6.before in
@@ -184,18 +184,18 @@ returns_6 c =
     let if1 = if2.before in
     let rows = if1.before in
     let start = rows.before.before in
-    let q = rows.accepted-rows in
-    let z = (site_of start.args.rows.now q.result q.ensures.0 q.ensures.1.0 q.ensures.1.1.0 if1.if1.false).3 in
-    let wr = some_words start.args.rows.now q.result q.ensures.0 q.ensures.1.1.0 if1.if1.false in
+    let q = rows.accepted_rows-n in
+    let z = (site_of start.args.rows.now q.result q.ensures.0 q.ensures.1.0 q.ensures.1.1.0 if1.if-n-eq0.false).3 in
+    let wr = some_words start.args.rows.now q.result q.ensures.0 q.ensures.1.1.0 if1.if-n-eq0.false in
     let w = copied.state_in in
     let h = held.held in
     let m = stride.stride in
-    subst (OpenOk start.args.rows.now start.args.state.now start.args.fits q.new.1.0 w.new.1.1.0) (sym c.not-failed5.ensures)
+    subst (OpenOk start.args.rows.now start.args.state.now start.args.fits q.new.1.0 w.new.1.1.0) (sym c.not_failed-then-stride.ensures)
     (open_23 start.args.rows.now start.args.state.now q.new.1.0 w.new.1.1.0 start.args.fits q.result z wr
-    if3.if3.false if2.if2.false w.ensures.1 w.ensures.0 h.result h.new.1.1.1.0 h.ensures.0 if4.if4.false m.result
-    m.new.1.0 _ m.ensures if6.if6.true)
+    if3.if-not-fits.false if2.if-state-n.false w.ensures.1 w.ensures.0 h.result h.new.1.1.1.0 h.ensures.0 if4.if-not-held.false m.result
+    m.new.1.0 _ m.ensures if6.if-stride.true)
 
-returns_7 : tie.Need-returns-7
+returns_7 : tie.Need-returns
 returns_7 c =
     let if6 = c.before in
     let stride = if6.before in
@@ -207,16 +207,16 @@ returns_7 c =
     let if1 = if2.before in
     let rows = if1.before in
     let start = rows.before.before in
-    let q = rows.accepted-rows in
-    let z = (site_of start.args.rows.now q.result q.ensures.0 q.ensures.1.0 q.ensures.1.1.0 if1.if1.false).3 in
-    let wr = some_words start.args.rows.now q.result q.ensures.0 q.ensures.1.1.0 if1.if1.false in
+    let q = rows.accepted_rows-n in
+    let z = (site_of start.args.rows.now q.result q.ensures.0 q.ensures.1.0 q.ensures.1.1.0 if1.if-n-eq0.false).3 in
+    let wr = some_words start.args.rows.now q.result q.ensures.0 q.ensures.1.1.0 if1.if-n-eq0.false in
     let w = copied.state_in in
     let h = held.held in
     let m = stride.stride in
-    subst (OpenOk start.args.rows.now start.args.state.now start.args.fits q.new.1.0 w.new.1.1.0) (sym c.not-failed6.ensures)
+    subst (OpenOk start.args.rows.now start.args.state.now start.args.fits q.new.1.0 w.new.1.1.0) (sym c.not_failed-2.ensures)
     (open_0 start.args.rows.now start.args.state.now q.new.1.0 w.new.1.1.0 start.args.fits q.result z wr
-    if3.if3.false if2.if2.false w.ensures.1 w.ensures.0 h.result h.new.1.1.1.0 h.ensures.0 if4.if4.false m.result
-    m.new.1.0 _ m.ensures if6.if6.false)
+    if3.if-not-fits.false if2.if-state-n.false w.ensures.1 w.ensures.0 h.result h.new.1.1.1.0 h.ensures.0 if4.if-not-held.false m.result
+    m.new.1.0 _ m.ensures if6.if-stride.false)
 
 pub open_spec : {M : Type 1} → statement M
 open_spec = tie.close (tie.spec (λ c κs. c.before.requires.0) (λ c κs. search rules) returns mul_if2 (λ c κs. search rules) returns_2 (λ c κs. search rules) returns_3 state_in_requires held_requires

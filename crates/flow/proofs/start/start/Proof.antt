@@ -8,58 +8,58 @@ use Rattle.flow.proofs.StartLaws.{start_20, start_21, start_0}
 use Rattle.flow.proofs.start.start.Statement.{statement}
 use Rattle.flow.proofs.start.start.Tie as tie
 
-returns : tie.Need-returns
+returns : tie.Need-returns-then-n-eq0
 returns c =
     let start_at = c.before in
     let if1 = start_at in
     let rows = if1.before in
     let start = rows.before.before in
-    let n = rows.accepted-rows in
-    start_20 start.args.rows.now start.args.state.now c.refused.result n.result n.ensures.0 if1.if1.true
+    let n = rows.accepted_rows-n in
+    start_20 start.args.rows.now start.args.state-1.now c.refused.result n.result n.ensures.0 if1.if-n-eq0.true
     c.refused.ensures
 
 mul_if2 : tie.Need-overflow-mul-if2
 mul_if2 c =
     let rows = c.before in
     let start = rows.before.before in
-    let n = rows.accepted-rows in
-    let z = (site_of start.args.rows.now n.result n.ensures.0 n.ensures.1.0 n.ensures.1.1.0 c.if1.false).3 in
+    let n = rows.accepted_rows-n in
+    let z = (site_of start.args.rows.now n.result n.ensures.0 n.ensures.1.0 n.ensures.1.1.0 c.if-n-eq0.false).3 in
     let f = few_rows z in
     record { fits = omega (arith, f) }
 
-returns_2 : tie.Need-returns-2
+returns_2 : tie.Need-returns-then-state-n
 returns_2 c =
     let start_at = c.before in
     let if2 = start_at in
     let if1 = if2.before in
     let rows = if1.before in
     let start = rows.before.before in
-    let n = rows.accepted-rows in
-    let z = (site_of start.args.rows.now n.result n.ensures.0 n.ensures.1.0 n.ensures.1.1.0 if1.if1.false).3 in
-    start_21 start.args.rows.now start.args.state.now c.refused2.result z if2.if2.true c.refused2.ensures
+    let n = rows.accepted_rows-n in
+    let z = (site_of start.args.rows.now n.result n.ensures.0 n.ensures.1.0 n.ensures.1.1.0 if1.if-n-eq0.false).3 in
+    start_21 start.args.rows.now start.args.state-1.now c.refused-then-state-n.result z if2.if-state-n.true c.refused-then-state-n.ensures
 
-begin_requires : tie.Need-begin-requires
+begin_requires : tie.Need-begin-strides-requires
 begin_requires c κs =
     let if1 = c.before.before.before in
     let start_at = if1.before in
     let rows = start_at in
     let start = rows.before.before in
-    let n = rows.accepted-rows in
-    let z = (site_of start.args.rows.now n.result n.ensures.0 n.ensures.1.0 n.ensures.1.1.0 if1.if1.false).3 in
+    let n = rows.accepted_rows-n in
+    let z = (site_of start.args.rows.now n.result n.ensures.0 n.ensures.1.0 n.ensures.1.1.0 if1.if-n-eq0.false).3 in
     ((some_rows z, is_fine z), refl)
 
-state_out_requires : tie.Need-state-out-requires
+state_out_requires : tie.Need-state_out-requires
 state_out_requires c κs =
     let if2 = c.before.before.before.before.before in
     let start_at = if2.before in
     let if1 = start_at in
     let rows = if1.before in
     let start = rows.before.before in
-    let n = rows.accepted-rows in
-    let z = (site_of start.args.rows.now n.result n.ensures.0 n.ensures.1.0 n.ensures.1.1.0 if1.if1.false).3 in
-    (if2.if2.false, few_rows z)
+    let n = rows.accepted_rows-n in
+    let z = (site_of start.args.rows.now n.result n.ensures.0 n.ensures.1.0 n.ensures.1.1.0 if1.if-n-eq0.false).3 in
+    (if2.if-state-n.false, few_rows z)
 
-returns_3 : tie.Need-returns-3
+returns_3 : tie.Need-returns
 returns_3 c =
     let state_out = c.before in
     let start_at = state_out.before.before in
@@ -69,10 +69,10 @@ returns_3 c =
     let if1 = if2.before in
     let rows = if1.before in
     let start = rows.before.before in
-    let n = rows.accepted-rows in
-    let z = (site_of start.args.rows.now n.result n.ensures.0 n.ensures.1.0 n.ensures.1.1.0 if1.if1.false).3 in
-    start_0 start.args.state.now state_out.state-out.new.1.1.0 begun.begin.new.1.1.0 begun.begin.result z if2.if2.false
-    begun.begin.ensures state_out.state-out.ensures.1 state_out.state-out.ensures.0
+    let n = rows.accepted_rows-n in
+    let z = (site_of start.args.rows.now n.result n.ensures.0 n.ensures.1.0 n.ensures.1.1.0 if1.if-n-eq0.false).3 in
+    start_0 start.args.state-1.now state_out.state_out.new.1.1.0 begun.begin-strides.new.1.1.0 begun.begin-strides.result z if2.if-state-n.false
+    begun.begin-strides.ensures state_out.state_out.ensures.1 state_out.state_out.ensures.0
 
 pub start_spec : {M : Type 1} → statement M
 start_spec = tie.close (tie.spec (λ c κs. search rules) (λ c κs. search rules) returns mul_if2 (λ c κs. search rules) returns_2 begin_requires state_out_requires (λ c. search rules) returns_3)

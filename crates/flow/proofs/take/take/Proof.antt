@@ -8,7 +8,7 @@ use Rattle.flow.proofs.TakeLaws.{take_refused, take_8, take_failed, take_no, tak
 use Rattle.flow.proofs.take.take.Statement.{statement}
 use Rattle.flow.proofs.take.take.Tie as tie
 
-returns : tie.Need-returns
+returns : tie.Need-returns-then-opening-ne0
 returns c =
     let start_at = c.before in
     let if1 = start_at in
@@ -17,10 +17,10 @@ returns c =
     let o = opening.«open» in
     let own = o.new.1.1.1.0 in
     let words = o.new.1.1.1.1.0 in
-    take_refused start.args.rows.now start.args.state.now own words o.result start.args.e o.ensures if1.if1.true
+    take_refused start.args.rows.now start.args.state-1.now own words o.result start.args.e o.ensures if1.if-opening-ne0.true
     c.refused.result c.refused.ensures
 
-returns_2 : tie.Need-returns-2
+returns_2 : tie.Need-returns-then-not-e
 returns_2 c =
     let start_at = c.before in
     let if2 = start_at in
@@ -30,10 +30,10 @@ returns_2 c =
     let o = opening.«open» in
     let own = o.new.1.1.1.0 in
     let words = o.new.1.1.1.1.0 in
-    take_8 start.args.rows.now start.args.state.now own words o.result start.args.e o.ensures if1.if1.false if2.if2.true
-    c.refused2.result c.refused2.ensures
+    take_8 start.args.rows.now start.args.state-1.now own words o.result start.args.e o.ensures if1.if-opening-ne0.false if2.if-not-e.true
+    c.refused-then-not-e.result c.refused-then-not-e.ensures
 
-returns_3 : tie.Need-returns-3
+returns_3 : tie.Need-returns-then-opening
 returns_3 c =
     let if3 = c.before in
     let if2 = if3.before in
@@ -41,7 +41,7 @@ returns_3 c =
     let opening = if1.before.before in
     let start = opening.before.before.before.before in
     let o = opening.«open» in
-    take_failed start.args.rows.now start.args.state.now o.new.1.1.1.0 o.new.1.1.1.1.0 o.result start.args.e o.ensures if1.if1.false if2.if2.false if3.if3.true
+    take_failed start.args.rows.now start.args.state-1.now o.new.1.1.1.0 o.new.1.1.1.1.0 o.result start.args.e o.ensures if1.if-opening-ne0.false if2.if-not-e.false if3.if-opening.true
     c.take_failed.result c.take_failed.ensures
 
 sub_last : tie.Need-overflow-sub-last
@@ -51,10 +51,10 @@ sub_last c =
     let opening = if1.before.before in
     let start = opening.before.before.before.before in
     let o = opening.«open» in
-    (opened_fine start.args.rows.now start.args.state.now o.new.1.1.1.0 o.new.1.1.1.1.0 o.result
-    (opened start.args.rows.now start.args.state.now true) o.ensures if1.if1.false if3.if3.false).0
+    (opened_fine start.args.rows.now start.args.state-1.now o.new.1.1.1.0 o.new.1.1.1.1.0 o.result
+    (opened start.args.rows.now start.args.state-1.now true) o.ensures if1.if-opening-ne0.false if3.if-opening.false).0
 
-handle_requires : tie.Need-handle-requires
+handle_requires : tie.Need-handle-number-requires
 handle_requires c κs =
     let if3 = c.before.before.before.before in
     let if2 = if3.before in
@@ -62,11 +62,11 @@ handle_requires c κs =
     let opening = if1.before.before in
     let start = opening.before.before.before.before in
     let o = opening.«open» in (
-      (opened_fine start.args.rows.now start.args.state.now o.new.1.1.1.0 o.new.1.1.1.1.0 o.result (opened start.args.rows.now start.args.state.now true) o.ensures if1.if1.false if3.if3.false).2,
-      start.requires (not-false start.args.e.readable if2.if2.false),
+      (opened_fine start.args.rows.now start.args.state-1.now o.new.1.1.1.0 o.new.1.1.1.1.0 o.result (opened start.args.rows.now start.args.state-1.now true) o.ensures if1.if-opening-ne0.false if3.if-opening.false).2,
+      start.requires (not-false start.args.e.readable if2.if-not-e.false),
     )
 
-returns_4 : tie.Need-returns-4
+returns_4 : tie.Need-returns-then-number-ne0
 returns_4 c =
     let if4 = c.before in
     let handled = if4.before in
@@ -76,21 +76,21 @@ returns_4 c =
     let opening = if1.before.before in
     let start = opening.before.before.before.before in
     let o = opening.«open» in
-    let h = handled.handle in
-    take_no start.args.rows.now start.args.state.now o.new.1.1.1.0 o.new.1.1.1.1.0 o.result start.args.e if1.if1.false if3.if3.false if2.if2.false
-    h.new.1.0 _ h.result h.ensures o.ensures if4.if4.true c.refused3.result c.refused3.ensures
+    let h = handled.handle-number in
+    take_no start.args.rows.now start.args.state-1.now o.new.1.1.1.0 o.new.1.1.1.1.0 o.result start.args.e if1.if-opening-ne0.false if3.if-opening.false if2.if-not-e.false
+    h.new.1.0 _ h.result h.ensures o.ensures if4.if-number-ne0.true c.refused-then-number-ne0.result c.refused-then-number-ne0.ensures
 
-normalise_requires : tie.Need-normalise-requires
+normalise_requires : tie.Need-normalise-strides-requires
 normalise_requires c κs =
     let if3 = c.before.before.before.before.before.before.before.before.before in
     let if1 = if3.before.before.before in
     let opening = if1.before.before in
     let start = opening.before.before.before.before in
     let o = opening.«open» in
-    (opened_fine start.args.rows.now start.args.state.now o.new.1.1.1.0 o.new.1.1.1.1.0 o.result
-    (opened start.args.rows.now start.args.state.now true) o.ensures if1.if1.false if3.if3.false).2
+    (opened_fine start.args.rows.now start.args.state-1.now o.new.1.1.1.0 o.new.1.1.1.1.0 o.result
+    (opened start.args.rows.now start.args.state-1.now true) o.ensures if1.if-opening-ne0.false if3.if-opening.false).2
 
-state_out_requires : tie.Need-state-out-requires
+state_out_requires : tie.Need-state_out-requires
 state_out_requires c κs =
     let if3 = c.before.before.before.before.before.before.before.before.before.before.before.before in
     let if1 = if3.before.before.before in
@@ -99,10 +99,10 @@ state_out_requires c κs =
     let o = opening.«open» in
     let own = o.new.1.1.1.0 in
     let words = o.new.1.1.1.1.0 in
-    let x = opened start.args.rows.now start.args.state.now true in
-    (opened_room start.args.rows.now start.args.state.now own words o.result x o.ensures if1.if1.false if3.if3.false, (opened_fine start.args.rows.now start.args.state.now own words o.result x o.ensures if1.if1.false if3.if3.false).1)
+    let x = opened start.args.rows.now start.args.state-1.now true in
+    (opened_room start.args.rows.now start.args.state-1.now own words o.result x o.ensures if1.if-opening-ne0.false if3.if-opening.false, (opened_fine start.args.rows.now start.args.state-1.now own words o.result x o.ensures if1.if-opening-ne0.false if3.if-opening.false).1)
 
-returns_5 : tie.Need-returns-5
+returns_5 : tie.Need-returns
 returns_5 c =
     let state_out = c.before in
     let normal = state_out.before.before.before in
@@ -114,12 +114,12 @@ returns_5 c =
     let opening = if1.before.before in
     let start = opening.before.before.before.before in
     let o = opening.«open» in
-    let h = handled.handle in
-    let m = normal.normalise in
-    let w = state_out.state-out in
-    take_0 start.args.rows.now start.args.state.now o.new.1.1.1.0 o.new.1.1.1.1.0 o.result start.args.e if1.if1.false if3.if3.false if2.if2.false
+    let h = handled.handle-number in
+    let m = normal.normalise-strides in
+    let w = state_out.state_out in
+    take_0 start.args.rows.now start.args.state-1.now o.new.1.1.1.0 o.new.1.1.1.1.0 o.result start.args.e if1.if-opening-ne0.false if3.if-opening.false if2.if-not-e.false
     h.new.1.0 _ h.result h.ensures m.new.1.0 _ m.result w.new.1.1.0 m.ensures w.ensures.1 w.ensures.0
-    o.ensures if4.if4.false
+    o.ensures if4.if-number-ne0.false
 
 pub take_spec : {M : Type 1} → statement M
 take_spec = tie.close (tie.spec (λ c κs. search rules)

@@ -9,7 +9,7 @@ take_requires : tie.Need-take-requires
 take_requires c κs =
     let read = c.before in
     let start = read.before.before in
-    says_known read.read-event.result (event_of start.args.event.now) read.read-event.ensures
+    says_known read.read_event-e.result (event_of start.args.event.now) read.read_event-e.ensures
 
 returns : tie.Need-returns
 returns c =
@@ -17,8 +17,8 @@ returns c =
     let start_at = take.before.before in
     let read = start_at in
     let start = read.before.before in
-    take_handles start.args.rows.now start.args.state.now start.args.event.now read.read-event.result take.take.result
-    take.take.new.1.0 read.read-event.ensures take.take.ensures
+    take_handles start.args.rows.now start.args.state-1.now start.args.event.now read.read_event-e.result take.take.result
+    take.take.new.1.0 read.read_event-e.ensures take.take.ensures
 
 pub handle_spec : {M : Type 1} → statement M
 handle_spec = tie.close (tie.spec (λ c κs. search rules) take_requires (λ c. search rules) returns)

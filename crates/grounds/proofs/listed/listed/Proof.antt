@@ -9,10 +9,10 @@ use Rattle.grounds.proofs.Every.{every_none, every_more, every_broken, every_all
 use Rattle.grounds.proofs.listed.listed.Statement.{statement}
 use Rattle.grounds.proofs.listed.listed.Tie as tie
 
-abbrev invariant-loop : tie.invariant-loop
+abbrev invariant-loop : tie.invariant-loop-i
 invariant-loop rows n i₀ i = (i ≤ n) × (every i (row_listed rows) ≡ true)
 
-abbrev decreases-loop : tie.decreases-loop
+abbrev decreases-loop : tie.decreases-loop-i
 decreases-loop rows n i₀ i = n - i
 
 pub listed_spec : {M : Type 1} → statement M
@@ -26,16 +26,16 @@ listed_spec = tie.close (tie.spec
     let test = row_listed_point.before in
     let loop = test.before in
     let start = loop.before in
-    every_broken (row_listed start.args.rows.now) start.args.n loop.loop.i row_listed_point.row_listed.result test.loop-test.true
-    row_listed_point.row_listed.ensures c.if1.true)
+    every_broken (row_listed start.args.rows.now) start.args.n loop.loop-i.i row_listed_point.row_listed.result test.loop-i-test.true
+    row_listed_point.row_listed.ensures c.if-not-row_listed.true)
     (λ c. search rules)
     (λ c. search rules)
     (λ c.
     let row_listed_point = c.before in
     let loop = row_listed_point.before.before in
     let start = loop.before in
-    (omega arith, every_more (row_listed start.args.rows.now) loop.loop.i row_listed_point.row_listed.result loop.loop.invariant.1 row_listed_point.row_listed.ensures c.if1.false))
+    (omega arith, every_more (row_listed start.args.rows.now) loop.loop-i.i row_listed_point.row_listed.result loop.loop-i.invariant.1 row_listed_point.row_listed.ensures c.if-not-row_listed.false))
     (λ c.
     let loop = c.before in
     let start = loop.before in
-    every_all (row_listed start.args.rows.now) start.args.n loop.loop.i loop.loop.invariant.1 (omega arith)))
+    every_all (row_listed start.args.rows.now) start.args.n loop.loop-i.i loop.loop-i.invariant.1 (omega arith)))

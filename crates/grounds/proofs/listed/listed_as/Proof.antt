@@ -24,22 +24,22 @@ listed_as_spec = tie.close (tie.spec
     (λ c. search rules)
     (λ c κs. search rules)
     (λ c. search rules)
-    (λ c. sym (ap (λ q. listed_as (ask_by q) c.before.before.args.w) c.enum_told.given.1))
+    (λ c. sym (ap (λ q. listed_as (ask_by q) c.before.before.args.w) c.enum_told-1.given.1))
     (λ c.
     let enum_told2 = c.before in
     let start = enum_told2.before.before in
-    c.is-operator.ensures ∙ sym (ap (λ q. listed_as (ask_by q) start.args.w) enum_told2.enum-told2.given.1))
-    (λ c. sym (ap (λ q. listed_as (ask_by q) c.before.before.args.w) c.enum-told3.given.1))
-    (λ c. sym (ap (λ q. listed_as (ask_by q) c.before.before.args.w) c.enum-told4.given.1))
-    (λ c. sym (ap (λ q. listed_as (ask_by q) c.before.before.args.w) c.enum-told5.given.1))
-    (λ c. sym (ap (λ q. listed_as (ask_by q) c.before.before.args.w) c.enum-told6.given.1))
-    (λ c. sym (ap (λ q. listed_as (ask_by q) c.before.before.args.w) c.enum-told7.given.1))
-    (λ c. sym (ap (λ q. listed_as (ask_by q) c.before.before.args.w) c.enum-told8.given.1))
-    (λ c. sym (ap (λ q. listed_as (ask_by q) c.before.before.args.w) c.enum-told9.given.1))
-    (λ c. sym (ap (λ q. listed_as (ask_by q) c.before.before.args.w) c.enum-told10.given.1))
-    (λ c. sym (ap (λ q. listed_as (ask_by q) c.before.before.args.w) c.enum-told11.given.1))
+    c.is_operator.ensures ∙ sym (ap (λ q. listed_as (ask_by q) start.args.w) enum_told2.enum_told-in-Operator-1.given.1))
+    (λ c. sym (ap (λ q. listed_as (ask_by q) c.before.before.args.w) c.enum_told-in-Truth-1.given.1))
+    (λ c. sym (ap (λ q. listed_as (ask_by q) c.before.before.args.w) c.enum_told-in-AnyWord-1.given.1))
+    (λ c. sym (ap (λ q. listed_as (ask_by q) c.before.before.args.w) c.enum_told-in-AType-1.given.1))
+    (λ c. sym (ap (λ q. listed_as (ask_by q) c.before.before.args.w) c.enum_told-in-ABasic-1.given.1))
+    (λ c. sym (ap (λ q. listed_as (ask_by q) c.before.before.args.w) c.enum_told-in-ACell-1.given.1))
+    (λ c. sym (ap (λ q. listed_as (ask_by q) c.before.before.args.w) c.enum_told-in-APlain-1.given.1))
+    (λ c. sym (ap (λ q. listed_as (ask_by q) c.before.before.args.w) c.enum_told-in-ATask-1.given.1))
+    (λ c. sym (ap (λ q. listed_as (ask_by q) c.before.before.args.w) c.enum_told-in-ABranch-1.given.1))
+    (λ c. sym (ap (λ q. listed_as (ask_by q) c.before.before.args.w) c.enum_told-in-LikeB-1.given.1))
     (λ c.
     let enum_told12 = c.before in
     let start = enum_told12.before.before in
-    c.is-role.ensures ∙ sym (ap (λ q. listed_as (ask_by q) start.args.w) enum_told12.enum-told12.given.1))
-    (λ c. sym (ap (λ q. listed_as (ask_by q) c.before.before.args.w) c.enum-told13.given.1)))
+    c.is_role.ensures ∙ sym (ap (λ q. listed_as (ask_by q) start.args.w) enum_told12.enum_told-in-ARole-1.given.1))
+    (λ c. sym (ap (λ q. listed_as (ask_by q) c.before.before.args.w) c.enum_told-in-SomeTouches-1.given.1)))

@@ -11,15 +11,15 @@ pub operands_listed_spec : {M : Type 1} → statement M
 operands_listed_spec = tie.close (tie.spec
     (λ c. search rules)
     (λ c. search rules)
-    (λ c. let s = c.before.before in unlisted s.args.a s.args.b s.args.c c.enum_told.given.1)
+    (λ c. let s = c.before.before in unlisted s.args.a s.args.b s.args.c c.enum_told-1.given.1)
     (λ c κs. search rules)
     (λ c.
     let listed_as_point = c.before in
     let s = listed_as_point.before.before in
     let start = s.before.before in
-    not_first (listed_as (ask_by s.s.given.0.0) start.args.a) (listed_as (ask_by s.s.given.0.1.0) start.args.b)
-    (listed_as (ask_by s.s.given.0.1.1.0) start.args.c) (listed_is start.args.a start.args.b start.args.c s.s.given.1)
-    listed_as_point.listed-as.ensures c.if1.true)
+    not_first (listed_as (ask_by s.s-1.given.0.0) start.args.a) (listed_as (ask_by s.s-1.given.0.1.0) start.args.b)
+    (listed_as (ask_by s.s-1.given.0.1.1.0) start.args.c) (listed_is start.args.a start.args.b start.args.c s.s-1.given.1)
+    listed_as_point.listed_as.ensures c.if-not-listed_as.true)
     (λ c κs. search rules)
     (λ c.
     let listed_as2 = c.before in
@@ -27,9 +27,9 @@ operands_listed_spec = tie.close (tie.spec
     let listed_as_point = if1.before in
     let s = listed_as_point.before.before in
     let start = s.before.before in
-    not_second (listed_as (ask_by s.s.given.0.0) start.args.a) (listed_as (ask_by s.s.given.0.1.0) start.args.b)
-    (listed_as (ask_by s.s.given.0.1.1.0) start.args.c) (listed_is start.args.a start.args.b start.args.c s.s.given.1)
-    listed_as_point.listed-as.ensures if1.if1.false listed_as2.listed-as2.ensures c.if2.true)
+    not_second (listed_as (ask_by s.s-1.given.0.0) start.args.a) (listed_as (ask_by s.s-1.given.0.1.0) start.args.b)
+    (listed_as (ask_by s.s-1.given.0.1.1.0) start.args.c) (listed_is start.args.a start.args.b start.args.c s.s-1.given.1)
+    listed_as_point.listed_as.ensures if1.if-not-listed_as.false listed_as2.listed_as-2.ensures c.if-not-listed_as-2.true)
     (λ c κs. search rules)
     (λ c.
     let if2 = c.before in
@@ -38,6 +38,6 @@ operands_listed_spec = tie.close (tie.spec
     let listed_as_point = if1.before in
     let s = listed_as_point.before.before in
     let start = s.before.before in
-    third (listed_as (ask_by s.s.given.0.0) start.args.a) (listed_as (ask_by s.s.given.0.1.0) start.args.b)
-    (listed_as (ask_by s.s.given.0.1.1.0) start.args.c) (listed_is start.args.a start.args.b start.args.c s.s.given.1)
-    listed_as_point.listed-as.ensures if1.if1.false listed_as2.listed-as2.ensures if2.if2.false c.listed-as3.ensures))
+    third (listed_as (ask_by s.s-1.given.0.0) start.args.a) (listed_as (ask_by s.s-1.given.0.1.0) start.args.b)
+    (listed_as (ask_by s.s-1.given.0.1.1.0) start.args.c) (listed_is start.args.a start.args.b start.args.c s.s-1.given.1)
+    listed_as_point.listed_as.ensures if1.if-not-listed_as.false listed_as2.listed_as-2.ensures if2.if-not-listed_as-2.false c.listed_as-3.ensures))

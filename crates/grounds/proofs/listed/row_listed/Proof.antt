@@ -18,8 +18,8 @@ row_listed_spec = tie.close (tie.spec
     let get = get2.before in
     let asks_at = get.before in
     let start = asks_at.before in
-    row_unlisted start.args.rows.now start.args.i asks_at.asks_at.result asks_at.asks_at.ensures get.get.ensures
-    get2.get2.ensures get3.get3.ensures operands_listed.operands-listed.ensures c.if1.true)
+    row_unlisted start.args.rows.now start.args.i asks_at.asks_at-s.result asks_at.asks_at-s.ensures get.get-a.ensures
+    get2.get-b.ensures get3.get-c.ensures operands_listed.operands_listed.ensures c.if-not-operands_listed.true)
     (λ c κs. search rules)
     (λ c.
     let if1 = c.before in
@@ -29,5 +29,5 @@ row_listed_spec = tie.close (tie.spec
     let get = get2.before in
     let asks_at = get.before in
     let start = asks_at.before in
-    row_cell start.args.rows.now start.args.i asks_at.asks_at.result asks_at.asks_at.ensures get.get.ensures
-    get2.get2.ensures get3.get3.ensures operands_listed.operands-listed.ensures if1.if1.false c.truth_cell_lem.ensures))
+    row_cell start.args.rows.now start.args.i asks_at.asks_at-s.result asks_at.asks_at-s.ensures get.get-a.ensures
+    get2.get-b.ensures get3.get-c.ensures operands_listed.operands_listed.ensures if1.if-not-operands_listed.false c.truth_cell_lem.ensures))

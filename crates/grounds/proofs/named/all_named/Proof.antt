@@ -9,10 +9,10 @@ use Rattle.grounds.proofs.Every.{every_none, every_more, every_broken, every_all
 use Rattle.grounds.proofs.named.all_named.Statement.{statement}
 use Rattle.grounds.proofs.named.all_named.Tie as tie
 
-abbrev invariant-loop : tie.invariant-loop
+abbrev invariant-loop : tie.invariant-loop-i
 invariant-loop rows n table i₀ i = (i ≤ n) × (every i (named_once rows n) ≡ true)
 
-abbrev decreases-loop : tie.decreases-loop
+abbrev decreases-loop : tie.decreases-loop-i
 decreases-loop rows n table i₀ i = n - i
 
 pub all_named_spec : {M : Type 1} → statement M
@@ -25,22 +25,22 @@ all_named_spec = tie.close (tie.spec
     let test = c.before in
     let loop = test.before in
     let start = loop.before in
-    (test.loop-test.true, start.requires.0, start.requires.1 loop.loop.i (omega arith)))
+    (test.loop-i-test.true, start.requires.0, start.requires.1 loop.loop-i.i (omega arith)))
     (λ c.
     let named_once_point = c.before in
     let test = named_once_point.before.before in
     let loop = test.before in
     let start = loop.before in
-    every_broken (named_once start.args.rows.now start.args.n) start.args.n loop.loop.i named_once_point.named-once.result
-    test.loop-test.true named_once_point.named-once.ensures c.if1.true)
+    every_broken (named_once start.args.rows.now start.args.n) start.args.n loop.loop-i.i named_once_point.named_once.result
+    test.loop-i-test.true named_once_point.named_once.ensures c.if-not-named_once.true)
     (λ c. search rules)
     (λ c. search rules)
     (λ c.
     let named_once_point = c.before in
     let loop = named_once_point.before.before.before in
     let start = loop.before in
-    (omega arith, every_more (named_once start.args.rows.now start.args.n) loop.loop.i named_once_point.named-once.result loop.loop.invariant.1 named_once_point.named-once.ensures c.if1.false))
+    (omega arith, every_more (named_once start.args.rows.now start.args.n) loop.loop-i.i named_once_point.named_once.result loop.loop-i.invariant.1 named_once_point.named_once.ensures c.if-not-named_once.false))
     (λ c.
     let loop = c.before in
     let start = loop.before in
-    every_all (named_once start.args.rows.now start.args.n) start.args.n loop.loop.i loop.loop.invariant.1 (omega arith)))
+    every_all (named_once start.args.rows.now start.args.n) start.args.n loop.loop-i.i loop.loop-i.invariant.1 (omega arith)))

@@ -11,12 +11,12 @@ use Rattle.grounds.proofs.named.name.Tie as tie
 pub name_spec : {M : Type 1} → statement M
 name_spec = tie.close (tie.spec
     (λ c κs. search rules)
-    (λ c. let s = c.before.before in name_not s.args.table.now (names (ask_by s.args.q)) s.args.w (subst (λ b. not b ≡ true) c.before.names-row.ensures c.if1.true))
-    (λ c. let s = c.before.before.before in name_past s.args.table.now (names (ask_by s.args.q)) s.args.w c.if2.true)
+    (λ c. let s = c.before.before in name_not s.args.table.now (names (ask_by s.args.q)) s.args.w (subst (λ b. not b ≡ true) c.before.names_row.ensures c.if-not-names_row.true))
+    (λ c. let s = c.before.before.before in name_past s.args.table.now (names (ask_by s.args.q)) s.args.w c.if-at-ge-MAX_ROWS.true)
     (λ c. search rules)
     (λ c.
     let start = c.before.before.before.before.before in
-    name_full start.args.table.now (names (ask_by start.args.q)) start.args.w c.if3.true)
+    name_full start.args.table.now (names (ask_by start.args.q)) start.args.w c.if-x-ge-MAX_NAMINGS.true)
     (λ c. search rules)
     (λ c. search rules)
     (λ c.
@@ -25,4 +25,4 @@ name_spec = tie.close (tie.spec
     let names_row = if1.before in
     let start = names_row.before in
     name_one start.args.table.now (names (ask_by start.args.q)) start.args.w
-    (subst (λ b. not b ≡ false) names_row.names-row.ensures if1.if1.false) if2.if2.false c.if3.false))
+    (subst (λ b. not b ≡ false) names_row.names_row.ensures if1.if-not-names_row.false) if2.if-at-ge-MAX_ROWS.false c.if-x-ge-MAX_NAMINGS.false))

@@ -9,10 +9,10 @@ use Rattle.grounds.proofs.Ground5.{name_rows_none, name_rows_more}
 use Rattle.grounds.proofs.named.name_rows.Statement.{statement}
 use Rattle.grounds.proofs.named.name_rows.Tie as tie
 
-abbrev invariant-loop : tie.invariant-loop
+abbrev invariant-loop : tie.invariant-loop-j
 invariant-loop rows table₀ n j₀ table j = (j ≤ n) × More table₀ table (λ i. namings rows i j)
 
-abbrev decreases-loop : tie.decreases-loop
+abbrev decreases-loop : tie.decreases-loop-j
 decreases-loop rows table₀ n j₀ table j = n - j
 
 pub name_rows_spec : {M : Type 1} → statement M
@@ -26,8 +26,8 @@ name_rows_spec = tie.close (tie.spec
     (λ c.
     let loop = c.before.before.before in
     let start = loop.before in
-    (omega arith, name_rows_more start.args.rows.now start.args.table.now loop.loop.table c.name-row.new.1.0 loop.loop.j loop.loop.invariant.1 c.name-row.ensures))
+    (omega arith, name_rows_more start.args.rows.now start.args.table.now loop.loop-j.table c.name_row.new.1.0 loop.loop-j.j loop.loop-j.invariant.1 c.name_row.ensures))
     (λ c.
     let loop = c.before in
     let start = loop.before in
-    subst (λ k. More start.args.table.now loop.loop.table (λ i. namings start.args.rows.now i k)) (omega arith) loop.loop.invariant.1))
+    subst (λ k. More start.args.table.now loop.loop-j.table (λ i. namings start.args.rows.now i k)) (omega arith) loop.loop-j.invariant.1))

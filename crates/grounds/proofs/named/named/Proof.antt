@@ -15,12 +15,12 @@ named_spec = tie.close (tie.spec
     (λ c κs.
     let name_rows = c.before in
     let start = name_rows.before.before in
-    (start.requires.1, more_zero name_rows.name-rows.new.1.0 (λ i. namings start.args.rows.now i start.args.n) name_rows.name-rows.ensures))
+    (start.requires.1, more_zero name_rows.name_rows.new.1.0 (λ i. namings start.args.rows.now i start.args.n) name_rows.name_rows.ensures))
     (λ c.
     let all_named = c.before in
     let start = all_named.before.before.before.before in
     ap (λ b. b && last_fits start.args.rows.now (start.args.n - 1))
-    (sym (not-true all_named.all_named.result c.if1.true) ∙ all_named.all_named.ensures))
+    (sym (not-true all_named.all_named.result c.if-not-all_named.true) ∙ all_named.all_named.ensures))
     (λ c. search rules)
     (λ c κs. search rules)
     (λ c κs. search rules)
@@ -29,6 +29,6 @@ named_spec = tie.close (tie.spec
     let if1 = get.before in
     let all_named = if1.before in
     let start = all_named.before.before.before.before in
-    last_is start.args.rows.now (start.args.n - 1) get.get.result get.get.ensures c.last-fits.result c.last-fits.ensures ∙
+    last_is start.args.rows.now (start.args.n - 1) get.get.result get.get.ensures c.last_fits.result c.last_fits.ensures ∙
     ap (λ b. b && last_fits start.args.rows.now (start.args.n - 1))
-    (sym (not-false all_named.all_named.result if1.if1.false) ∙ all_named.all_named.ensures)))
+    (sym (not-false all_named.all_named.result if1.if-not-all_named.false) ∙ all_named.all_named.ensures)))

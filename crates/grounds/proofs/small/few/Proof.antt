@@ -12,10 +12,10 @@ use Rattle.grounds.proofs.Ground6.{counts_none, count_written, few_so, few_not}
 use Rattle.grounds.proofs.small.few.Statement.{statement}
 use Rattle.grounds.proofs.small.few.Tie as tie
 
-abbrev invariant-loop : tie.invariant-loop
+abbrev invariant-loop : tie.invariant-loop-i
 invariant-loop rows n w table₀ most i₀ table i = (i ≤ n) × (length table ≡ max_rows) × CountsTo w rows table i × (every i (few_at w rows) ≡ true)
 
-abbrev decreases-loop : tie.decreases-loop
+abbrev decreases-loop : tie.decreases-loop-i
 decreases-loop rows n w table₀ most i₀ table i = n - i
 
 pub few_spec : {M : Type 1} → statement M
@@ -24,15 +24,15 @@ few_spec = tie.close (tie.spec
     decreases-loop
     (λ c κs. search rules)
     (λ c. let s = c.before in (omega arith, refl, counts_none s.args.w s.args.rows.now (replicate max_rows 0), every_none (few_at s.args.w s.args.rows.now)))
-    (λ c κs. (omega arith, c.before.before.loop.invariant.2))
+    (λ c κs. (omega arith, c.before.before.loop-i.invariant.2))
     (λ c.
     let row_count = c.before in
     let test = row_count.before.before in
     let loop = test.before in
     let most_of_point = loop.before in
     let start = most_of_point.before in
-    every_not (few_at start.args.w start.args.rows.now) start.args.n loop.loop.i test.loop-test.true
-    (few_not start.args.w start.args.rows.now loop.loop.i row_count.row_count.result row_count.row_count.ensures.0 (omega (arith, most_of_point.most-of.ensures))))
+    every_not (few_at start.args.w start.args.rows.now) start.args.n loop.loop-i.i test.loop-i-test.true
+    (few_not start.args.w start.args.rows.now loop.loop-i.i row_count.row_count-x.result row_count.row_count-x.ensures.0 (omega (arith, most_of_point.most_of-most.ensures))))
     (λ c. omega arith)
     (λ c. omega arith)
     (λ c. omega arith)
@@ -41,8 +41,8 @@ few_spec = tie.close (tie.spec
     let loop = row_count.before.before.before in
     let most_of_point = loop.before in
     let start = most_of_point.before in
-    (omega arith, length-set loop.loop.table loop.loop.i row_count.row_count.result ∙ loop.loop.invariant.1, count_written start.args.w start.args.rows.now loop.loop.table loop.loop.i loop.loop.invariant.2 row_count.row_count.result (omega arith) row_count.row_count.ensures.0, every_so (few_at start.args.w start.args.rows.now) loop.loop.i loop.loop.invariant.3 (few_so start.args.w start.args.rows.now loop.loop.i row_count.row_count.result row_count.row_count.ensures.0 (omega (arith, most_of_point.most-of.ensures)))))
+    (omega arith, length-set loop.loop-i.table-1 loop.loop-i.i row_count.row_count-x.result ∙ loop.loop-i.invariant.1, count_written start.args.w start.args.rows.now loop.loop-i.table-1 loop.loop-i.i loop.loop-i.invariant.2 row_count.row_count-x.result (omega arith) row_count.row_count-x.ensures.0, every_so (few_at start.args.w start.args.rows.now) loop.loop-i.i loop.loop-i.invariant.3 (few_so start.args.w start.args.rows.now loop.loop-i.i row_count.row_count-x.result row_count.row_count-x.ensures.0 (omega (arith, most_of_point.most_of-most.ensures)))))
     (λ c.
     let loop = c.before in
     let start = loop.before.before in
-    every_all (few_at start.args.w start.args.rows.now) start.args.n loop.loop.i loop.loop.invariant.3 (omega arith)))
+    every_all (few_at start.args.w start.args.rows.now) start.args.n loop.loop-i.i loop.loop-i.invariant.3 (omega arith)))

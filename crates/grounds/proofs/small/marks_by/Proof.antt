@@ -11,16 +11,16 @@ unfolding most_marks
 marks_by_spec = tie.close (tie.spec
     (λ c. search rules)
     (λ c. search rules)
-    (λ c. let s = c.before.before in of_unknown (λ z. most_marks z s.args.a s.args.b s.args.c) c.enum_told.given.1)
+    (λ c. let s = c.before.before in of_unknown (λ z. most_marks z s.args.a s.args.b s.args.c) c.enum_told-1.given.1)
     (λ c κs. search rules)
     (λ c.
     let start = c.before.before.before.before in
-    omega (arith, c.mark_of.ensures.1, start.requires))
+    omega (arith, c.mark_of-m.ensures.1, start.requires))
     (λ c κs. search rules)
     (λ c.
     let mark_of = c.before in
     let start = mark_of.before.before.before.before in
-    omega (arith, mark_of.mark_of.ensures.1, start.requires))
+    omega (arith, mark_of.mark_of-m.ensures.1, start.requires))
     (λ c κs. search rules)
     (λ c κs. search rules)
     (λ c κs. search rules)
@@ -33,5 +33,5 @@ marks_by_spec = tie.close (tie.spec
     let mark_of = if_named.before in
     let s = mark_of.before.before in
     let start = s.before.before in
-    marks_are s.s.given.1 start.args.a start.args.b start.args.c larger.larger.ensures c.larger2.ensures
-    mark_of.mark_of.ensures.0 if_named.if-named.ensures if_named2.if-named2.ensures if_named3.if-named3.ensures))
+    marks_are s.s-1.given.1 start.args.a start.args.b start.args.c larger.larger.ensures c.larger-2.ensures
+    mark_of.mark_of-m.ensures.0 if_named.if_named-u.ensures if_named2.if_named-v.ensures if_named3.if_named-w.ensures))

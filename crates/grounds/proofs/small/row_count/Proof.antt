@@ -24,7 +24,7 @@ row_count_spec = tie.close (tie.spec
     let below = get2.before in
     let get = below.before in
     let start = get.before in
-    (count_bound start.args.w start.args.rows.now start.args.table.now start.args.i start.requires.1 get.get.ensures below.below.ensures, count_bound start.args.w start.args.rows.now start.args.table.now start.args.i start.requires.1 get2.get2.ensures below2.below2.ensures))
+    (count_bound start.args.w start.args.rows.now start.args.table.now start.args.i start.requires.1 get.get.ensures below.below-a.ensures, count_bound start.args.w start.args.rows.now start.args.table.now start.args.i start.requires.1 get2.get-2.ensures below2.below-b.ensures))
     (λ c κs. search rules)
     (λ c.
     let most_of_point = c.before in
@@ -37,11 +37,11 @@ row_count_spec = tie.close (tie.spec
     let below = get2.before in
     let get = below.before in
     let start = get.before in
-    (sym (stop_low (suc (most_of start.args.w)) count_by.count_by.result (omega (arith, most_of_point.most-of.ensures))) ∙ count_row start.args.w start.args.rows.now start.args.table.now start.args.i start.requires.1 asks_at.asks_at.result asks_at.asks_at.ensures (count_read start.args.w start.args.rows.now start.args.table.now start.args.i start.requires.1 get.get.ensures below.below.ensures) (count_read start.args.w start.args.rows.now start.args.table.now start.args.i start.requires.1 get2.get2.ensures below2.below2.ensures) (count_read start.args.w start.args.rows.now start.args.table.now start.args.i start.requires.1 get3.get3.ensures below3.below3.ensures) count_by.count_by.ensures, omega (arith, most_of_point.most-of.ensures)))
+    (sym (stop_low (suc (most_of start.args.w)) count_by.count_by-x.result (omega (arith, most_of_point.most_of-most.ensures))) ∙ count_row start.args.w start.args.rows.now start.args.table.now start.args.i start.requires.1 asks_at.asks_at.result asks_at.asks_at.ensures (count_read start.args.w start.args.rows.now start.args.table.now start.args.i start.requires.1 get.get.ensures below.below-a.ensures) (count_read start.args.w start.args.rows.now start.args.table.now start.args.i start.requires.1 get2.get-2.ensures below2.below-b.ensures) (count_read start.args.w start.args.rows.now start.args.table.now start.args.i start.requires.1 get3.get-3.ensures below3.below-c.ensures) count_by.count_by-x.ensures, omega (arith, most_of_point.most_of-most.ensures)))
     (λ c.
     let most_of_point = c.before in
     let start = most_of_point.before.before.before.before.before.before.before.before.before in
-    omega (arith, most_of_point.most-of.ensures, most_small start.args.w))
+    omega (arith, most_of_point.most_of-most.ensures, most_small start.args.w))
     (λ c.
     let most_of_point = c.before in
     let count_by = most_of_point.before in
@@ -53,4 +53,4 @@ row_count_spec = tie.close (tie.spec
     let below = get2.before in
     let get = below.before in
     let start = get.before in
-    (omega (arith, most_of_point.most-of.ensures, stop_high (suc (most_of start.args.w)) count_by.count_by.result (omega (arith, most_of_point.most-of.ensures)), count_row start.args.w start.args.rows.now start.args.table.now start.args.i start.requires.1 asks_at.asks_at.result asks_at.asks_at.ensures (count_read start.args.w start.args.rows.now start.args.table.now start.args.i start.requires.1 get.get.ensures below.below.ensures) (count_read start.args.w start.args.rows.now start.args.table.now start.args.i start.requires.1 get2.get2.ensures below2.below2.ensures) (count_read start.args.w start.args.rows.now start.args.table.now start.args.i start.requires.1 get3.get3.ensures below3.below3.ensures) count_by.count_by.ensures), omega (arith, most_of_point.most-of.ensures))))
+    (omega (arith, most_of_point.most_of-most.ensures, stop_high (suc (most_of start.args.w)) count_by.count_by-x.result (omega (arith, most_of_point.most_of-most.ensures)), count_row start.args.w start.args.rows.now start.args.table.now start.args.i start.requires.1 asks_at.asks_at.result asks_at.asks_at.ensures (count_read start.args.w start.args.rows.now start.args.table.now start.args.i start.requires.1 get.get.ensures below.below-a.ensures) (count_read start.args.w start.args.rows.now start.args.table.now start.args.i start.requires.1 get2.get-2.ensures below2.below-b.ensures) (count_read start.args.w start.args.rows.now start.args.table.now start.args.i start.requires.1 get3.get-3.ensures below3.below-c.ensures) count_by.count_by-x.ensures), omega (arith, most_of_point.most_of-most.ensures))))

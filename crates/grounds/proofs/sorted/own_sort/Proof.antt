@@ -17,4 +17,4 @@ own_sort_spec = tie.close (tie.spec
     let get = below.before in
     let start = get.before in
     row_sort_is start.args.rows.now start.args.i asks_at.asks_at.result asks_at.asks_at.ensures
-    (c.sort-by.ensures (sort_below start.args.rows.now start.args.i (op_b start.args.rows.now start.args.i)) (sort_read start.args.rows.now start.args.table.now start.args.i start.requires.1 get.get.ensures below.below.ensures))))
+    (c.sort_by.ensures (sort_below start.args.rows.now start.args.i (op_b start.args.rows.now start.args.i)) (sort_read start.args.rows.now start.args.table.now start.args.i start.requires.1 get.get.ensures below.below-b.ensures))))

@@ -25,4 +25,4 @@ row_sorted_spec = tie.close (tie.spec
     let get = below.before in
     let start = get.before in
     row_sorted_is start.args.rows.now start.args.i asks_at.asks_at.result asks_at.asks_at.ensures
-    (c.operands-sorted.ensures (sort_below start.args.rows.now start.args.i (op_a start.args.rows.now start.args.i)) (sort_below start.args.rows.now start.args.i (op_b start.args.rows.now start.args.i)) (sort_below start.args.rows.now start.args.i (op_c start.args.rows.now start.args.i)) (sort_read start.args.rows.now start.args.table.now start.args.i start.requires.1 get.get.ensures below.below.ensures) (sort_read start.args.rows.now start.args.table.now start.args.i start.requires.1 get2.get2.ensures below2.below2.ensures) (sort_read start.args.rows.now start.args.table.now start.args.i start.requires.1 get3.get3.ensures below3.below3.ensures))))
+    (c.operands_sorted.ensures (sort_below start.args.rows.now start.args.i (op_a start.args.rows.now start.args.i)) (sort_below start.args.rows.now start.args.i (op_b start.args.rows.now start.args.i)) (sort_below start.args.rows.now start.args.i (op_c start.args.rows.now start.args.i)) (sort_read start.args.rows.now start.args.table.now start.args.i start.requires.1 get.get.ensures below.below-a.ensures) (sort_read start.args.rows.now start.args.table.now start.args.i start.requires.1 get2.get-2.ensures below2.below-b.ensures) (sort_read start.args.rows.now start.args.table.now start.args.i start.requires.1 get3.get-3.ensures below3.below-c.ensures))))

@@ -30,52 +30,52 @@ beyond k l g = sym (no_asks_lem k (kind_beyond 48 keys k refl l g))
 pub asks_of_spec : {M : Type 1} → statement M
 unfolding kind_of asks_of
 asks_of_spec = tie.close (tie.spec
-    (λ c. at_key c.match.keys1)
-    (λ c. at_key c.match.keys2)
-    (λ c. at_key c.match.keys3)
-    (λ c. at_key c.match.keys4)
-    (λ c. at_key c.match.keys5)
-    (λ c. at_key c.match.keys6)
-    (λ c. at_key c.match.keys7)
-    (λ c. at_key c.match.keys8)
-    (λ c. at_key c.match.keys9)
-    (λ c. at_key c.match.keys10)
-    (λ c. at_key c.match.keys11)
-    (λ c. one_of (λ k. asks_of 40 ≡ asks_of k) (40 ∷ 49 ∷ []) (refl, (refl, tt)) c.match.keys12)
-    (λ c. at_key c.match.keys13)
-    (λ c. at_key c.match.keys14)
-    (λ c. at_key c.match.keys15)
-    (λ c. at_key c.match.keys16)
-    (λ c. at_key c.match.keys17)
-    (λ c. in_asks 1 3 (tt, (refl, (refl, tt))) c.before.if1.false c.if2.true c.before.before.match.rest)
+    (λ c. at_key c.in_default-1.keys1)
+    (λ c. at_key c.in_default-1.keys2)
+    (λ c. at_key c.in_default-1.keys3)
+    (λ c. at_key c.in_default-1.keys4)
+    (λ c. at_key c.in_default-1.keys5)
+    (λ c. at_key c.in_default-1.keys6)
+    (λ c. at_key c.in_default-1.keys7)
+    (λ c. at_key c.in_default-1.keys8)
+    (λ c. at_key c.in_default-1.keys9)
+    (λ c. at_key c.in_default-1.keys10)
+    (λ c. at_key c.in_default-1.keys11)
+    (λ c. one_of (λ k. asks_of 40 ≡ asks_of k) (40 ∷ 49 ∷ []) (refl, (refl, tt)) c.in_default-1.keys12)
+    (λ c. at_key c.in_default-1.keys13)
+    (λ c. at_key c.in_default-1.keys14)
+    (λ c. at_key c.in_default-1.keys15)
+    (λ c. at_key c.in_default-1.keys16)
+    (λ c. at_key c.in_default-1.keys17)
+    (λ c. in_asks 1 3 (tt, (refl, (refl, tt))) c.before.if-k-lt1.false c.if-k-lt4.true c.before.before.in_default-1.rest)
     (λ c.
     let if3 = c.before in
     let match_at = if3.before.before.before in
-    in_asks 20 4 (tt, (tt, (refl, (refl, tt)))) if3.if3.false c.if4.true match_at.match.rest)
+    in_asks 20 4 (tt, (tt, (refl, (refl, tt)))) if3.if-k-lt20.false c.if-k-lt24.true match_at.in_default-1.rest)
     (λ c.
     let if4 = c.before in
     let match_at = if4.before.before.before.before in
-    in_asks 24 5 (tt, (tt, (tt, (refl, (refl, tt))))) if4.if4.false c.if5.true match_at.match.rest)
+    in_asks 24 5 (tt, (tt, (tt, (refl, (refl, tt))))) if4.if-k-lt24.false c.if-k-lt29.true match_at.in_default-1.rest)
     (λ c.
     let if6 = c.before in
     let match_at = if6.before.before.before.before.before.before in
-    in_asks 40 5 (tt, (tt, (tt, (refl, (refl, tt))))) if6.if6.false c.if7.true match_at.match.rest)
+    in_asks 40 5 (tt, (tt, (tt, (refl, (refl, tt))))) if6.if-k-lt40.false c.if-k-lt45.true match_at.in_default-1.rest)
     (λ c.
     let if7 = c.before in
     let match_at = if7.before.before.before.before.before.before.before in
-    in_asks 45 3 (tt, (refl, (refl, tt))) if7.if7.false c.if8.true match_at.match.rest)
-    (λ c. gap 0 1 c.before.before.args.k refl (omega arith) c.if1.true c.before.match.rest)
+    in_asks 45 3 (tt, (refl, (refl, tt))) if7.if-k-lt45.false c.if-k-lt48.true match_at.in_default-1.rest)
+    (λ c. gap 0 1 c.before.before.args.k refl (omega arith) c.if-k-lt1.true c.before.in_default-1.rest)
     (λ c.
     let if2 = c.before in
     let match_at = if2.before.before in
     let start = match_at.before in
-    gap 4 16 start.args.k refl if2.if2.false c.if3.true match_at.match.rest)
+    gap 4 16 start.args.k refl if2.if-k-lt4.false c.if-k-lt20.true match_at.in_default-1.rest)
     (λ c.
     let if5 = c.before in
     let match_at = if5.before.before.before.before.before in
     let start = match_at.before in
-    gap 29 11 start.args.k refl if5.if5.false c.if6.true match_at.match.rest)
+    gap 29 11 start.args.k refl if5.if-k-lt29.false c.if-k-lt40.true match_at.in_default-1.rest)
     (λ c.
     let match_at = c.before.before.before.before.before.before.before.before in
     let start = match_at.before in
-    beyond start.args.k c.if8.false match_at.match.rest))
+    beyond start.args.k c.if-k-lt48.false match_at.in_default-1.rest))

@@ -10,12 +10,12 @@ use Rattle.screens.proofs.count.read.Tie as tie
 
 pub read_spec : {M : Type 1} → statement M
 read_spec = tie.close (tie.spec
-    (λ c. (no_count c.before.before.args.s.now c.if1.true, omega arith))
+    (λ c. (no_count c.before.before.args.s.now c.if-s-ne-COUNT_BYTES.true, omega arith))
     (λ c. search rules)
     (λ c.
     let if1 = c.before.before in
     let start = if1.before.before in
-    (no_end start.args.s.now if1.if1.false c.if2.true, omega arith))
+    (no_end start.args.s.now if1.if-s-ne-COUNT_BYTES.false c.if-s-ne-NEWLINE.true, omega arith))
     (λ c κs. search rules)
     (λ c. search rules)
     (λ c κs. search rules)
@@ -28,8 +28,8 @@ read_spec = tie.close (tie.spec
     let if1 = if2.before.before in
     let start = if1.before.before in
     let s = start.args.s.now in
-    let q = read.read in
-    let e = count_number s if1.if1.false if2.if2.false q.result q.ensures reading.reading.given.0.0 c.few.result reading.reading.given.1 c.few.ensures in
+    let q = read.read-reading in
+    let e = count_number s if1.if-s-ne-COUNT_BYTES.false if2.if-s-ne-NEWLINE.false q.result q.ensures reading.reading-1.given.0.0 c.few.result reading.reading-1.given.1 c.few.ensures in
     (e, subst (λ n. n ≤ max_rows) (sym e) (count_few s)))
     (λ c.
     let read = c.before.before in
@@ -37,13 +37,13 @@ read_spec = tie.close (tie.spec
     let if1 = if2.before.before in
     let start = if1.before.before in
     let s = start.args.s.now in
-    let q = read.read in
-    (count_blank s if1.if1.false if2.if2.false q.result q.ensures c.enum_told.given.1, omega arith))
+    let q = read.read-reading in
+    (count_blank s if1.if-s-ne-COUNT_BYTES.false if2.if-s-ne-NEWLINE.false q.result q.ensures c.enum_told-1.given.1, omega arith))
     (λ c.
     let read = c.before.before in
     let if2 = read.before in
     let if1 = if2.before.before in
     let start = if1.before.before in
     let s = start.args.s.now in
-    let q = read.read in
-    (count_unread s if1.if1.false if2.if2.false q.result q.ensures c.enum-told2.given.1, omega arith)))
+    let q = read.read-reading in
+    (count_unread s if1.if-s-ne-COUNT_BYTES.false if2.if-s-ne-NEWLINE.false q.result q.ensures c.enum_told-in-Unreadable-1.given.1, omega arith)))

@@ -15,10 +15,10 @@ returns c =
     let strides = fails.before.before.before.before in
     let answer = strides.before.before.before.before in
     let start = answer.before.before.before in
-    head_written start.args.s.now answer.write.new.0 strides.write2.new.0 fails.write3.new.0 valued.write4.new.0
-    leaves.write-numbers.new.0 entries.write5.new.0 write_end.write-end.new.0 start.args.h leaves.write-numbers.ensures.1
-    answer.write.ensures.1 strides.write2.ensures.1 fails.write3.ensures.1 valued.write4.ensures.1
-    leaves.write-numbers.ensures.0 entries.write5.ensures.1 write_end.write-end.ensures
+    head_written start.args.s-1.now answer.write.new.0 strides.write-2.new.0 fails.write-3.new.0 valued.write-4.new.0
+    leaves.write_numbers.new.0 entries.write-5.new.0 write_end.write_end.new.0 start.args.h leaves.write_numbers.ensures.1
+    answer.write.ensures.1 strides.write-2.ensures.1 fails.write-3.ensures.1 valued.write-4.ensures.1
+    leaves.write_numbers.ensures.0 entries.write-5.ensures.1 write_end.write_end.ensures
 
 pub write_spec : {M : Type 1} → statement M
 write_spec = tie.close (tie.spec (λ c κs. search rules) (λ c κs. search rules) (λ c. search rules) (λ c κs. search rules) (λ c. search rules) (λ c. search rules)

@@ -13,26 +13,26 @@ begin_spec = tie.close (tie.spec
     let load_counted = c.before.before.before in
     let start = load_counted.before.before.before in
     let a = start.args in
-    let l = load_counted.load-counted in
-    omega (arith, l.ensures.0, counted_few a.n a.text.now a.rows.now))
+    let l = load_counted.load_counted-ground in
+    omega (arith, l.ensures.0, counted_few a.n a.text.now a.rows-1.now))
     (λ c. search rules)
     (λ c.
     let if1 = c.before.before in
     let load_counted = if1.before.before in
     let start = load_counted.before.before.before in
     let a = start.args in
-    let l = load_counted.load-counted in
-    begin_refused a.n a.text.now a.rows.now a.state.now a.out.now l.result l.new.1.1.0 l.ensures.0 l.ensures.1
-    if1.if1.true c.refuse.result c.refuse.new.1.0 c.refuse.ensures)
+    let l = load_counted.load_counted-ground in
+    begin_refused a.n a.text.now a.rows-1.now a.state-1.now a.out.now l.result l.new.1.1.0 l.ensures.0 l.ensures.1
+    if1.if-ground-ne0.true c.refuse.result c.refuse.new.1.0 c.refuse.ensures)
     (λ c κs. search rules)
     (λ c κs.
     let start = c.before.before.before.before in
     let load_counted = start.before.before.before.before.before in
     let start_at = load_counted.before.before.before in
     let a = start_at.args in
-    let l = load_counted.load-counted in
-    let q = start.start in
-    omega (arith, (start_few l.new.1.1.0 a.state.now q.result q.new.1.0 q.ensures.0 q.ensures.1).0))
+    let l = load_counted.load_counted-ground in
+    let q = start.start-a in
+    omega (arith, (start_few l.new.1.1.0 a.state-1.now q.result q.new.1.0 q.ensures.0 q.ensures.1).0))
     (λ c. search rules)
     (λ c. search rules)
     (λ c.
@@ -42,14 +42,14 @@ begin_spec = tie.close (tie.spec
     let load_counted = if1.before.before in
     let start_at = load_counted.before.before.before in
     let a = start_at.args in
-    let l = load_counted.load-counted in
-    let q = start.start in
-    begin_unstarted a.n a.text.now a.rows.now a.state.now a.out.now l.result l.new.1.1.0 l.ensures.0 l.ensures.1
-    if1.if1.false q.result q.new.1.0 q.ensures.0 if2.if2.true c.refuse2.result c.refuse2.new.1.0
-    c.refuse2.ensures)
+    let l = load_counted.load_counted-ground in
+    let q = start.start-a in
+    begin_unstarted a.n a.text.now a.rows-1.now a.state-1.now a.out.now l.result l.new.1.1.0 l.ensures.0 l.ensures.1
+    if1.if-ground-ne0.false q.result q.new.1.0 q.ensures.0 if2.if-a-ne0.true c.refuse-then-a-ne0.result c.refuse-then-a-ne0.new.1.0
+    c.refuse-then-a-ne0.ensures)
     (λ c κs.
-    let a = c.before.before.before.before.before.before.before.before.before.before.before.before.before.before.args in let l = c.before.before.before.before.before.before.before.before.before.before.before.load-counted in let q = c.before.before.before.before.before.before.start in
-    let f = start_few l.new.1.1.0 a.state.now q.result q.new.1.0 q.ensures.0 q.ensures.1 in
+    let a = c.before.before.before.before.before.before.before.before.before.before.before.before.before.before.args in let l = c.before.before.before.before.before.before.before.before.before.before.before.load_counted-ground in let q = c.before.before.before.before.before.before.start-a in
+    let f = start_few l.new.1.1.0 a.state-1.now q.result q.new.1.0 q.ensures.0 q.ensures.1 in
     (search rules, omega (arith, f.0), omega (arith, f.1)))
     (λ c. search rules)
     (λ c. search rules)
@@ -60,7 +60,7 @@ begin_spec = tie.close (tie.spec
     let load_counted = if1.before.before in
     let start_at = load_counted.before.before.before in
     let a = start_at.args in
-    let l = load_counted.load-counted in
-    let q = start.start in
-    begin_started a.n a.text.now a.rows.now a.state.now a.out.now l.result l.new.1.1.0 l.ensures.0 l.ensures.1
-    if1.if1.false q.result q.new.1.0 q.ensures.0 if2.if2.false c.show.result c.show.new.1.1.1.1.1.0 c.show.ensures))
+    let l = load_counted.load_counted-ground in
+    let q = start.start-a in
+    begin_started a.n a.text.now a.rows-1.now a.state-1.now a.out.now l.result l.new.1.1.0 l.ensures.0 l.ensures.1
+    if1.if-ground-ne0.false q.result q.new.1.0 q.ensures.0 if2.if-a-ne0.false c.show-bytes.result c.show-bytes.new.1.1.1.1.1.0 c.show-bytes.ensures))

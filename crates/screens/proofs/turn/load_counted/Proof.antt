@@ -10,11 +10,11 @@ pub load_counted_spec : {M : Type 1} → statement M
 load_counted_spec = tie.close (tie.spec
     (λ c.
     let a = c.before.before.args in
-    let e = not_met a.n a.text.now a.rows.now (λ h. c.if1.true (omega (arith, h))) in
+    let e = not_met a.n a.text.now a.rows-1.now (λ h. c.if-text-ne0.true (omega (arith, h))) in
     (ap (λ p. p.0) (sym e), ap (λ p. p.1) (sym e)))
     (λ c.
     let a = c.before.before.before.args in
-    let e = not_met a.n a.text.now a.rows.now (λ h. c.if2.true (omega (arith, h))) in
+    let e = not_met a.n a.text.now a.rows-1.now (λ h. c.if-text-n.true (omega (arith, h))) in
     (ap (λ p. p.0) (sym e), ap (λ p. p.1) (sym e)))
     (λ c κs. search rules)
     (λ c. search rules)
@@ -24,5 +24,5 @@ load_counted_spec = tie.close (tie.spec
     let if1 = if2.before in
     let start = if1.before.before in
     let a = start.args in
-    let e = met a.n a.text.now a.rows.now (omega (arith, if2.if2.false, if1.if1.false)) in
+    let e = met a.n a.text.now a.rows-1.now (omega (arith, if2.if-text-n.false, if1.if-text-ne0.false)) in
     (load.load.ensures.0 ∙ ap (λ p. p.0) (sym e), load.load.ensures.1 ∙ ap (λ p. p.1) (sym e))))

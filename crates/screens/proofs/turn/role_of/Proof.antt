@@ -6,13 +6,13 @@ use Rattle.screens.proofs.turn.role_of.Tie as tie
 
 pub role_of_spec : {M : Type 1} → statement M
 role_of_spec = tie.close (tie.spec
-    (λ c. role_short c.before.before.args.event.now c.if1.true)
+    (λ c. role_short c.before.before.args.event.now c.if-event-ne-EVENT_BYTES.true)
     (λ c κs. search rules)
     (λ c.
     let read = c.before in
     let if1 = read.before in
-    role_none if1.before.before.args.event.now if1.if1.false read.read-role.result read.read-role.ensures c.if2.true)
+    role_none if1.before.before.args.event.now if1.if-event-ne-EVENT_BYTES.false read.read_role-role.result read.read_role-role.ensures c.if-role-eq0.true)
     (λ c.
     let read = c.before in
     let if1 = read.before in
-    role_some if1.before.before.args.event.now if1.if1.false read.read-role.result read.read-role.ensures c.if2.false))
+    role_some if1.before.before.args.event.now if1.if-event-ne-EVENT_BYTES.false read.read_role-role.result read.read_role-role.ensures c.if-role-eq0.false))

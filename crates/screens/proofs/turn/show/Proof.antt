@@ -19,16 +19,16 @@ show_spec = tie.close (tie.spec
     let fill = c.before.before.before.before.before.before.before in
     let start = fill.before.before.before.before in
     let a = start.args in
-    let q = fill.fill in
-    let b = bytes_few a.rows.now a.state.now a.role a.answer a.strides a.out.now start.requires.0 q.result q.new.1.1.1.0 q.new.1.1.1.1.0 q.auto.1.1.1.1.0 q.ensures in
+    let q = fill.fill-seen in
+    let b = bytes_few a.rows.now a.state.now a.role a.answer a.strides a.out-1.now start.requires.0 q.result q.new.1.1.1.0 q.new.1.1.1.1.0 q.auto.1.1.1.1.0 q.ensures in
     record { fits = omega (arith, b) })
     (λ c κs. search rules)
     (λ c.
     let fill = c.before.before.before.before.before.before.before.before.before.before.before in
     let start = fill.before.before.before.before in
     let a = start.args in
-    let q = fill.fill in
-    let b = bytes_few a.rows.now a.state.now a.role a.answer a.strides a.out.now start.requires.0 q.result q.new.1.1.1.0 q.new.1.1.1.1.0 q.auto.1.1.1.1.0 q.ensures in
+    let q = fill.fill-seen in
+    let b = bytes_few a.rows.now a.state.now a.role a.answer a.strides a.out-1.now start.requires.0 q.result q.new.1.1.1.0 q.new.1.1.1.1.0 q.auto.1.1.1.1.0 q.ensures in
     record { fits = omega (arith, b) })
     (λ c. search rules)
     (λ c.
@@ -37,7 +37,7 @@ show_spec = tie.close (tie.spec
     let fill = copy_in.before.before.before.before.before.before in
     let start = fill.before.before.before.before in
     let a = start.args in
-    let q = fill.fill in
-    drawn a.rows.now a.state.now a.role a.answer a.strides a.out.now start.requires.0 q.result q.new.1.1.1.0 q.new.1.1.1.1.0
-    q.auto.1.1.1.1.0 q.ensures start.requires.1 start.requires.2 q.auto.1.1.1.0 copy_in.copy-in.ensures.1
-    copy_in.copy-in.new.1.0 write.write.new.0 copy_in.copy-in.ensures.0 write.write.auto.0 write.write.ensures))
+    let q = fill.fill-seen in
+    drawn a.rows.now a.state.now a.role a.answer a.strides a.out-1.now start.requires.0 q.result q.new.1.1.1.0 q.new.1.1.1.1.0
+    q.auto.1.1.1.1.0 q.ensures start.requires.1 start.requires.2 q.auto.1.1.1.0 copy_in.copy_in.ensures.1
+    copy_in.copy_in.new.1.0 write.write.new.0 copy_in.copy_in.ensures.0 write.write.auto.0 write.write.ensures))

@@ -8,36 +8,36 @@ use Rattle.sheet.proofs.ScanLaws.{line_unended, line_row, line_blank, line_unrea
 use Rattle.sheet.proofs.scan.is_line.Statement.{statement}
 use Rattle.sheet.proofs.scan.is_line.Tie as tie
 
-returns : tie.Need-returns
+returns : tie.Need-returns-then-sheet-at-ne-NEWLINE
 returns c =
     let start = c.before.before.before in
-    line_unended start.args.sheet.now start.args.i (start.args.i * line_bytes + (line_bytes - 1)) (omega arith) c.if1.true
+    line_unended start.args.sheet.now start.args.i (start.args.i * line_bytes + (line_bytes - 1)) (omega arith) c.if-sheet-at-ne-NEWLINE.true
 
-returns_2 : tie.Need-returns-2
+returns_2 : tie.Need-returns-in-Number
 returns_2 c =
     let reading = c.before in
     let start_at = reading.before.before in
     let read = start_at in
     let start = read.before.before.before.before in
-    line_row start.args.sheet.now start.args.i (start.args.i * line_bytes + (line_bytes - 1)) (omega arith) read.before.if1.false
-    reading.reading.given.0.0 start.requires.0 (sym reading.reading.given.1 ∙ read.read.ensures)
+    line_row start.args.sheet.now start.args.i (start.args.i * line_bytes + (line_bytes - 1)) (omega arith) read.before.if-sheet-at-ne-NEWLINE.false
+    reading.reading-1.given.0.0 start.requires.0 (sym reading.reading-1.given.1 ∙ read.read-reading.ensures)
 
-returns_3 : tie.Need-returns-3
+returns_3 : tie.Need-returns-in-Blank
 returns_3 c =
     let read = c.before.before in
     let if1 = read.before in
     let start_at = if1.before.before.before in
     let start = start_at in
-    line_blank start.args.sheet.now start.args.i (start.args.i * line_bytes + (line_bytes - 1)) (omega arith) if1.if1.false
-    (sym c.enum_told.given.1 ∙ read.read.ensures)
+    line_blank start.args.sheet.now start.args.i (start.args.i * line_bytes + (line_bytes - 1)) (omega arith) if1.if-sheet-at-ne-NEWLINE.false
+    (sym c.enum_told-1.given.1 ∙ read.read-reading.ensures)
 
-returns_4 : tie.Need-returns-4
+returns_4 : tie.Need-returns-in-Unreadable
 returns_4 c =
     let read = c.before.before in
     let if1 = read.before in
     let start = if1.before.before.before in
-    line_unread start.args.sheet.now start.args.i (start.args.i * line_bytes + (line_bytes - 1)) (omega arith) if1.if1.false
-    (sym c.enum-told2.given.1 ∙ read.read.ensures)
+    line_unread start.args.sheet.now start.args.i (start.args.i * line_bytes + (line_bytes - 1)) (omega arith) if1.if-sheet-at-ne-NEWLINE.false
+    (sym c.enum_told-in-Unreadable-1.given.1 ∙ read.read-reading.ensures)
 
 pub is_line_spec : {M : Type 1} → statement M
 is_line_spec = tie.close (tie.spec

@@ -11,10 +11,10 @@ use Rattle.sheet.proofs.ScanLaws.{line_none, line_stops, Kept, kept_none, kept_m
 use Rattle.sheet.proofs.scan.read_lines.Statement.{statement}
 use Rattle.sheet.proofs.scan.read_lines.Tie as tie
 
-abbrev invariant-loop : tie.invariant-loop
+abbrev invariant-loop : tie.invariant-loop-k
 invariant-loop sheet n own₀ good₀ i k₀ own good k = (k ≤ row_words) × (good ≡ true) × Kept sheet i own₀ k own
 
-abbrev decreases-loop : tie.decreases-loop
+abbrev decreases-loop : tie.decreases-loop-k
 decreases-loop sheet n own₀ good₀ i k₀ own good k = row_words - k
 
 abbrev invariant-lines : tie.invariant-lines
@@ -26,15 +26,15 @@ decreases-lines sheet n own₀ good₀ i₀ own good i = n - i
 lines_holds : tie.Need-lines-init invariant-loop decreases-loop invariant-lines decreases-lines
 lines_holds c = let start = c.before in (search rules, refl, rows_none start.args.sheet.now start.args.own.now start.requires.1)
 
-loop_holds : tie.Need-loop-init invariant-loop decreases-loop invariant-lines decreases-lines
+loop_holds : tie.Need-loop-k-init invariant-loop decreases-loop invariant-lines decreases-lines
 loop_holds c =
     let is_line = c.before in
     let start_at = is_line.before.before in
     let lines = start_at in
     let start = lines.before.before in
-    (search rules, lines.lines.invariant.1, kept_none start.args.sheet.now lines.lines.i lines.lines.own is_line.is-line.result is_line.is-line.ensures c.if1.false)
+    (search rules, lines.lines.invariant.1, kept_none start.args.sheet.now lines.lines.i lines.lines.own is_line.is_line.result is_line.is_line.ensures c.if-not-is_line.false)
 
-loop_again : tie.Need-loop-preserved invariant-loop decreases-loop invariant-lines decreases-lines
+loop_again : tie.Need-loop-k-preserved invariant-loop decreases-loop invariant-lines decreases-lines
 loop_again c =
     let read = c.before.before in
     let test = read.before.before in
@@ -42,7 +42,7 @@ loop_again c =
     let lines = loop.before.before.before.before in
     let start = lines.before.before in
     let few = rows_room start.args.sheet.now lines.lines.i (omega arith) lines.lines.invariant.2 in
-    (omega arith, loop.loop.invariant.1, kept_more start.args.sheet.now lines.lines.i lines.lines.own test.loop-test.true few loop.loop.invariant.2 read.read_word.result read.read_word.ensures (not-false _ c.if2.false))
+    (omega arith, loop.loop-k.invariant.1, kept_more start.args.sheet.now lines.lines.i lines.lines.own test.loop-k-test.true few loop.loop-k.invariant.2 read.read_word-word.result read.read_word-word.ensures (not-false _ c.if-not-word.false))
 
 lines_again : tie.Need-lines-preserved invariant-loop decreases-loop invariant-lines decreases-lines
 lines_again c =
@@ -50,15 +50,15 @@ lines_again c =
     let start_at = loop.before.before.before.before in
     let lines = start_at in
     let start = lines.before.before in
-    (omega arith, loop.loop.invariant.1, rows_more start.args.sheet.now lines.lines.i loop.loop.k (omega arith) (omega arith) lines.lines.invariant.2 loop.loop.invariant.2)
+    (omega arith, loop.loop-k.invariant.1, rows_more start.args.sheet.now lines.lines.i loop.loop-k.k (omega arith) (omega arith) lines.lines.invariant.2 loop.loop-k.invariant.2)
 
-returns : tie.Need-returns invariant-loop decreases-loop invariant-lines decreases-lines
+returns : tie.Need-returns-after-lines invariant-loop decreases-loop invariant-lines decreases-lines
 returns c =
     let lines = c.before in
     let start = lines.before.before in
     rows_all start.args.sheet.now lines.lines.own lines.lines.good lines.lines.i start.args.n (omega arith) lines.lines.invariant.1 lines.lines.invariant.2
 
-returns_2 : tie.Need-returns-2 invariant-loop decreases-loop invariant-lines decreases-lines
+returns_2 : tie.Need-returns-then-not-is_line invariant-loop decreases-loop invariant-lines decreases-lines
 returns_2 c =
     let is_line = c.before in
     let test = is_line.before in
@@ -66,9 +66,9 @@ returns_2 c =
     let lines = start_at in
     let start = lines.before.before in
     rows_stop start.args.sheet.now lines.lines.own lines.lines.i start.args.n test.lines-test.true
-    (line_none start.args.sheet.now lines.lines.i is_line.is-line.result is_line.is-line.ensures c.if1.true)
+    (line_none start.args.sheet.now lines.lines.i is_line.is_line.result is_line.is_line.ensures c.if-not-is_line.true)
 
-returns_3 : tie.Need-returns-3 invariant-loop decreases-loop invariant-lines decreases-lines
+returns_3 : tie.Need-returns-then-not-word invariant-loop decreases-loop invariant-lines decreases-lines
 returns_3 c =
     let read = c.before.before in
     let test = read.before.before in
@@ -77,8 +77,8 @@ returns_3 c =
     let lines = line.before in
     let start = lines.before.before in
     let few = rows_room start.args.sheet.now lines.lines.i (omega arith) lines.lines.invariant.2 in
-    rows_stop start.args.sheet.now loop.loop.own lines.lines.i start.args.n line.lines-test.true
-    (line_stops start.args.sheet.now lines.lines.i lines.lines.own test.loop-test.true few loop.loop.invariant.2 read.read_word.result read.read_word.ensures (not-true _ c.if2.true))
+    rows_stop start.args.sheet.now loop.loop-k.own lines.lines.i start.args.n line.lines-test.true
+    (line_stops start.args.sheet.now lines.lines.i lines.lines.own test.loop-k-test.true few loop.loop-k.invariant.2 read.read_word-word.result read.read_word-word.ensures (not-true _ c.if-not-word.true))
 
 pub read_lines_spec : {M : Type 1} → statement M
 read_lines_spec = tie.close (tie.spec invariant-loop decreases-loop invariant-lines decreases-lines

@@ -10,38 +10,38 @@ add_read : tie.Need-overflow-add-read
 add_read c =
     let place = c.before in
     let start = place.before.before in
-    let e = place.place_of.ensures in
+    let e = place.place_of-place.ensures in
     let l = place_in start.args.k start.requires.1 in
     omega (arith, e, l)
 
-returns : tie.Need-returns
+returns : tie.Need-returns-in-Number
 returns c =
     let reading = c.before in
     let read = reading.before.before in
     let columns = read.before in
     let place = columns.before in
     let start = place.before.before in
-    word_number start.args.sheet.now start.args.i start.args.k start.args.kind place.place_of.result columns.columns_of.result place.place_of.ensures columns.columns_of.ensures
-    reading.reading.given.0.0 (sym reading.reading.given.1 ∙ read.read.ensures)
+    word_number start.args.sheet.now start.args.i start.args.k start.args.kind place.place_of-place.result columns.columns_of-columns.result place.place_of-place.ensures columns.columns_of-columns.ensures
+    reading.reading-1.given.0.0 (sym reading.reading-1.given.1 ∙ read.read-reading.ensures)
 
-returns_2 : tie.Need-returns-2
+returns_2 : tie.Need-returns-in-Blank
 returns_2 c =
     let told = c.before in
     let read = told.before.before in
     let columns = read.before in
     let place = columns.before in
     let start = place.before.before in
-    word_blank start.args.sheet.now start.args.i start.args.k start.args.kind place.place_of.result columns.columns_of.result place.place_of.ensures columns.columns_of.ensures
-    c.unused.result (sym told.enum_told.given.1 ∙ read.read.ensures) c.unused.ensures
+    word_blank start.args.sheet.now start.args.i start.args.k start.args.kind place.place_of-place.result columns.columns_of-columns.result place.place_of-place.ensures columns.columns_of-columns.ensures
+    c.unused.result (sym told.enum_told-1.given.1 ∙ read.read-reading.ensures) c.unused.ensures
 
-returns_3 : tie.Need-returns-3
+returns_3 : tie.Need-returns-in-Unreadable
 returns_3 c =
     let read = c.before.before in
     let columns = read.before in
     let place = columns.before in
     let start = place.before.before in
-    word_unread start.args.sheet.now start.args.i start.args.k start.args.kind place.place_of.result columns.columns_of.result place.place_of.ensures columns.columns_of.ensures
-    (sym c.enum-told2.given.1 ∙ read.read.ensures)
+    word_unread start.args.sheet.now start.args.i start.args.k start.args.kind place.place_of-place.result columns.columns_of-columns.result place.place_of-place.ensures columns.columns_of-columns.ensures
+    (sym c.enum_told-in-Unreadable-1.given.1 ∙ read.read-reading.ensures)
 
 pub read_word_spec : {M : Type 1} → statement M
 read_word_spec = tie.close (tie.spec (λ c κs. search rules) (λ c κs. search rules) (λ c. search rules) add_read (λ c κs. search rules)
