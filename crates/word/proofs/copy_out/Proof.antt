@@ -44,7 +44,7 @@ copy_out_spec = tie.close (tie.spec invariant-loop decreases-loop
     let start = loop.before.before in
     let a = start.args in
     let l = loop.loop-i in
-    (l.invariant.0, omega arith, omega arith, simp length-set l.invariant.3, laid_more (to_z w32) a.own.now a.lent.now l.lent l.i 0 (pos 0) (to_z w32 (of_z w32 c.number-z.result)) (omega arith) (omega arith) l.invariant.4 (number_bits c.number-z.result c.number-z.type-inv ∙ c.number-z.ensures)))
+    (l.invariant.0, omega arith, omega arith, simp length-set l.invariant.3, laid_more (to_z w32) a.own.now a.lent.now l.lent l.i 0 (pos 0) (to_z w32 (of_z w32 c.number-z.result)) (omega arith) (omega arith) l.invariant.4 (number_bits c.number-z.result c.number-z.type_inv ∙ c.number-z.ensures)))
     (λ c. c.before.loop-i.invariant.3)
     (λ c.
     let loop = c.before in
