@@ -52,7 +52,7 @@ pub record Said (f : Field) (n : ℕ) : Type 0 where
 number_said_lem : (f : Field) (n : ℕ) → ((z : ℤ) → f ≡ number z → IsWord z) → Number n ≡ reading f → Said f n
 number_said_lem (number z) n w e =
     let g : n ≡ of_z w32 z = cc in
-    let h : to_z w32 n ≡ z = ap (to_z w32) g ∙ to_z-of_z (record { sfits = w z refl }) in
+    let h : to_z w32 n ≡ z = ap (to_z w32) g ∙ to_z-of_z {w = w32} (record { sfits = w z refl }) in
     record { is = ap number (sym h); word = w (to_z w32 n) (ap number (sym h)); bits = ap (of_z w32) h ∙ sym g }
 number_said_lem blank n w e = absurd (wrong (cc))
 number_said_lem unreadable n w e = absurd (wrong (cc))

@@ -13,7 +13,7 @@ read_spec = tie.close (tie.spec
     (λ c.
     let if1 = c.before in
     let start = if1.before.before in
-    front start.args.left start.args.to-1.now (le_of_lt if1.if-left-to.true))
+    front start.args.left start.args.to.now (le_of_lt if1.if-left-to.true))
     (λ c κs. search rules)
     (λ c. search rules)
     (λ c.

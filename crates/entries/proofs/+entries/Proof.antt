@@ -53,7 +53,7 @@ entries_returns : (t : ℕ) → entries-lts.Need-returns-then-shut (entries_call
 entries_returns t c =
     let shut = c.before in
     let start = shut.before.before.before.before in
-    (omega arith, entries_kept start.args.who start.args.rows.now start.args.state.now start.args.row start.args.env.now start.args.depth (path_of start.args.marks) start.args.list-1.now shut.shut.result shut.shut.ensures c.if-shut.true)
+    (omega arith, entries_kept start.args.who start.args.rows.now start.args.state.now start.args.row start.args.env.now start.args.depth (path_of start.args.marks) start.args.list.now shut.shut.result shut.shut.ensures c.if-shut.true)
 
 entries_enclose_requires : (t : ℕ) → entries-lts.Need-enclose-under-requires (entries_calls t) (entries_at t) entries.Post
 entries_enclose_requires t c κs =
@@ -80,7 +80,7 @@ entries_entries_requires t c κs =
     enclose.enclose-under.ensures.room start.requires.1.1
 
 entries_same_length : (t : ℕ) → entries-lts.Need-shape_of-list-then-part-ne0 (entries_calls t) (entries_at t) entries.Post
-entries_same_length t c = c.before.before.entries.auto.1.1.1.1.1.1.1.1.0
+entries_same_length t c = c.before.before.entries.auto.list
 
 entries_returns_2 : (t : ℕ) → entries-lts.Need-returns-then-part-ne0 (entries_calls t) (entries_at t) entries.Post
 entries_returns_2 t c =
@@ -92,7 +92,7 @@ entries_returns_2 t c =
     let if1 = shut.before in
     let handed_on = if1.before in
     let start = handed_on.before.before in
-    (entries.entries.ensures.0, entries_part start.args.who start.args.rows.now start.args.state.now start.args.row start.args.env.now start.args.depth (path_of start.args.marks) start.args.list-1.now shut.shut.result shut.shut.ensures if2.if-shut.false (handed_on.handed_on-part.ensures.on if1.if-part-ne0.true) operand.operand-a.ensures enclose.enclose-under.new.1.1.1.0 enclose.enclose-under.result enclose.enclose-under.ensures entries.entries.new.1.1.1.1.1.1.1.1.0 entries.entries.result entries.entries.ensures.1)
+    (entries.entries.ensures.0, entries_part start.args.who start.args.rows.now start.args.state.now start.args.row start.args.env.now start.args.depth (path_of start.args.marks) start.args.list.now shut.shut.result shut.shut.ensures if2.if-shut.false (handed_on.handed_on-part.ensures.on if1.if-part-ne0.true) operand.operand-a.ensures enclose.enclose-under.new.env enclose.enclose-under.result enclose.enclose-under.ensures entries.entries.new.list entries.entries.result entries.entries.ensures.1)
 
 entries_get_requires : (t : ℕ) → entries-lts.Need-get-kind-requires (entries_calls t) (entries_at t) entries.Post
 entries_get_requires t c κs = (c.before.before.before.requires.1.0.low, omega arith)
@@ -159,7 +159,7 @@ entries_returns_3 t c =
     let if1 = get.before in
     let handed_on = if1.before in
     let start = handed_on.before.before in
-    (omega arith, entries_full (who_of start.args.who) start.args.rows.now start.args.state.now start.args.row start.args.env.now start.args.depth (path_of start.args.marks) start.args.list-1.now (handed_on.handed_on-part.ensures.none if1.if-part-ne0.false) (omega (arith, get.get-kind.ensures, if5.if-kind-lt46.false)) (omega (arith, get.get-kind.ensures, if6.if-kind-lt48.true)) (path_full start.requires.1.1 c.if-unit-eq-MOST_UNIT.true))
+    (omega arith, entries_full (who_of start.args.who) start.args.rows.now start.args.state.now start.args.row start.args.env.now start.args.depth (path_of start.args.marks) start.args.list.now (handed_on.handed_on-part.ensures.none if1.if-part-ne0.false) (omega (arith, get.get-kind.ensures, if5.if-kind-lt46.false)) (omega (arith, get.get-kind.ensures, if6.if-kind-lt48.true)) (path_full start.requires.1.1 c.if-unit-eq-MOST_UNIT.true))
 
 entries_mul_two : (t : ℕ) → entries-lts.Need-overflow-mul-two (entries_calls t) (entries_at t) entries.Post
 entries_mul_two t c =
@@ -183,7 +183,7 @@ entries_entries_requires_4 t c κs =
     start.requires.1.0.room (at_first start.requires.1.1 if7.if-unit-eq-MOST_UNIT.false).1
 
 entries_same_length_2 : (t : ℕ) → entries-lts.Need-shape_of-list-in-43 (entries_calls t) (entries_at t) entries.Post
-entries_same_length_2 t c = c.before.before.entries-in-43.auto.1.1.1.1.1.1.1.1.0
+entries_same_length_2 t c = c.before.before.entries-in-43.auto.list
 
 entries_returns_4 : (t : ℕ) → entries-lts.Need-returns-in-43 (entries_calls t) (entries_at t) entries.Post
 entries_returns_4 t c =
@@ -194,10 +194,10 @@ entries_returns_4 t c =
     let if1 = get.before in
     let handed_on = if1.before in
     let start = handed_on.before.before in
-    (entries2.entries-in-43.ensures.0, entries_then (who_of start.args.who) start.args.rows.now start.args.state.now start.args.row start.args.env.now start.args.depth (path_of start.args.marks) start.args.list-1.now (handed_on.handed_on-part.ensures.none if1.if-part-ne0.false) entries2.entries-in-43.new.1.1.1.1.1.1.1.1.0 operand2.operand-a-2.result entries2.entries-in-43.result (sym get.get-kind.ensures ∙ match_at.in_default-1.keys1) operand2.operand-a-2.ensures entries2.entries-in-43.ensures.1)
+    (entries2.entries-in-43.ensures.0, entries_then (who_of start.args.who) start.args.rows.now start.args.state.now start.args.row start.args.env.now start.args.depth (path_of start.args.marks) start.args.list.now (handed_on.handed_on-part.ensures.none if1.if-part-ne0.false) entries2.entries-in-43.new.list operand2.operand-a-2.result entries2.entries-in-43.result (sym get.get-kind.ensures ∙ match_at.in_default-1.keys1) operand2.operand-a-2.ensures entries2.entries-in-43.ensures.1)
 
 entries_same_length_4 : (t : ℕ) → entries-lts.Need-shape_of-list-in-48 (entries_calls t) (entries_at t) entries.Post
-entries_same_length_4 t c = c.before.before.choice.auto.1.1.1.1.1.1.0
+entries_same_length_4 t c = c.before.before.choice.auto.list
 
 entries_returns_6 : (t : ℕ) → entries-lts.Need-returns-in-48 (entries_calls t) (entries_at t) entries.Post
 entries_returns_6 t c =
@@ -206,7 +206,7 @@ entries_returns_6 t c =
     (choice.choice.ensures.0, choice.choice.ensures.1 (who_of start.args.who))
 
 entries_same_length_5 : (t : ℕ) → entries-lts.Need-shape_of-list-in-40-to-42 (entries_calls t) (entries_at t) entries.Post
-entries_same_length_5 t c = c.before.before.offer.auto.1.1.1.1.0
+entries_same_length_5 t c = c.before.before.offer.auto.list
 
 entries_returns_7 : (t : ℕ) → entries-lts.Need-returns-in-40-to-42 (entries_calls t) (entries_at t) entries.Post
 entries_returns_7 t c =
@@ -220,7 +220,7 @@ entries_returns_9 t c =
     let if1 = get.before in
     let handed_on = if1.before in
     let start = handed_on.before.before in
-    (omega arith, entries_none (who_of start.args.who) start.args.rows.now start.args.state.now start.args.row start.args.env.now start.args.depth (path_of start.args.marks) start.args.list-1.now (handed_on.handed_on-part.ensures.none if1.if-part-ne0.false) (λ h g. omega (arith, get.get-kind.ensures, c.if-kind-lt40.true, h)) (λ h g. omega (arith, get.get-kind.ensures, c.if-kind-lt40.true, h)))
+    (omega arith, entries_none (who_of start.args.who) start.args.rows.now start.args.state.now start.args.row start.args.env.now start.args.depth (path_of start.args.marks) start.args.list.now (handed_on.handed_on-part.ensures.none if1.if-part-ne0.false) (λ h g. omega (arith, get.get-kind.ensures, c.if-kind-lt40.true, h)) (λ h g. omega (arith, get.get-kind.ensures, c.if-kind-lt40.true, h)))
 
 entries_returns_10 : (t : ℕ) → entries-lts.Need-returns-in_default-2 (entries_calls t) (entries_at t) entries.Post
 entries_returns_10 t c =
@@ -230,7 +230,7 @@ entries_returns_10 t c =
     let if1 = get.before in
     let handed_on = if1.before in
     let start = handed_on.before.before in
-    (omega arith, entries_none (who_of start.args.who) start.args.rows.now start.args.state.now start.args.row start.args.env.now start.args.depth (path_of start.args.marks) start.args.list-1.now (handed_on.handed_on-part.ensures.none if1.if-part-ne0.false) (λ h g. none_mid (omega (arith, if4.if-kind-lt43.false)) match_at.in_default-1.rest.0.0.1 match_at.in_default-1.rest.0.1 (omega (arith, get.get-kind.ensures, g))) (λ h g. omega (arith, get.get-kind.ensures, c.if-kind-lt46.true, h)))
+    (omega arith, entries_none (who_of start.args.who) start.args.rows.now start.args.state.now start.args.row start.args.env.now start.args.depth (path_of start.args.marks) start.args.list.now (handed_on.handed_on-part.ensures.none if1.if-part-ne0.false) (λ h g. none_mid (omega (arith, if4.if-kind-lt43.false)) match_at.in_default-1.rest.0.0.1 match_at.in_default-1.rest.0.1 (omega (arith, get.get-kind.ensures, g))) (λ h g. omega (arith, get.get-kind.ensures, c.if-kind-lt46.true, h)))
 
 entries_returns_11 : (t : ℕ) → entries-lts.Need-returns-in_default-3 (entries_calls t) (entries_at t) entries.Post
 entries_returns_11 t c =
@@ -239,18 +239,18 @@ entries_returns_11 t c =
     let if1 = get.before in
     let handed_on = if1.before in
     let start = handed_on.before.before in
-    (omega arith, entries_none (who_of start.args.who) start.args.rows.now start.args.state.now start.args.row start.args.env.now start.args.depth (path_of start.args.marks) start.args.list-1.now (handed_on.handed_on-part.ensures.none if1.if-part-ne0.false) (λ h g. omega (arith, get.get-kind.ensures, c.if-kind-lt48.false, g)) (λ h g. none_high (omega (arith, c.if-kind-lt48.false)) match_at.in_default-1.rest.1 (omega (arith, get.get-kind.ensures, g))))
+    (omega arith, entries_none (who_of start.args.who) start.args.rows.now start.args.state.now start.args.row start.args.env.now start.args.depth (path_of start.args.marks) start.args.list.now (handed_on.handed_on-part.ensures.none if1.if-part-ne0.false) (λ h g. omega (arith, get.get-kind.ensures, c.if-kind-lt48.false, g)) (λ h g. none_high (omega (arith, c.if-kind-lt48.false)) match_at.in_default-1.rest.1 (omega (arith, get.get-kind.ensures, g))))
 
 -- ---- 44: Continue, after the left side's entries
 
 -- what is known where Continue's entry was asked for
 entries_next_after : (t : ℕ) (c : entries-lts.After-least (entries_calls t) (entries_at t) entries.Post) → let button = c.before.before.before in let least = button.before.before in let entries3 = least.before.before.before.before in
-    After entries3.before.before.before.before.before.before.before.before.before.args.list-1.now entries3.entries-n.new.1.1.1.1.1.1.1.1.0 entries3.entries-n.result button.button-m.result least.least-at.result c.least.result
+    After entries3.before.before.before.before.before.before.before.before.before.args.list.now entries3.entries-n.new.list entries3.entries-n.result button.button-m.result least.least-at.result c.least.result
 entries_next_after t c =
     let button = c.before.before.before in
     let least = button.before.before in
     let entries3 = least.before.before.before.before in
-    record { kept = entries3.entries-n.auto.1.1.1.1.1.1.1.1.0; place = least.least-at.ensures; sum = c.least.ensures }
+    record { kept = entries3.entries-n.auto.list; place = least.least-at.ensures; sum = c.least.ensures }
 
 entries_button_requires : (t : ℕ) → entries-lts.Need-button-m-requires (entries_calls t) (entries_at t) entries.Post
 entries_button_requires t c κs =
@@ -268,8 +268,8 @@ entries_same_length_3 t c =
     let button = c.before.before.before in
     let least = button.before.before in
     let entries3 = least.before.before.before.before in
-    same_len_mid least.least-at.result (length entries3.entries-n.new.1.1.1.1.1.1.1.1.0 - least.least-at.result)
-    entries3.entries-n.new.1.1.1.1.1.1.1.1.0 button.button-m.new.0 button.button-m.auto.0 ∙ entries3.entries-n.auto.1.1.1.1.1.1.1.1.0
+    same_len_mid least.least-at.result (length entries3.entries-n.new.list - least.least-at.result)
+    entries3.entries-n.new.list button.button-m.new.list button.button-m.auto.list ∙ entries3.entries-n.auto.list
 
 entries_returns_5 : (t : ℕ) → entries-lts.Need-returns-in-44 (entries_calls t) (entries_at t) entries.Post
 entries_returns_5 t c =
@@ -282,18 +282,18 @@ entries_returns_5 t c =
     let if1 = get.before in
     let handed_on = if1.before in
     let start = handed_on.before.before in
-    (c.least.ensures.at_most, entries_next (who_of start.args.who) start.args.rows.now start.args.state.now start.args.row start.args.env.now start.args.depth (path_of start.args.marks) start.args.list-1.now (handed_on.handed_on-part.ensures.none if1.if-part-ne0.false) operand2.operand-a-2.result goes_on.goes_on-enabled.result (sym get.get-kind.ensures ∙ match_at.in_default-1.keys2) operand2.operand-a-2.ensures (entries_next_after t c) entries3.entries-n.ensures.1 goes_on.goes_on-enabled.ensures button.button-m.ensures)
+    (c.least.ensures.at_most, entries_next (who_of start.args.who) start.args.rows.now start.args.state.now start.args.row start.args.env.now start.args.depth (path_of start.args.marks) start.args.list.now (handed_on.handed_on-part.ensures.none if1.if-part-ne0.false) operand2.operand-a-2.result goes_on.goes_on-enabled.result (sym get.get-kind.ensures ∙ match_at.in_default-1.keys2) operand2.operand-a-2.ensures (entries_next_after t c) entries3.entries-n.ensures.1 goes_on.goes_on-enabled.ensures button.button-m.ensures)
 
 -- ---- 46 and 47: the right part's entries, after the left part's
 
 -- what is known where the right part's entries were asked for
 entries_both_after : (t : ℕ) (c : entries-lts.After-least-in-46-to-47 (entries_calls t) (entries_at t) entries.Post) → let entries5 = c.before.before.before in let least3 = entries5.before.before in let entries4 = least3.before.before.before in
-    After entries4.before.before.before.before.before.before.before.before.before.before.before.before.before.before.args.list-1.now entries4.entries-n-in-46-to-47.new.1.1.1.1.1.1.1.1.0 entries4.entries-n-in-46-to-47.result entries5.entries-m.result least3.least-at-in-46-to-47.result c.least-in-46-to-47.result
+    After entries4.before.before.before.before.before.before.before.before.before.before.before.before.before.before.args.list.now entries4.entries-n-in-46-to-47.new.list entries4.entries-n-in-46-to-47.result entries5.entries-m.result least3.least-at-in-46-to-47.result c.least-in-46-to-47.result
 entries_both_after t c =
     let entries5 = c.before.before.before in
     let least3 = entries5.before.before in
     let entries4 = least3.before.before.before in
-    record { kept = entries4.entries-n-in-46-to-47.auto.1.1.1.1.1.1.1.1.0; place = least3.least-at-in-46-to-47.ensures; sum = c.least-in-46-to-47.ensures }
+    record { kept = entries4.entries-n-in-46-to-47.auto.list; place = least3.least-at-in-46-to-47.ensures; sum = c.least-in-46-to-47.ensures }
 
 entries_add_entries_2 : (t : ℕ) → entries-lts.Need-overflow-add-entries-2 (entries_calls t) (entries_at t) entries.Post
 entries_add_entries_2 t c =
@@ -322,9 +322,9 @@ entries_same_length_6 t c =
     let entries5 = c.before.before.before in
     let least3 = entries5.before.before in
     let entries4 = least3.before.before.before in
-    same_len_mid least3.least-at-in-46-to-47.result (length entries4.entries-n-in-46-to-47.new.1.1.1.1.1.1.1.1.0 - least3.least-at-in-46-to-47.result)
-    entries4.entries-n-in-46-to-47.new.1.1.1.1.1.1.1.1.0 entries5.entries-m.new.1.1.1.1.1.1.1.1.0
-    entries5.entries-m.auto.1.1.1.1.1.1.1.1.0 ∙ entries4.entries-n-in-46-to-47.auto.1.1.1.1.1.1.1.1.0
+    same_len_mid least3.least-at-in-46-to-47.result (length entries4.entries-n-in-46-to-47.new.list - least3.least-at-in-46-to-47.result)
+    entries4.entries-n-in-46-to-47.new.list entries5.entries-m.new.list
+    entries5.entries-m.auto.list ∙ entries4.entries-n-in-46-to-47.auto.list
 
 entries_returns_8 : (t : ℕ) → entries-lts.Need-returns-else-unit-eq-MOST_UNIT (entries_calls t) (entries_at t) entries.Post
 entries_returns_8 t c =
@@ -339,7 +339,7 @@ entries_returns_8 t c =
     let if1 = get.before in
     let handed_on = if1.before in
     let start = handed_on.before.before in
-    (c.least-in-46-to-47.ensures.at_most, entries_marked (who_of start.args.who) start.args.rows.now start.args.state.now start.args.row start.args.env.now start.args.depth start.args.marks start.args.unit start.args.list-1.now operand2.operand-a-2.result operand3.operand-b.result start.requires.1.1 if7.if-unit-eq-MOST_UNIT.false (handed_on.handed_on-part.ensures.none if1.if-part-ne0.false) (entries_both_after t c) (omega (arith, get.get-kind.ensures, if5.if-kind-lt46.false)) (omega (arith, get.get-kind.ensures, if6.if-kind-lt48.true)) operand2.operand-a-2.ensures operand3.operand-b.ensures entries4.entries-n-in-46-to-47.ensures.1 entries5.entries-m.ensures.1)
+    (c.least-in-46-to-47.ensures.at_most, entries_marked (who_of start.args.who) start.args.rows.now start.args.state.now start.args.row start.args.env.now start.args.depth start.args.marks start.args.unit start.args.list.now operand2.operand-a-2.result operand3.operand-b.result start.requires.1.1 if7.if-unit-eq-MOST_UNIT.false (handed_on.handed_on-part.ensures.none if1.if-part-ne0.false) (entries_both_after t c) (omega (arith, get.get-kind.ensures, if5.if-kind-lt46.false)) (omega (arith, get.get-kind.ensures, if6.if-kind-lt48.true)) operand2.operand-a-2.ensures operand3.operand-b.ensures entries4.entries-n-in-46-to-47.ensures.1 entries5.entries-m.ensures.1)
 
 pub +entries-spec : {M : Type 1} → statement M
 +entries-spec = close μ_entries λ t. entries-lts.spec (entries_calls t) (entries_at t)

@@ -38,6 +38,6 @@ choice_spec = tie.close (tie.spec
     let start = operand.before.before in
     let m = button.button-n.ensures.most in
     let m₂ = button2.button.ensures.most in
-    let after : After start.args.list-1.now button.button-n.new.0 button.button-n.result button2.button.result least.least-at.result (button.button-n.result + button2.button.result) =
-    record { kept = button.button-n.auto.0; place = least.least-at.ensures; sum = record { at_most = omega (arith, m, m₂); first = λ _. refl; second = λ h. absurd (omega (arith, m, m₂, h)) } } in
-    (omega (arith, m, m₂), λ v. entries_choice v start.args.rows.now start.args.state.now start.args.row start.args.env.now start.args.depth (path_of start.args.marks) start.args.list-1.now start.requires.2 operand.operand.result operand2.operand-2.result tried.tried-left.result tried2.tried-right.result start.requires.1 operand.operand.ensures operand2.operand-2.ensures after tried.tried-left.ensures tried2.tried-right.ensures button.button-n.ensures button2.button.ensures)))
+    let after : After start.args.list.now button.button-n.new.list button.button-n.result button2.button.result least.least-at.result (button.button-n.result + button2.button.result) =
+    record { kept = button.button-n.auto.list; place = least.least-at.ensures; sum = record { at_most = omega (arith, m, m₂); first = λ _. refl; second = λ h. absurd (omega (arith, m, m₂, h)) } } in
+    (omega (arith, m, m₂), λ v. entries_choice v start.args.rows.now start.args.state.now start.args.row start.args.env.now start.args.depth (path_of start.args.marks) start.args.list.now start.requires.2 operand.operand.result operand2.operand-2.result tried.tried-left.result tried2.tried-right.result start.requires.1 operand.operand.ensures operand2.operand-2.ensures after tried.tried-left.ensures tried2.tried-right.ensures button.button-n.ensures button2.button.ensures)))

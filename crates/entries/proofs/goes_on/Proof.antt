@@ -1,4 +1,5 @@
 -- `entries::goes_on` meets its contract, a way by its law. Assumes nothing.
+use Rattle.std.proofs.lemmas.Bool.{not_from_false, not_from_true}
 use mathlib.Core.Path.{refl}
 use native.Mathlib.Omega.{arith}
 use borrow.Author.Rules.{rules}
@@ -17,7 +18,7 @@ goes_on_spec = tie.close (tie.spec
     let operand = value.before in
     let start = operand.before in
     goes_none start.args.rows.now start.args.state.now start.args.row start.args.env.now start.args.depth
-    operand.operand.result operand.operand.ensures value.value-found.result value.value-found.ensures (not-true _ c.if-not-found.true))
+    operand.operand.result operand.operand.ensures value.value-found.result value.value-found.ensures (not-true _ (not_from_false _ c.if-not-found.true)))
     (λ c κs. search rules)
     (λ c.
     let if1 = c.before.before.before in
@@ -25,5 +26,5 @@ goes_on_spec = tie.close (tie.spec
     let operand = value.before in
     let start = operand.before in
     goes_tried start.args.rows.now start.args.state.now start.args.row start.args.env.now start.args.depth
-    operand.operand.result operand.operand.ensures value.value-found.result value.value-found.ensures c.attempt.new.1.0
-    c.attempt.result (not-false _ if1.if-not-found.false) c.attempt.ensures))
+    operand.operand.result operand.operand.ensures value.value-found.result value.value-found.ensures c.attempt.new.state
+    c.attempt.result (not-false _ (not_from_true _ if1.if-not-found.false)) c.attempt.ensures))

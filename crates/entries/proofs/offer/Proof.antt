@@ -25,4 +25,4 @@ offer_spec = tie.close (tie.spec
     let leaf_kinds = write_entry.before in
     let content = leaf_kinds.before.before in
     let start = content.before.before in
-    (omega (arith, write_entry.write_entry.ensures.most), λ env d v. entries_offer v start.args.rows.now start.args.state.now start.args.row env d (path_of start.args.marks) start.args.list-1.now write_entry.write_entry.new.0 write_entry.write_entry.result content.content-shape.result content.content-shape.ensures (subst (λ ks. Wrote start.args.list-1.now write_entry.write_entry.new.0 write_entry.write_entry.result (numbers_entry (path_of start.args.marks) (act_number giving) ks)) leaf_kinds.leaf_kinds.ensures write_entry.write_entry.ensures))))
+    (omega (arith, write_entry.write_entry.ensures.most), λ env d v. entries_offer v start.args.rows.now start.args.state.now start.args.row env d (path_of start.args.marks) start.args.list.now write_entry.write_entry.new.list write_entry.write_entry.result content.content-shape.result content.content-shape.ensures (subst (λ ks. Wrote start.args.list.now write_entry.write_entry.new.list write_entry.write_entry.result (numbers_entry (path_of start.args.marks) (act_number giving) ks)) leaf_kinds.leaf_kinds.ensures write_entry.write_entry.ensures))))

@@ -15,7 +15,7 @@ returns : tie.Need-returns-then-list-lt-ENTRY_BYTES
 returns c =
     let start = c.before.before in
     let kinds : length start.args.kinds ≡ max_leaves = let g = start.well_formed in search rules in
-    wrote_nothing (path_of start.args.marks) start.requires.0 start.args.action start.requires.1 start.args.kinds kinds start.requires.2 start.args.list-1.now c.if-list-lt-ENTRY_BYTES.true
+    wrote_nothing (path_of start.args.marks) start.requires.0 start.args.action start.requires.1 start.args.kinds kinds start.requires.2 start.args.list.now c.if-list-lt-ENTRY_BYTES.true
 
 same_length : tie.Need-shape_of-list
 same_length c =
@@ -23,8 +23,8 @@ same_length c =
     let start = write_numbers.before.before.before.before in
     let action = start in
     let path = action.before.before.before.before in
-    length-set write_numbers.write_numbers.new.0 (entry_bytes - 1) newline ∙ write_numbers.write_numbers.auto.0 ∙ action.write-2.auto.0 ∙
-    path.write.auto.0
+    length-set write_numbers.write_numbers.new.s (entry_bytes - 1) newline ∙ write_numbers.write_numbers.auto.s ∙ action.write-2.auto.s ∙
+    path.write.auto.s
 
 returns_2 : tie.Need-returns
 returns_2 c =
@@ -35,7 +35,7 @@ returns_2 c =
     let start = room.before.before in
     let kinds : length start.args.kinds ≡ max_leaves = let g = start.well_formed in search rules in
     wrote_entry (path_of start.args.marks) start.requires.0 start.args.action start.requires.1 start.args.kinds kinds start.requires.2
-    start.args.list-1.now path.write.new.0 action.write-2.new.0 numbers.write_numbers.new.0
+    start.args.list.now path.write.new.s action.write-2.new.s numbers.write_numbers.new.s
     room.if-list-lt-ENTRY_BYTES.false path.write.ensures.1 action.write-2.ensures.1 numbers.write_numbers.ensures.0
 
 pub write_entry_spec : {M : Type 1} → statement M

@@ -115,7 +115,7 @@ pub +eval-spec : {M : Type 1} → statement M
     let get = match_at.before in
     let start = get.before in
     eval_if_true start.args.rows.now start.args.row start.args.env.now start.args.depth start.args.state.now
-    eval3.eval-test.new.1.0 eval4.eval-taken.new.1.0 eval3.eval-test.result eval4.eval-taken.result c.after-then-is_true.result c.after-then-is_true.ensures
+    eval3.eval-test.new.state eval4.eval-taken.new.state eval3.eval-test.result eval4.eval-taken.result c.after-then-is_true.result c.after-then-is_true.ensures
     is_true.is_true.result is_true.is_true.ensures operand3.operand-in-25.result operand4.operand-then-is_true.result
     (sym get.get-kind.ensures ∙ match_at.in_default-1.keys2) operand3.operand-in-25.ensures eval3.eval-test.ensures eval4.eval-taken.ensures
     if1.if-is_true.true operand4.operand-then-is_true.ensures)
@@ -180,7 +180,7 @@ pub +eval-spec : {M : Type 1} → statement M
     let get = match_at.before in
     let start = get.before in
     eval_deep start.args.rows.now start.args.row start.args.env.now start.args.depth start.args.state.now
-    eval9.eval-bound.new.1.0 c.sure-then-depth-ge-MAX_BINDERS.result (sym get.get-kind.ensures ∙ match_at.in_default-1.keys6) if2.if-depth-ge-MAX_BINDERS.true)
+    eval9.eval-bound.new.state c.sure-then-depth-ge-MAX_BINDERS.result (sym get.get-kind.ensures ∙ match_at.in_default-1.keys6) if2.if-depth-ge-MAX_BINDERS.true)
     (λ c κs. c.if-depth-ge-MAX_BINDERS.false)
     (λ c κs.
     let start = c.before.before.before.before.before.before.before.before in
@@ -225,7 +225,7 @@ pub +eval-spec : {M : Type 1} → statement M
     let x = eval.eval-x.result in
     let y = eval2.eval-y.result in
     eval_op start.args.rows.now start.args.row start.args.env.now start.args.depth start.args.state.now
-    eval.eval-x.new.1.0 eval2.eval-y.new.1.0 x y c.after-in-24.result operand.operand.result
+    eval.eval-x.new.state eval2.eval-y.new.state x y c.after-in-24.result operand.operand.result
     operand2.operand-in-24.result get2.get.result (sym get.get-kind.ensures ∙ match_at.in_default-1.keys1) operand.operand.ensures
     operand2.operand-in-24.ensures get2.get.ensures eval.eval-x.ensures eval2.eval-y.ensures
     (c.after-in-24.ensures ∙ ap (after_over x.over) (after.after.ensures ∙ ap (after_over y.over) apply.apply-z.ensures)))
@@ -240,7 +240,7 @@ pub +eval-spec : {M : Type 1} → statement M
     let get = match_at.before in
     let start = get.before in
     eval_if_false start.args.rows.now start.args.row start.args.env.now start.args.depth start.args.state.now
-    eval3.eval-test.new.1.0 eval5.eval-other.new.1.0 eval3.eval-test.result eval5.eval-other.result c.after-in-25.result c.after-in-25.ensures
+    eval3.eval-test.new.state eval5.eval-other.new.state eval3.eval-test.result eval5.eval-other.result c.after-in-25.result c.after-in-25.ensures
     is_true.is_true.result is_true.is_true.ensures operand3.operand-in-25.result operand5.operand-in-25-2.result
     (sym get.get-kind.ensures ∙ match_at.in_default-1.keys2) operand3.operand-in-25.ensures eval3.eval-test.ensures eval5.eval-other.ensures
     if1.if-is_true.false operand5.operand-in-25-2.ensures)
@@ -258,7 +258,7 @@ pub +eval-spec : {M : Type 1} → statement M
     let x = eval6.eval-a.result in
     let y = eval7.eval-b.result in
     eval_pair start.args.rows.now start.args.row start.args.env.now start.args.depth start.args.state.now
-    eval6.eval-a.new.1.0 eval7.eval-b.new.1.0 x y c.after-in-26-2.result
+    eval6.eval-a.new.state eval7.eval-b.new.state x y c.after-in-26-2.result
     operand6.operand-in-26.result operand7.operand-in-26-2.result (sym get.get-kind.ensures ∙ match_at.in_default-1.keys3) operand6.operand-in-26.ensures
     operand7.operand-in-26-2.ensures eval6.eval-a.ensures eval7.eval-b.ensures
     (c.after-in-26-2.ensures ∙ ap (after_over x.over) (after5.after-in-26.ensures ∙ ap (after_over y.over) (sure.sure.ensures ∙ ap sure_of pair.pair-both.ensures))))
@@ -284,7 +284,7 @@ pub +eval-spec : {M : Type 1} → statement M
     let start = get.before in
     let x = eval8.eval-content.result in
     eval_assign start.args.rows.now start.args.row start.args.env.now start.args.depth start.args.state.now
-    eval8.eval-content.new.1.0 put_value.put_value.new.0 x c.after-in-30.result operand10.operand-in-30-2.result
+    eval8.eval-content.new.state put_value.put_value.new.state x c.after-in-30.result operand10.operand-in-30-2.result
     operand9.operand-in-30.result (sym get.get-kind.ensures ∙ match_at.in_default-1.keys5) operand10.operand-in-30-2.ensures operand9.operand-in-30.ensures
     eval8.eval-content.ensures put_value.put_value.ensures
     (c.after-in-30.ensures ∙ ap (after_over x.over) (sure3.sure-in-30.ensures ∙ ap sure_of unit.unit.ensures)))
@@ -298,7 +298,7 @@ pub +eval-spec : {M : Type 1} → statement M
     let get = match_at.before in
     let start = get.before in
     eval_let start.args.rows.now start.args.row start.args.env.now start.args.depth start.args.state.now
-    eval9.eval-bound.new.1.0 eval10.eval-body.new.1.0 pushed.pushed-inner.result eval9.eval-bound.result eval10.eval-body.result
+    eval9.eval-bound.new.state eval10.eval-body.new.state pushed.pushed-inner.result eval9.eval-bound.result eval10.eval-body.result
     c.after-in-31.result c.after-in-31.ensures operand11.operand-in-31.result operand12.operand-in-31-2.result
     (sym get.get-kind.ensures ∙ match_at.in_default-1.keys6) operand11.operand-in-31.ensures operand12.operand-in-31-2.ensures
     eval9.eval-bound.ensures pushed.pushed-inner.ensures eval10.eval-body.ensures)
@@ -319,7 +319,7 @@ pub +eval-spec : {M : Type 1} → statement M
     let start = get.before in
     let x = eval11.eval-whole.result in
     eval_part start.args.rows.now start.args.row start.args.env.now start.args.depth start.args.state.now
-    eval11.eval-whole.new.1.0 x part.part.result c.after-in-27-to-28.result (c.after-in-27-to-28.ensures ∙ ap (after_over x.over) sure6.sure-in-27-to-28.ensures)
+    eval11.eval-whole.new.state x part.part.result c.after-in-27-to-28.result (c.after-in-27-to-28.ensures ∙ ap (after_over x.over) sure6.sure-in-27-to-28.ensures)
     operand13.operand-in-27-to-28.result get.get-kind.result get.get-kind.ensures
     (omega (arith, if4.if-kind-lt24.false, match_at.in_default-1.rest.0.0.0.0.0.1, match_at.in_default-1.rest.0.0.0.0.1, match_at.in_default-1.rest.0.0.0.1))
     if5.if-kind-lt29.true operand13.operand-in-27-to-28.ensures eval11.eval-whole.ensures part.part.ensures)

@@ -1,4 +1,5 @@
 -- `read_leaves` meets its contract: the first k fields can be read, and what they say stands first in words and flags. Assumes nothing.
+use Rattle.std.proofs.lemmas.Bool.{not_from_false, not_from_true}
 use mathlib.Core.Path.{◌≡◌, refl, ◌∙◌}
 use Prim.Native.Nat.{◌-◌, ◌≤◌}
 use native.Mathlib.Nat.{mul-le-mul_right}
@@ -38,7 +39,7 @@ returns c =
     let test = leaf.before in
     let loop = test.before in
     let start = loop.before.before in
-    read_none start.args.s.now start.args.at start.args.width loop.loop-k.k (omega arith) leaf.read_leaf-leaf.result leaf.read_leaf-leaf.ensures (not-true _ c.if-not-leaf.true)
+    read_none start.args.s.now start.args.at start.args.width loop.loop-k.k (omega arith) leaf.read_leaf-leaf.result leaf.read_leaf-leaf.ensures (not-true _ (not_from_false _ c.if-not-leaf.true))
 
 loop_again : tie.Need-loop-k-preserved invariant-loop decreases-loop
 loop_again c =
@@ -50,7 +51,7 @@ loop_again c =
       length-set loop.loop-k.words loop.loop-k.k leaf.read_leaf-leaf.result.bits ∙ loop.loop-k.invariant.1,
       length-set loop.loop-k.blank loop.loop-k.k leaf.read_leaf-leaf.result.blank ∙ loop.loop-k.invariant.2,
       read_more start.args.s.now start.args.at start.args.width loop.loop-k.k (omega arith) leaf.read_leaf-leaf.result leaf.read_leaf-leaf.ensures
-          loop.loop-k.words loop.loop-k.blank loop.loop-k.invariant.3 (not-false _ c.if-not-leaf.false),
+          loop.loop-k.words loop.loop-k.blank loop.loop-k.invariant.3 (not-false _ (not_from_true _ c.if-not-leaf.false)),
     )
 
 returns_2 : tie.Need-returns invariant-loop decreases-loop

@@ -40,14 +40,14 @@ loop_again c =
     let loop = start_at in
     let start = loop.before.before in
     let long : length start.args.t4 ≡ max_leaves = let g = start.well_formed in search rules in
-    (omega arith, write.write.auto.0 ∙ loop.loop-i.invariant.1, write_more start.args.s-1.now start.args.at start.args.width start.args.t4 loop.loop-i.i loop.loop-i.s-1 write.write.new.0 (omega (arith, long)) loop.loop-i.invariant.2 write.write.ensures.1)
+    (omega arith, write.write.auto.s ∙ loop.loop-i.invariant.1, write_more start.args.s.now start.args.at start.args.width start.args.t4 loop.loop-i.i loop.loop-i.s write.write.new.s (omega (arith, long)) loop.loop-i.invariant.2 write.write.ensures.1)
 
 returns : tie.Need-returns invariant-loop decreases-loop
 returns c =
     let loop = c.before in
     let start = loop.before.before in
     let long : length start.args.t4 ≡ max_leaves = let g = start.well_formed in search rules in
-    (write_all start.args.s-1.now start.args.at start.args.width start.args.t4 loop.loop-i.i loop.loop-i.s-1 (omega (arith, long)) loop.loop-i.invariant.2, long)
+    (write_all start.args.s.now start.args.at start.args.width start.args.t4 loop.loop-i.i loop.loop-i.s (omega (arith, long)) loop.loop-i.invariant.2, long)
 
 pub write_numbers_spec : {M : Type 1} → statement M
 write_numbers_spec = tie.close (tie.spec invariant-loop decreases-loop loop_holds mul_write add_write

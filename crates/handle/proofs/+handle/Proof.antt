@@ -75,9 +75,9 @@ pub +handle-spec : {M : Type 1} → statement M
     let if1 = enclose.before.before.before.before in
     let handed_on = if1.before in
     let start = handed_on.before.before in
-    handle_part start.args.rows.now start.args.state.now handle.handle-told.new.1.0 c.pass.new.1.0 start.args.row start.args.env.now
+    handle_part start.args.rows.now start.args.state.now handle.handle-told.new.state c.pass.new.state start.args.row start.args.env.now
     start.args.depth start.args.e.role (event_path start.args.e) (event_action start.args.e) handle.handle-told.result c.pass.result c.pass.ensures
-    (handed_on.handed_on-part.ensures.on if1.if-part-ne0.true) operand.operand.ensures enclose.enclose-under.new.1.1.1.0 enclose.enclose-under.result
+    (handed_on.handed_on-part.ensures.on if1.if-part-ne0.true) operand.operand.ensures enclose.enclose-under.new.env enclose.enclose-under.result
     enclose.enclose-under.ensures handle.handle-told.ensures)
     (λ c κs. (c.before.before.before.requires.1.0.low, omega arith))
     (λ c κs.
@@ -113,7 +113,7 @@ pub +handle-spec : {M : Type 1} → statement M
     let if1 = get.before in
     let handed_on = if1.before in
     let start = handed_on.before.before in
-    handle_continue start.args.rows.now start.args.state.now attempt.attempt.new.1.0 start.args.row start.args.env.now
+    handle_continue start.args.rows.now start.args.state.now attempt.attempt.new.state start.args.row start.args.env.now
     start.args.depth c.answer.result start.args.e operand2.operand-a.result Going-on.Going-on.result
     (handed_on.handed_on-part.ensures.none if1.if-part-ne0.false) (sym get.get-kind.ensures ∙ match_at.in_default-1.keys2) operand2.operand-a.ensures
     Going-on.Going-on.ensures attempt.attempt.result c.answer.ensures if2.if-found.true attempt.attempt.ensures)
@@ -170,7 +170,7 @@ pub +handle-spec : {M : Type 1} → statement M
     let if1 = get.before in
     let handed_on = if1.before in
     let start = handed_on.before.before in
-    handle_then start.args.rows.now start.args.state.now c.handle.new.1.0 start.args.row start.args.env.now
+    handle_then start.args.rows.now start.args.state.now c.handle.new.state start.args.row start.args.env.now
     start.args.depth c.handle.result start.args.e.role operand2.operand-a.result (event_path start.args.e) (event_action start.args.e)
     (handed_on.handed_on-part.ensures.none if1.if-part-ne0.false) (sym get.get-kind.ensures ∙ match_at.in_default-1.keys1) operand2.operand-a.ensures
     c.handle.ensures)
@@ -183,19 +183,19 @@ pub +handle-spec : {M : Type 1} → statement M
     let if1 = get.before in
     let handed_on = if1.before in
     let start = handed_on.before.before in
-    handle_next start.args.rows.now start.args.state.now c.handle-in-44.new.1.0 start.args.row start.args.env.now
+    handle_next start.args.rows.now start.args.state.now c.handle-in-44.new.state start.args.row start.args.env.now
     start.args.depth c.handle-in-44.result start.args.e operand2.operand-a.result Going-on.Going-on.result
     (handed_on.handed_on-part.ensures.none if1.if-part-ne0.false) (sym get.get-kind.ensures ∙ match_at.in_default-1.keys2) operand2.operand-a.ensures
     Going-on.Going-on.ensures if2.if-found.false c.handle-in-44.ensures)
     (λ c.
     let pick = c.before in
     let start = pick.before.before.before.before.before.before.before.before in
-    subst (HandleOk start.args.rows.now start.args.state.now pick.pick.new.1.0 start.args.row start.args.env.now start.args.depth start.args.e.role (event_path start.args.e) (event_action start.args.e))
+    subst (HandleOk start.args.rows.now start.args.state.now pick.pick.new.state start.args.row start.args.env.now start.args.depth start.args.e.role (event_path start.args.e) (event_action start.args.e))
     (sym c.answer-in-48.ensures) pick.pick.ensures)
     (λ c.
     let edit = c.before in
     let start = edit.before.before.before.before.before.before.before.before.before.before in
-    subst (HandleOk start.args.rows.now start.args.state.now edit.edit.new.1.0 start.args.row start.args.env.now start.args.depth start.args.e.role (event_path start.args.e) (event_action start.args.e))
+    subst (HandleOk start.args.rows.now start.args.state.now edit.edit.new.state start.args.row start.args.env.now start.args.depth start.args.e.role (event_path start.args.e) (event_action start.args.e))
     (sym c.answer-in-40-to-42.ensures) (edit.edit.ensures start.args.env.now start.args.depth))
     (λ c.
     let front_mark = c.before.before in
@@ -220,13 +220,13 @@ pub +handle-spec : {M : Type 1} → statement M
     let if1 = get.before in
     let handed_on = if1.before in
     let start = handed_on.before.before in
-    handle_first start.args.rows.now start.args.state.now c.handle-in-First.new.1.0 start.args.row start.args.env.now
+    handle_first start.args.rows.now start.args.state.now c.handle-in-First.new.state start.args.row start.args.env.now
     start.args.depth c.handle-in-First.result start.args.e.role (event_path start.args.e) (event_action start.args.e)
     (handed_on.handed_on-part.ensures.none if1.if-part-ne0.false) (omega (arith, get.get-kind.ensures, if5.if-kind-lt46.false))
     (omega (arith, get.get-kind.ensures, if6.if-kind-lt48.true)) operand2.operand-a.result (path_of front.front-1.given.0.0)
     operand2.operand-a.ensures
     (front_one (event_path start.args.e) front.front-1.given.0.0 (sym front.front-1.given.1 ∙ front_mark.front_mark-front.ensures))
-    (subst (λ f. HandleOk start.args.rows.now start.args.state.now c.handle-in-First.new.1.0 operand2.operand-a.result start.args.env.now start.args.depth f.role (event_path f) (event_action f) c.handle-in-First.result) inside.inside.ensures c.handle-in-First.ensures))
+    (subst (λ f. HandleOk start.args.rows.now start.args.state.now c.handle-in-First.new.state operand2.operand-a.result start.args.env.now start.args.depth f.role (event_path f) (event_action f) c.handle-in-First.result) inside.inside.ensures c.handle-in-First.ensures))
     (λ c.
     let inside2 = c.before in
     let front2 = inside2.before.before.before in
@@ -238,13 +238,13 @@ pub +handle-spec : {M : Type 1} → statement M
     let if1 = get.before in
     let handed_on = if1.before in
     let start = handed_on.before.before in
-    handle_second start.args.rows.now start.args.state.now c.handle-in-Second.new.1.0 start.args.row start.args.env.now
+    handle_second start.args.rows.now start.args.state.now c.handle-in-Second.new.state start.args.row start.args.env.now
     start.args.depth c.handle-in-Second.result start.args.e.role (event_path start.args.e) (event_action start.args.e)
     (handed_on.handed_on-part.ensures.none if1.if-part-ne0.false) (omega (arith, get.get-kind.ensures, if5.if-kind-lt46.false))
     (omega (arith, get.get-kind.ensures, if6.if-kind-lt48.true)) operand3.operand-b.result (path_of front2.front-in-Second-1.given.0.0)
     operand3.operand-b.ensures
     (front_two (event_path start.args.e) front2.front-in-Second-1.given.0.0 (sym front2.front-in-Second-1.given.1 ∙ front_mark.front_mark-front.ensures))
-    (subst (λ f. HandleOk start.args.rows.now start.args.state.now c.handle-in-Second.new.1.0 operand3.operand-b.result start.args.env.now start.args.depth f.role (event_path f) (event_action f) c.handle-in-Second.result) inside2.inside-in-Second.ensures c.handle-in-Second.ensures))
+    (subst (λ f. HandleOk start.args.rows.now start.args.state.now c.handle-in-Second.new.state operand3.operand-b.result start.args.env.now start.args.depth f.role (event_path f) (event_action f) c.handle-in-Second.result) inside2.inside-in-Second.ensures c.handle-in-Second.ensures))
     (λ c.
     let get = c.before.before.before in
     let if1 = get.before in

@@ -23,7 +23,7 @@ edit_spec = tie.close (tie.spec
     let match_at = read.before.before in
     let get = match_at.before.before in
     let start = get.before in
-    λ env d. handle_edit start.args.rows.now start.args.state.now c.fill.new.0 start.args.row env d start.args.e
+    λ env d. handle_edit start.args.rows.now start.args.state.now c.fill.new.state start.args.row env d start.args.e
     c.fill.result read.read-shape.result (sym get.get-kind.ensures ∙ match_at.in_default.keys1) read.read-shape.ensures c.fill.ensures)
     (λ c κs.
     let operand = c.before in
@@ -39,7 +39,7 @@ edit_spec = tie.close (tie.spec
     let operand = match_at.before in
     let get = operand.before in
     let start = get.before in
-    λ env d. handle_enter start.args.rows.now start.args.state.now c.fill-in-41.new.0 start.args.row env d start.args.e
+    λ env d. handle_enter start.args.rows.now start.args.state.now c.fill-in-41.new.state start.args.row env d start.args.e
     c.fill-in-41.result operand.operand-a.result row_type.row_type-shape.result (replicate max_binders 0)
     (sym get.get-kind.ensures ∙ match_at.in_default.keys2) operand.operand-a.ensures row_type.row_type-shape.ensures c.fill-in-41.ensures)
     (λ c κs.
@@ -58,7 +58,7 @@ edit_spec = tie.close (tie.spec
     let operand = match_at.before in
     let get = operand.before in
     let start = get.before in
-    λ env d. handle_update start.args.rows.now start.args.state.now c.fill-in_default.new.0 start.args.row env d start.args.e
+    λ env d. handle_update start.args.rows.now start.args.state.now c.fill-in_default.new.state start.args.row env d start.args.e
     c.fill-in_default.result operand.operand-a.result read2.read-shape-in_default.result
     (let g = get.get-kind.ensures in let k = start.requires.1 in let l = start.requires.2 in let m = match_at.in_default.rest.0.1 in let n = match_at.in_default.rest.1 in omega arith)
     operand.operand-a.ensures read2.read-shape-in_default.ensures c.fill-in_default.ensures))

@@ -1,4 +1,5 @@
 -- `handle::going_on` meets its contract, a way by its law. Assumes nothing.
+use Rattle.std.proofs.lemmas.Bool.{not_from_false, not_from_true}
 use mathlib.Core.Path.{sym, subst}
 use borrow.Author.Rules.{rules}
 use borrow.Author.Tests.{not-true, not-false}
@@ -16,11 +17,11 @@ going_on_spec = tie.close (tie.spec
     let ends = if1.before in
     let start = ends.before in
     subst (GoingOk start.args.rows.now start.args.state.now start.args.row start.args.e) (sym c.none.ensures)
-    (going_none start.args.rows.now start.args.state.now start.args.row start.args.e (ends.ends.ensures.no (not-true _ if1.if-not-ends.true))))
+    (going_none start.args.rows.now start.args.state.now start.args.row start.args.e (ends.ends.ensures.no (not-true _ (not_from_false _ if1.if-not-ends.true)))))
     (λ c κs. c.before.before.requires)
     (λ c.
     let if1 = c.before in
     let ends = if1.before in
     let start = ends.before in
     going_value start.args.rows.now start.args.state.now start.args.row start.args.e c.value.result
-    (ends.ends.ensures.yes (not-false _ if1.if-not-ends.false)) c.value.ensures))
+    (ends.ends.ensures.yes (not-false _ (not_from_true _ if1.if-not-ends.false))) c.value.ensures))

@@ -22,7 +22,7 @@ pick_spec = tie.close (tie.spec
     let if1 = operand.before.before in
     let ends = if1.before in
     let start = ends.before in
-    handle_left start.args.rows.now start.args.state.now c.side.new.1.0 start.args.row start.args.env.now
+    handle_left start.args.rows.now start.args.state.now c.side.new.state start.args.row start.args.env.now
     start.args.depth c.side.result start.args.e start.requires.2 start.requires.1 operand.operand.result
     (ends.ends.ensures.yes if1.if-ends.true) operand.operand.ensures c.side.ensures)
     (λ c κs. search rules)
@@ -39,7 +39,7 @@ pick_spec = tie.close (tie.spec
     let if2 = operand2.before.before in
     let ends2 = if2.before in
     let start = ends2.before.before.before in
-    handle_right start.args.rows.now start.args.state.now c.side-then-ends-2.new.1.0 start.args.row start.args.env.now
+    handle_right start.args.rows.now start.args.state.now c.side-then-ends-2.new.state start.args.row start.args.env.now
     start.args.depth c.side-then-ends-2.result start.args.e start.requires.2 start.requires.1 operand2.operand-then-ends-2.result
     (ends2.ends-2.ensures.yes if2.if-ends-2.true) operand2.operand-then-ends-2.ensures c.side-then-ends-2.ensures)
     (λ c.

@@ -9,7 +9,7 @@ side_spec = tie.close (tie.spec
     (λ c.
     let settle = c.before in
     let start = settle.before.before.before in
-    side_fails start.args.rows.now start.args.state.now settle.settle.new.1.0 start.args.row start.args.a start.args.tag
+    side_fails start.args.rows.now start.args.state.now settle.settle.new.state start.args.row start.args.a start.args.tag
     start.args.env.now start.args.depth settle.settle.result settle.settle.ensures c.if-settle.true)
     (λ c κs.
     let start = c.before.before.before.before.before in
@@ -18,6 +18,6 @@ side_spec = tie.close (tie.spec
     let if1 = c.before.before in
     let settle = if1.before in
     let start = settle.before.before.before in
-    side_lives start.args.rows.now start.args.state.now settle.settle.new.1.0 start.args.row start.args.a start.args.tag
-    start.args.env.now start.args.depth c.put_tag.new.0 settle.settle.result settle.settle.ensures if1.if-settle.false
+    side_lives start.args.rows.now start.args.state.now settle.settle.new.state start.args.row start.args.a start.args.tag
+    start.args.env.now start.args.depth c.put_tag.new.state settle.settle.result settle.settle.ensures if1.if-settle.false
     c.put_tag.ensures))

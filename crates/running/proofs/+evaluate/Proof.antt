@@ -72,7 +72,7 @@ pub +evaluate-spec : {M : Type 1} → statement M
     let get = match_at.before in
     let start = get.before in
     evaluate_true start.args.rows.now start.args.row start.args.env.now start.args.depth start.args.state.now
-    eval.eval-x.new.1.0 evaluate.evaluate-over.new.1.0 put_tag.put_tag.new.0 eval.eval-x.result evaluate.evaluate-over.result is_true.is_true.result
+    eval.eval-x.new.state evaluate.evaluate-over.new.state put_tag.put_tag.new.state eval.eval-x.result evaluate.evaluate-over.result is_true.is_true.result
     is_true.is_true.ensures operand.operand.result operand2.operand-then-is_true.result (sym get.get-kind.ensures ∙ match_at.in_default-1.keys1)
     operand.operand.ensures eval.eval-x.ensures evaluate.evaluate-over.ensures if1.if-is_true.true operand2.operand-then-is_true.ensures
     put_tag.put_tag.ensures)
@@ -184,7 +184,7 @@ pub +evaluate-spec : {M : Type 1} → statement M
     let get = match_at.before in
     let start = get.before in
     evaluate_false start.args.rows.now start.args.row start.args.env.now start.args.depth start.args.state.now
-    eval.eval-x.new.1.0 evaluate2.evaluate-over-in-25.new.1.0 put_tag2.put_tag-in-25.new.0 eval.eval-x.result evaluate2.evaluate-over-in-25.result is_true.is_true.result
+    eval.eval-x.new.state evaluate2.evaluate-over-in-25.new.state put_tag2.put_tag-in-25.new.state eval.eval-x.result evaluate2.evaluate-over-in-25.result is_true.is_true.result
     is_true.is_true.ensures operand.operand.result operand3.operand-in-25.result (sym get.get-kind.ensures ∙ match_at.in_default-1.keys1)
     operand.operand.ensures eval.eval-x.ensures evaluate2.evaluate-over-in-25.ensures if1.if-is_true.false operand3.operand-in-25.ensures
     put_tag2.put_tag-in-25.ensures)
@@ -199,7 +199,7 @@ pub +evaluate-spec : {M : Type 1} → statement M
     let get = match_at.before in
     let start = get.before in
     evaluate_let start.args.rows.now start.args.row start.args.env.now start.args.depth start.args.state.now
-    eval2.eval-x-in-31.new.1.0 put_value.put_value.new.0 evaluate3.evaluate-over-in-31.new.1.0 bind.bind-deeper.new.1.1.0 bind.bind-deeper.result
+    eval2.eval-x-in-31.new.state put_value.put_value.new.state evaluate3.evaluate-over-in-31.new.state bind.bind-deeper.new.env bind.bind-deeper.result
     eval2.eval-x-in-31.result evaluate3.evaluate-over-in-31.result operand4.operand-in-31.result operand5.operand-in-31-2.result operand4.operand-in-31.ensures
     operand5.operand-in-31-2.ensures eval2.eval-x-in-31.ensures put_value.put_value.ensures bind.bind-deeper.ensures evaluate3.evaluate-over-in-31.ensures
     (sym get.get-kind.ensures ∙ match_at.in_default-1.keys2))
@@ -210,7 +210,7 @@ pub +evaluate-spec : {M : Type 1} → statement M
     let get = match_at.before in
     let start = get.before in
     evaluate_content start.args.rows.now start.args.row start.args.env.now start.args.depth start.args.state.now
-    eval3.eval-x-in-40.new.1.0 c.put_value-in-40.new.0 operand6.operand-in-40.result eval3.eval-x-in-40.result operand6.operand-in-40.ensures
+    eval3.eval-x-in-40.new.state c.put_value-in-40.new.state operand6.operand-in-40.result eval3.eval-x-in-40.result operand6.operand-in-40.ensures
     eval3.eval-x-in-40.ensures c.put_value-in-40.ensures (subst (OneOf content_kinds) get.get-kind.ensures match_at.in_default-1.keys3))
     (λ c.
     let operand7 = c.before in
@@ -220,7 +220,7 @@ pub +evaluate-spec : {M : Type 1} → statement M
     let get = match_at.before in
     let start = get.before in
     evaluate_gate start.args.rows.now start.args.row start.args.env.now start.args.depth start.args.state.now
-    put_touches.put_touches.new.0 c.evaluate.new.1.0 operand7.operand-in-50.result get2.get.result c.evaluate.result operand7.operand-in-50.ensures
+    put_touches.put_touches.new.state c.evaluate.new.state operand7.operand-in-50.result get2.get.result c.evaluate.result operand7.operand-in-50.ensures
     get2.get.ensures put_touches.put_touches.ensures c.evaluate.ensures (sym get.get-kind.ensures ∙ match_at.in_default-1.keys4))
     (λ c.
     let evaluate5 = c.before.before in
@@ -230,7 +230,7 @@ pub +evaluate-spec : {M : Type 1} → statement M
     let get = if2.before.before in
     let start = get.before in
     evaluate_step start.args.rows.now start.args.row start.args.env.now start.args.depth start.args.state.now
-    evaluate5.evaluate-over-in-43-to-44.new.1.0 c.put_tag-in-43-to-44.new.0 operand8.operand-in-43-to-44.result evaluate5.evaluate-over-in-43-to-44.result operand8.operand-in-43-to-44.ensures
+    evaluate5.evaluate-over-in-43-to-44.new.state c.put_tag-in-43-to-44.new.state operand8.operand-in-43-to-44.result evaluate5.evaluate-over-in-43-to-44.result operand8.operand-in-43-to-44.ensures
     evaluate5.evaluate-over-in-43-to-44.ensures c.put_tag-in-43-to-44.ensures (omega (arith, get.get-kind.ensures, if2.in_default.left))
     (omega (arith, get.get-kind.ensures, if3.if-kind-lt45.true)))
     (λ c.
@@ -243,7 +243,7 @@ pub +evaluate-spec : {M : Type 1} → statement M
     let get = if4.before.before.before.before in
     let start = get.before in
     evaluate_two start.args.rows.now start.args.row start.args.env.now start.args.depth start.args.state.now
-    evaluate6.evaluate-left.new.1.0 evaluate7.evaluate-right.new.1.0 c.put_tag-in-46-to-47.new.0 operand9.operand-a.result
+    evaluate6.evaluate-left.new.state evaluate7.evaluate-right.new.state c.put_tag-in-46-to-47.new.state operand9.operand-a.result
     operand10.operand-b.result evaluate6.evaluate-left.result evaluate7.evaluate-right.result operand9.operand-a.ensures operand10.operand-b.ensures evaluate6.evaluate-left.ensures
     evaluate7.evaluate-right.ensures c.put_tag-in-46-to-47.ensures (omega (arith, get.get-kind.ensures, if4.if-kind-lt46.false))
     (omega (arith, get.get-kind.ensures, if5.if-kind-lt48.true)))
@@ -254,7 +254,7 @@ pub +evaluate-spec : {M : Type 1} → statement M
     let start = get.before in
     let k = get.get-kind.ensures in
     evaluate_tag start.args.rows.now start.args.row start.args.env.now start.args.depth start.args.state.now
-    c.put_tag-in_default.new.0 c.put_tag-in_default.ensures (λ e. match_at.in_default-1.rest.0.0.0.1 (k ∙ e)) (λ e. match_at.in_default-1.rest.0.0.1 (k ∙ e))
+    c.put_tag-in_default.new.state c.put_tag-in_default.ensures (λ e. match_at.in_default-1.rest.0.0.0.1 (k ∙ e)) (λ e. match_at.in_default-1.rest.0.0.1 (k ∙ e))
     (λ e. match_at.in_default-1.rest.0.1 (subst (OneOf content_kinds) (sym k) e)) (λ e. match_at.in_default-1.rest.1 (k ∙ e))
     (λ p q. ⊎_elim (λ z. omega (arith, k, z.taken)) (⊎_elim (λ z. omega (arith, k, z.1.left)) (λ z. omega (arith, k, z.1.left))) if2.in_default.branch)
     (λ p q. ⊎_elim (λ z. omega (arith, k, z.taken)) (⊎_elim (λ z. omega (arith, k, z.2.taken)) (λ z. omega (arith, k, z.3.left))) if2.in_default.branch))

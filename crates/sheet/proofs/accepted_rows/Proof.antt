@@ -1,4 +1,5 @@
 -- `accepted_rows` meets its contract, each way out by its law. Assumes nothing.
+use Rattle.std.proofs.lemmas.Bool.{not_from_false, not_from_true}
 use borrow.Author.Rules.{rules}
 use Rattle.sheet.proofs.AcceptedLaws.{counts_none, counts_all}
 use Rattle.sheet.proofs.accepted_rows.Statement.{statement}
@@ -14,7 +15,7 @@ accepted_rows_spec = tie.close (tie.spec
     let start = copy_in.before.before in
     let i = copy_in.copy_in in
     let r = accepted_rows.accepted_rows in
-    let t = counts_none start.args.rows.now start.args.own.now i.new.1.0 start.requires i.ensures.0 r.result r.ensures c.if-not-accepted_rows.true in
+    let t = counts_none start.args.rows.now start.args.own.now i.new.1.0 start.requires i.ensures.0 r.result r.ensures (not_from_false _ c.if-not-accepted_rows.true) in
     (t.0, (t.1.0, (t.1.1, i.ensures.0))))
     (λ c.
     let accepted_rows = c.before in
@@ -22,5 +23,5 @@ accepted_rows_spec = tie.close (tie.spec
     let start = copy_in.before.before in
     let i = copy_in.copy_in in
     let r = accepted_rows.accepted_rows in
-    let t = counts_all start.args.rows.now start.args.own.now i.new.1.0 start.requires i.ensures.0 r.result r.ensures c.if-not-accepted_rows.false i.ensures.1 in
+    let t = counts_all start.args.rows.now start.args.own.now i.new.1.0 start.requires i.ensures.0 r.result r.ensures (not_from_true _ c.if-not-accepted_rows.false) i.ensures.1 in
     (t.0, (t.1.0, (t.1.1, i.ensures.0)))))

@@ -1,4 +1,5 @@
 -- `load` meets its contract, each number by its law. Assumes nothing.
+use Rattle.std.proofs.lemmas.Bool.{not_from_false, not_from_true}
 use mathlib.Core.Path.{refl, sym}
 use native.Mathlib.Omega.{arith}
 use borrow.Author.Rules.{rules}
@@ -17,7 +18,7 @@ returns : tie.Need-returns-then-not-is_sized
 returns c =
     let sized = c.before in
     let start = sized.before.before in
-    answers_1 start.args.sheet.now start.args.rows-1.now (nope sized.is_sized.ensures c.if-not-is_sized.true)
+    answers_1 start.args.sheet.now start.args.rows.now (nope sized.is_sized.ensures (not_from_false _ c.if-not-is_sized.true))
 
 returns_2 : tie.Need-returns-then-rows-n
 returns_2 c =
@@ -25,7 +26,7 @@ returns_2 c =
     let is_sized = if1.before in
     let start_at = is_sized.before.before in
     let start = start_at in
-    answers_21 start.args.sheet.now start.args.rows-1.now (yes is_sized.is_sized.ensures if1.if-not-is_sized.false) c.if-rows-n.true
+    answers_21 start.args.sheet.now start.args.rows.now (yes is_sized.is_sized.ensures (not_from_true _ if1.if-not-is_sized.false)) c.if-rows-n.true
 
 read_lines_requires : tie.Need-read_lines-requires
 read_lines_requires c κs =
@@ -33,7 +34,7 @@ read_lines_requires c κs =
     let start_at = if1.before in
     let sized = start_at in
     let start = sized.before.before in
-    let z = is_sized (length start.args.sheet.now) (yes sized.is_sized.ensures if1.if-not-is_sized.false) in
+    let z = is_sized (length start.args.sheet.now) (yes sized.is_sized.ensures (not_from_true _ if1.if-not-is_sized.false)) in
     ((z.few, omega (arith, z.whole)), refl)
 
 returns_3 : tie.Need-returns-then-not-read_lines
@@ -44,8 +45,8 @@ returns_3 c =
     let left = room.before in
     let sized = left.before in
     let start = sized.before.before in
-    answers_2 start.args.sheet.now start.args.rows-1.now (yes sized.is_sized.ensures left.if-not-is_sized.false) room.if-rows-n.false
-    read_lines.read_lines.new.1.1.0 read_lines.read_lines.result read_lines.read_lines.ensures c.if-not-read_lines.true
+    answers_2 start.args.sheet.now start.args.rows.now (yes sized.is_sized.ensures (not_from_true _ left.if-not-is_sized.false)) room.if-rows-n.false
+    read_lines.read_lines.new.own read_lines.read_lines.result read_lines.read_lines.ensures (not_from_false _ c.if-not-read_lines.true)
 
 ground_of_rows_requires : tie.Need-ground_of_rows-ground-requires
 ground_of_rows_requires c κs =
@@ -53,7 +54,7 @@ ground_of_rows_requires c κs =
     let start_at = if1.before in
     let sized = start_at in
     let start = sized.before.before in
-    let z = is_sized (length start.args.sheet.now) (yes sized.is_sized.ensures if1.if-not-is_sized.false) in
+    let z = is_sized (length start.args.sheet.now) (yes sized.is_sized.ensures (not_from_true _ if1.if-not-is_sized.false)) in
     (z.some_lines, z.few)
 
 returns_4 : tie.Need-returns-then-ground-ne0
@@ -66,8 +67,8 @@ returns_4 c =
     let left = room.before in
     let sized = left.before in
     let start = sized.before.before in
-    answers_rows start.args.sheet.now start.args.rows-1.now (yes sized.is_sized.ensures left.if-not-is_sized.false) room.if-rows-n.false
-    read.read_lines.new.1.1.0 read.read_lines.result read.read_lines.ensures scanned.if-not-read_lines.false
+    answers_rows start.args.sheet.now start.args.rows.now (yes sized.is_sized.ensures (not_from_true _ left.if-not-is_sized.false)) room.if-rows-n.false
+    read.read_lines.new.own read.read_lines.result read.read_lines.ensures (not_from_true _ scanned.if-not-read_lines.false)
     ground_of_rows.ground_of_rows-ground.result ground_of_rows.ground_of_rows-ground.ensures c.if-ground-ne0.true
 
 slice_aggregate_copy_out : tie.Need-slice_bounds-copy_out-end
@@ -80,7 +81,7 @@ slice_aggregate_copy_out c =
     let sized = left.before in
     let start = sized.before.before in
     sym
-    (own_long start.args.sheet.now start.args.rows-1.now (yes sized.is_sized.ensures left.if-not-is_sized.false) room.if-rows-n.false read.read_lines.new.1.1.0 read.read_lines.result read.read_lines.ensures if3.if-not-read_lines.false)
+    (own_long start.args.sheet.now start.args.rows.now (yes sized.is_sized.ensures (not_from_true _ left.if-not-is_sized.false)) room.if-rows-n.false read.read_lines.new.own read.read_lines.result read.read_lines.ensures (not_from_true _ if3.if-not-read_lines.false))
 
 returns_5 : tie.Need-returns
 returns_5 c =
@@ -94,9 +95,9 @@ returns_5 c =
     let left = room.before in
     let sized = left.before in
     let start = sized.before.before in
-    answers_0 start.args.sheet.now start.args.rows-1.now (yes sized.is_sized.ensures left.if-not-is_sized.false) room.if-rows-n.false
-    read.read_lines.new.1.1.0 read.read_lines.result read.read_lines.ensures scanned.if-not-read_lines.false ground.ground_of_rows-ground.result
-    copy_out.copy_out.new.1.0 ground.ground_of_rows-ground.ensures accepted.if-ground-ne0.false copy_out.copy_out.ensures
+    answers_0 start.args.sheet.now start.args.rows.now (yes sized.is_sized.ensures (not_from_true _ left.if-not-is_sized.false)) room.if-rows-n.false
+    read.read_lines.new.own read.read_lines.result read.read_lines.ensures (not_from_true _ scanned.if-not-read_lines.false) ground.ground_of_rows-ground.result
+    copy_out.copy_out.new.lent ground.ground_of_rows-ground.ensures accepted.if-ground-ne0.false copy_out.copy_out.ensures
 
 pub load_spec : {M : Type 1} → statement M
 load_spec = tie.close (tie.spec (λ c κs. search rules) returns (λ c. search rules) returns_2 read_lines_requires returns_3 ground_of_rows_requires returns_4

@@ -29,7 +29,7 @@ push_spec = tie.close (tie.spec
     let loop = c.before.before.before in
     let start = loop.before.before.before.before in
     let l = loop.loop-i in
-    let ls = start.args.v.leaves-1 in
+    let ls = start.args.v.leaves in
     let x = get_or ls l.i 0 in
     (omega arith, λ was xs h p. push_more x (omega arith) (omega arith) (h l.i (omega arith)) c.put_slot-in-loop-i.ensures.0 c.put_slot-in-loop-i.ensures.1 (l.invariant.1 was xs h p)))
     (λ c.

@@ -1,4 +1,5 @@
 -- `state_check::copy_cells` meets its contract; before each round the cells below it are copied. Assumes nothing.
+use Rattle.std.proofs.lemmas.Bool.{not_from_false, not_from_true}
 use mathlib.Core.Bool.{true}
 use mathlib.Core.Path.{◌≡◌}
 use Prim.Native.Nat.{◌-◌, ◌≤◌}
@@ -31,7 +32,7 @@ copy_cells_spec = tie.close (tie.spec invariant-loop decreases-loop
     let start = loop.before in
     let s = start.args in
     no_more_cells s.rows.now s.state.now loop.loop-i.i s.n loop.loop-i.invariant.1 test.loop-i-test.true copy_cell.copy_cell.ensures
-    c.if-not-copy_cell.true)
+    (not_from_false _ c.if-not-copy_cell.true))
     (λ c. search rules)
     (λ c. let l = c.before.before.before.loop-i-test.true in omega arith)
     (λ c.
@@ -40,7 +41,7 @@ copy_cells_spec = tie.close (tie.spec invariant-loop decreases-loop
     let loop = test.before in
     let start = loop.before in
     let l = test.loop-i-test.true in
-    (omega arith, next_cells start.args.state.now loop.loop-i.invariant.1 copy_cell.copy_cell.ensures c.if-not-copy_cell.false))
+    (omega arith, next_cells start.args.state.now loop.loop-i.invariant.1 copy_cell.copy_cell.ensures (not_from_true _ c.if-not-copy_cell.false)))
     (λ c.
     let loop = c.before in
     let start = loop.before in

@@ -20,10 +20,10 @@ written_spec = tie.close (tie.spec
     record { fits = omega arith })
     (λ c κs.
     let l = c.before.before.before.before.before.before.before.before.before.requires.0.0 in let h = c.before.before.before.before.before.before.before.before.before.requires.0.1.low in
-    let x : length c.before.before.before.before.before.before.before.before.before.args.state.now ≡ state_size = search rules in let y : length c.before.before.before.before.copy_task.new.1.1.0 ≡ state_size = search rules in
+    let x : length c.before.before.before.before.before.before.before.before.before.args.state.now ≡ state_size = search rules in let y : length c.before.before.before.before.copy_task.new.work ≡ state_size = search rules in
     (omega (arith, l, h, x), omega (arith, l, h, y)))
     (λ c. let s = c.before.before.before.before.before.before.before.before.before.before in
-    let x : length s.args.state.now ≡ state_size = search rules in let y : length c.before.before.before.before.before.copy_task.new.1.1.0 ≡ state_size = search rules in
+    let x : length s.args.state.now ≡ state_size = search rules in let y : length c.before.before.before.before.before.copy_task.new.work ≡ state_size = search rules in
     held_same s.requires.0.0 (zero_rows state_size s.requires.1.1) c.before.before.before.before.before.before.before.before.copy_cells.ensures c.before.before.before.before.before.before.before.if-copy_cells.true c.before.before.before.before.before.copy_task.ensures c.before.before.before.before.if-copy_task.true s.requires.1.0 (x ∙ sym y) c.alike.ensures)
     (λ c.
     let copy_task = c.before in

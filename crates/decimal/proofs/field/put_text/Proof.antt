@@ -15,7 +15,7 @@ pub put_text_spec : {M : Type 1} → statement M
 put_text_spec = tie.close (tie.spec
     (λ c. let s = c.before.before in omega (arith, s.requires.0, s.requires.1, ap length (text_0 s.args.n c.if-n-eq0.true)))
     (λ c. search rules)
-    (λ c. let s = c.before.before in sym (ap (sets s.args.s-1.now s.args.at) (text_0 s.args.n c.if-n-eq0.true)))
+    (λ c. let s = c.before.before in sym (ap (sets s.args.s.now s.args.at) (text_0 s.args.n c.if-n-eq0.true)))
     (λ c κs.
     let if2 = c.before in
     let if1 = if2.before in
@@ -28,7 +28,7 @@ put_text_spec = tie.close (tie.spec
     let if1 = if2.before in
     let start = if1.before.before in
     put_digits.put_digits.ensures ∙ sym
-    (ap (sets start.args.s-1.now start.args.at) (text_low start.args.n if1.if-n-eq0.false if2.if-n-lt-HALF.true)))
+    (ap (sets start.args.s.now start.args.at) (text_low start.args.n if1.if-n-eq0.false if2.if-n-lt-HALF.true)))
     (λ c κs. search rules)
     (λ c.
     let if2 = c.before in
@@ -44,12 +44,12 @@ put_text_spec = tie.close (tie.spec
     (λ c.
     let put_digits2 = c.before.before in
     let start = put_digits2.before.before.before.before.before.before in
-    put_digits2.put_digits-2.auto.0 ∙ length-set start.args.s-1.now start.args.at minus)
+    put_digits2.put_digits-2.auto.s ∙ length-set start.args.s.now start.args.at minus)
     (λ c.
     let put_digits2 = c.before.before in
     let negated = put_digits2.before.before in
     let if2 = negated.before in
     let start = if2.before.before.before in
-    put_digits2.put_digits-2.ensures ∙ ap (λ k. sets (set start.args.s-1.now start.args.at minus) k (decimal negated.negated-m.result))
+    put_digits2.put_digits-2.ensures ∙ ap (λ k. sets (set start.args.s.now start.args.at minus) k (decimal negated.negated-m.result))
     (add-one start.args.at) ∙ sym
-    (ap (sets start.args.s-1.now start.args.at) (text_high start.args.n negated.negated-m.result if2.if-n-lt-HALF.false (omega arith) negated.negated-m.ensures))))
+    (ap (sets start.args.s.now start.args.at) (text_high start.args.n negated.negated-m.result if2.if-n-lt-HALF.false (omega arith) negated.negated-m.ensures))))

@@ -12,7 +12,7 @@ pub put_text_spec : {M : Type 1} → statement M
 put_text_spec = tie.close (tie.spec
     (λ c. let s = c.before.before in omega (arith, s.requires, ap length (text_0 s.args.path c.if-path-eq0.true)))
     (λ c. search rules)
-    (λ c. let s = c.before.before in sym (ap (sets s.args.s-1.now s.args.at) (text_0 s.args.path c.if-path-eq0.true)))
+    (λ c. let s = c.before.before in sym (ap (sets s.args.s.now s.args.at) (text_0 s.args.path c.if-path-eq0.true)))
     (λ c κs.
     let if1 = c.before in
     let start = if1.before.before in
@@ -22,4 +22,4 @@ put_text_spec = tie.close (tie.spec
     let put_marks = c.before.before in
     let if1 = put_marks.before.before in
     let start = if1.before.before in
-    put_marks.put_marks.ensures ∙ sym (ap (sets start.args.s-1.now start.args.at) (text_some start.args.path if1.if-path-eq0.false))))
+    put_marks.put_marks.ensures ∙ sym (ap (sets start.args.s.now start.args.at) (text_some start.args.path if1.if-path-eq0.false))))

@@ -1,4 +1,5 @@
 -- `is_failed` meets its contract, each way out by its law. Assumes nothing.
+use Rattle.std.proofs.lemmas.Bool.{not_from_false, not_from_true}
 use mathlib.Core.Path.{◌≡◌, sym, ◌∙◌}
 use native.Mathlib.Omega.{arith}
 use lib.ListN.{length}
@@ -9,17 +10,17 @@ use Rattle.flow.proofs.failed.is_failed.Statement.{statement}
 use Rattle.flow.proofs.failed.is_failed.Tie as tie
 
 -- the two arrays are of one length
-long : (c : tie.After-alike-arg-3-1) → length c.before.before.before.before.before.args.words.now ≡ length c.before.before.before.write_failed.new.1.1.0
+long : (c : tie.After-alike-arg-3-1) → length c.before.before.before.before.before.args.words.now ≡ length c.before.before.before.write_failed.new.words
 long c =
     let x : length c.before.before.before.before.before.args.words.now ≡ state_size = search rules in
-    let y : length c.before.before.before.write_failed.new.1.1.0 ≡ state_size = search rules in
+    let y : length c.before.before.before.write_failed.new.words ≡ state_size = search rules in
     x ∙ sym y
 
 returns : tie.Need-returns-then-not-alike
 returns c =
     let alike = c.before in
     let written = alike.before.before.before.before in
-    failed_differ written.write_failed.ensures alike.alike.ensures c.if-not-alike.true
+    failed_differ written.write_failed.ensures alike.alike.ensures (not_from_false _ c.if-not-alike.true)
 
 returns_2 : tie.Need-returns
 returns_2 c =
@@ -28,7 +29,7 @@ returns_2 c =
     let alike = if1.before in
     let written = alike.before.before.before.before in
     let start = written.before.before in
-    failed_tried written.write_failed.ensures alike.alike.ensures if1.if-not-alike.false (long alike.before) start.requires.1.0 cleared.clear_row.ensures c.evaluate.ensures
+    failed_tried written.write_failed.ensures alike.alike.ensures (not_from_true _ if1.if-not-alike.false) (long alike.before) start.requires.1.0 cleared.clear_row.ensures c.evaluate.ensures
 
 pub is_failed_spec : {M : Type 1} → statement M
 is_failed_spec = tie.close (tie.spec
@@ -40,7 +41,7 @@ is_failed_spec = tie.close (tie.spec
     let l = s.requires.0.0 in
     let h = s.requires.0.1.low in
     let x : length s.args.words.now ≡ state_size = search rules in
-    let y : length written.write_failed.new.1.1.0 ≡ state_size = search rules in
+    let y : length written.write_failed.new.words ≡ state_size = search rules in
     (omega (arith, l, h, x), omega (arith, l, h, y)))
     returns
     (λ c. search rules)

@@ -10,7 +10,7 @@ slice_aggregate_result c =
     let start_at = fill.before.before.before.before in
     let start = start_at in
     let f = fill.fill-seen in
-    part_long start.args.rows.now start.args.state.now start.args.role start.args.value-1.now start.args.list-1.now f.result f.new.1.1.1.0
+    part_long start.args.rows.now start.args.state.now start.args.role start.args.value.now start.args.list.now f.result f.new.1.1.1.0
     f.new.1.1.1.1.0 f.ensures
 
 returns : tie.Need-returns
@@ -19,7 +19,7 @@ returns c =
     let start_at = fill.before.before.before.before in
     let start = start_at in
     let f = fill.fill-seen in
-    look_is start.args.rows.now start.args.state.now start.args.role start.args.value-1.now start.args.list-1.now f.result f.new.1.1.1.0
+    look_is start.args.rows.now start.args.state.now start.args.role start.args.value.now start.args.list.now f.result f.new.1.1.1.0
     f.new.1.1.1.1.0 f.ensures
 
 pub look_spec : {M : Type 1} → statement M

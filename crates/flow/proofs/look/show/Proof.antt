@@ -1,4 +1,5 @@
 -- `show` meets its contract, each way out by its law. Assumes nothing.
+use Rattle.std.proofs.lemmas.Bool.{not_from_false, not_from_true}
 use borrow.Author.Rules.{rules}
 use borrow.Author.Tests.{not-true, not-false}
 use Rattle.entries.proofs.Bounds.{at_start}
@@ -10,7 +11,7 @@ returns : tie.Need-returns-then-not-has_room
 returns c =
     let asked = c.before in
     let a = asked.before.before.args in
-    show_24 a.role a.own.now a.words.now a.n a.value-found.now a.list-1.now asked.has_room.result asked.has_room.ensures (not-true _ c.if-not-has_room.true)
+    show_24 a.role a.own.now a.words.now a.n a.value-found.now a.list-1.now asked.has_room.result asked.has_room.ensures (not-true _ (not_from_false _ c.if-not-has_room.true))
 
 returns_2 : tie.Need-returns
 returns_2 c =
@@ -24,7 +25,7 @@ returns_2 c =
     let asked = if1.before in
     let a = asked.before.before.args in
     let v = found.value-found in
-    show_0 a.role a.own.now a.words.now a.n a.value-found.now a.list-1.now asked.has_room.result asked.has_room.ensures (not-false _ if1.if-not-has_room.false) listed.entries-bytes.ensures.1
+    show_0 a.role a.own.now a.words.now a.n a.value-found.now a.list-1.now asked.has_room.result asked.has_room.ensures (not-false _ (not_from_true _ if1.if-not-has_room.false)) listed.entries-bytes.ensures.1
     v.result v.ensures out.value_out.ensures.1 fails.fails.ensures failed.flag-failed.ensures has.flag-has_value.ensures out.value_out.ensures.0
 
 pub show_spec : {M : Type 1} → statement M

@@ -11,4 +11,4 @@ show_failed_spec = tie.close (tie.spec
     (λ c.
     let out = c.before in
     let start = out.before.before in
-    show_failed start.args.value-1.now out.value_out.new.1.0 out.value_out.ensures.0))
+    show_failed start.args.value.now out.value_out.new.lent out.value_out.ensures.0))

@@ -1,4 +1,5 @@
 -- `open` meets its contract, each way out by its law. Assumes nothing.
+use Rattle.std.proofs.lemmas.Bool.{not_from_false, not_from_true}
 use mathlib.Core.Path.{refl, sym, subst}
 use borrow.Author.Tests.{not-true}
 use borrow.Author.Rules.{rules}
@@ -58,7 +59,7 @@ returns_3 c =
     let z = (site_of start.args.rows.now q.result q.ensures.0 q.ensures.1.0 q.ensures.1.1.0 if1.if-n-eq0.false).3 in
     let wr = some_words start.args.rows.now q.result q.ensures.0 q.ensures.1.1.0 if1.if-n-eq0.false in
     subst (OpenOk start.args.rows.now start.args.state.now start.args.fits q.new.1.0 start.args.words.now) (sym c.not_failed-then-not-fits.ensures)
-    (open_misfit start.args.rows.now start.args.state.now q.new.1.0 start.args.words.now start.args.fits q.result z wr if3.if-not-fits.true)
+    (open_misfit start.args.rows.now start.args.state.now q.new.1.0 start.args.words.now start.args.fits q.result z wr (not_from_false _ if3.if-not-fits.true))
 
 state_in_requires : tie.Need-state_in-requires
 state_in_requires c κs =
@@ -84,7 +85,7 @@ held_requires c κs =
     let z = (site_of start.args.rows.now q.result q.ensures.0 q.ensures.1.0 q.ensures.1.1.0 if1.if-n-eq0.false).3 in
     let wr = some_words start.args.rows.now q.result q.ensures.0 q.ensures.1.1.0 if1.if-n-eq0.false in
     let w = state_in.state_in in
-    ((some_rows z, is_fine z), (ends start.args.rows.now start.args.state.now q.new.1.0 w.new.1.1.0 start.args.fits q.result z wr if3.if-not-fits.false if2.if-state-n.false w.ensures.1 w.ensures.0, refl))
+    ((some_rows z, is_fine z), (ends start.args.rows.now start.args.state.now q.new.1.0 w.new.1.1.0 start.args.fits q.result z wr (not_from_true _ if3.if-not-fits.false) if2.if-state-n.false w.ensures.1 w.ensures.0, refl))
 
 is_failed_requires : tie.Need-is_failed-requires
 is_failed_requires c κs =
@@ -103,8 +104,8 @@ is_failed_requires c κs =
       (some_rows z, is_fine z),
       (
         ends start.args.rows.now start.args.state.now q.new.1.0 w.new.1.1.0 start.args.fits q.result z wr
-            if3.if-not-fits.false if2.if-state-n.false w.ensures.1 w.ensures.0,
-        held.held.ensures.1 (not-true held.held.result if4.if-not-held.true),
+            (not_from_true _ if3.if-not-fits.false) if2.if-state-n.false w.ensures.1 w.ensures.0,
+        held.held.ensures.1 (not-true held.held.result (not_from_false _ if4.if-not-held.true)),
       ),
     )
 
@@ -126,7 +127,7 @@ returns_4 c =
     let h = held.held in
     let k = failed.is_failed in
     open_failed start.args.rows.now start.args.state.now q.new.1.0 w.new.1.1.0 start.args.fits q.result z wr
-    if3.if-not-fits.false if2.if-state-n.false w.ensures.1 w.ensures.0 h.result h.new.1.1.1.0 h.ensures.0 if4.if-not-held.true
+    (not_from_true _ if3.if-not-fits.false) if2.if-state-n.false w.ensures.1 w.ensures.0 h.result h.new.1.1.1.0 h.ensures.0 (not_from_false _ if4.if-not-held.true)
     k.result k.ensures c.if-is_failed.true
 
 returns_5 : tie.Need-returns-then-not-held
@@ -149,7 +150,7 @@ returns_5 c =
     let k = failed.is_failed in
     subst (OpenOk start.args.rows.now start.args.state.now start.args.fits q.new.1.0 w.new.1.1.0) (sym c.not_failed-then-not-held.ensures)
     (open_22 start.args.rows.now start.args.state.now q.new.1.0 w.new.1.1.0 start.args.fits q.result z wr
-    if3.if-not-fits.false if2.if-state-n.false w.ensures.1 w.ensures.0 h.result h.new.1.1.1.0 h.ensures.0 if4.if-not-held.true
+    (not_from_true _ if3.if-not-fits.false) if2.if-state-n.false w.ensures.1 w.ensures.0 h.result h.new.1.1.1.0 h.ensures.0 (not_from_false _ if4.if-not-held.true)
     k.result k.ensures if5.if-is_failed.false)
 
 sub_stride : tie.Need-overflow-sub-stride
@@ -192,7 +193,7 @@ returns_6 c =
     let m = stride.stride in
     subst (OpenOk start.args.rows.now start.args.state.now start.args.fits q.new.1.0 w.new.1.1.0) (sym c.not_failed-then-stride.ensures)
     (open_23 start.args.rows.now start.args.state.now q.new.1.0 w.new.1.1.0 start.args.fits q.result z wr
-    if3.if-not-fits.false if2.if-state-n.false w.ensures.1 w.ensures.0 h.result h.new.1.1.1.0 h.ensures.0 if4.if-not-held.false m.result
+    (not_from_true _ if3.if-not-fits.false) if2.if-state-n.false w.ensures.1 w.ensures.0 h.result h.new.1.1.1.0 h.ensures.0 (not_from_true _ if4.if-not-held.false) m.result
     m.new.1.0 _ m.ensures if6.if-stride.true)
 
 returns_7 : tie.Need-returns
@@ -215,7 +216,7 @@ returns_7 c =
     let m = stride.stride in
     subst (OpenOk start.args.rows.now start.args.state.now start.args.fits q.new.1.0 w.new.1.1.0) (sym c.not_failed-2.ensures)
     (open_0 start.args.rows.now start.args.state.now q.new.1.0 w.new.1.1.0 start.args.fits q.result z wr
-    if3.if-not-fits.false if2.if-state-n.false w.ensures.1 w.ensures.0 h.result h.new.1.1.1.0 h.ensures.0 if4.if-not-held.false m.result
+    (not_from_true _ if3.if-not-fits.false) if2.if-state-n.false w.ensures.1 w.ensures.0 h.result h.new.1.1.1.0 h.ensures.0 (not_from_true _ if4.if-not-held.false) m.result
     m.new.1.0 _ m.ensures if6.if-stride.false)
 
 pub open_spec : {M : Type 1} → statement M

@@ -24,7 +24,7 @@ returns' c =
     let v = if1.before in
     let f = v.before.before.before in
     let s = f.before.before in
-    begins_failed s.args.rows.now s.args.n s.args.words-1.now f.first_cells.new.1.1.0 v.evaluate.new.1.0 c.write_failed.new.1.1.0 _ v.evaluate.result
+    begins_failed s.args.rows.now s.args.n s.args.words.now f.first_cells.new.work v.evaluate.new.state c.write_failed.new.words _ v.evaluate.result
     s.requires.1 f.first_cells.ensures v.evaluate.ensures if1.if-evaluate.true c.write_failed.ensures
 
 sub_normalise' : tie.Need-overflow-sub-normalise
@@ -40,7 +40,7 @@ returns_2' c =
     let f = v.before.before.before in
     let s = f.before.before in
     let m = c.normalise in
-    begins s.args.rows.now s.args.n s.args.words-1.now f.first_cells.new.1.1.0 v.evaluate.new.1.0 m.new.1.0 _ v.evaluate.result m.result
+    begins s.args.rows.now s.args.n s.args.words.now f.first_cells.new.work v.evaluate.new.state m.new.1.0 _ v.evaluate.result m.result
     s.requires.1 f.first_cells.ensures v.evaluate.ensures if1.if-evaluate.false m.ensures
 
 pub begin_spec : {M : Type 1} → statement M

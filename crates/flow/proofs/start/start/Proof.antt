@@ -15,7 +15,7 @@ returns c =
     let rows = if1.before in
     let start = rows.before.before in
     let n = rows.accepted_rows-n in
-    start_20 start.args.rows.now start.args.state-1.now c.refused.result n.result n.ensures.0 if1.if-n-eq0.true
+    start_20 start.args.rows.now start.args.state.now c.refused.result n.result n.ensures.0 if1.if-n-eq0.true
     c.refused.ensures
 
 mul_if2 : tie.Need-overflow-mul-if2
@@ -36,7 +36,7 @@ returns_2 c =
     let start = rows.before.before in
     let n = rows.accepted_rows-n in
     let z = (site_of start.args.rows.now n.result n.ensures.0 n.ensures.1.0 n.ensures.1.1.0 if1.if-n-eq0.false).3 in
-    start_21 start.args.rows.now start.args.state-1.now c.refused-then-state-n.result z if2.if-state-n.true c.refused-then-state-n.ensures
+    start_21 start.args.rows.now start.args.state.now c.refused-then-state-n.result z if2.if-state-n.true c.refused-then-state-n.ensures
 
 begin_requires : tie.Need-begin-strides-requires
 begin_requires c κs =
@@ -71,7 +71,7 @@ returns_3 c =
     let start = rows.before.before in
     let n = rows.accepted_rows-n in
     let z = (site_of start.args.rows.now n.result n.ensures.0 n.ensures.1.0 n.ensures.1.1.0 if1.if-n-eq0.false).3 in
-    start_0 start.args.state-1.now state_out.state_out.new.1.1.0 begun.begin-strides.new.1.1.0 begun.begin-strides.result z if2.if-state-n.false
+    start_0 start.args.state.now state_out.state_out.new.lent begun.begin-strides.new.words begun.begin-strides.result z if2.if-state-n.false
     begun.begin-strides.ensures state_out.state_out.ensures.1 state_out.state_out.ensures.0
 
 pub start_spec : {M : Type 1} → statement M

@@ -1,4 +1,5 @@
 -- `take` meets its contract, each way out by its law. Assumes nothing.
+use Rattle.std.proofs.lemmas.Bool.{not_from_false, not_from_true}
 use mathlib.Core.Bool.{true}
 use borrow.Author.Rules.{rules}
 use borrow.Author.Tests.{not-false}
@@ -17,7 +18,7 @@ returns c =
     let o = opening.«open» in
     let own = o.new.1.1.1.0 in
     let words = o.new.1.1.1.1.0 in
-    take_refused start.args.rows.now start.args.state-1.now own words o.result start.args.e o.ensures if1.if-opening-ne0.true
+    take_refused start.args.rows.now start.args.state.now own words o.result start.args.e o.ensures if1.if-opening-ne0.true
     c.refused.result c.refused.ensures
 
 returns_2 : tie.Need-returns-then-not-e
@@ -30,7 +31,7 @@ returns_2 c =
     let o = opening.«open» in
     let own = o.new.1.1.1.0 in
     let words = o.new.1.1.1.1.0 in
-    take_8 start.args.rows.now start.args.state-1.now own words o.result start.args.e o.ensures if1.if-opening-ne0.false if2.if-not-e.true
+    take_8 start.args.rows.now start.args.state.now own words o.result start.args.e o.ensures if1.if-opening-ne0.false (not_from_false _ if2.if-not-e.true)
     c.refused-then-not-e.result c.refused-then-not-e.ensures
 
 returns_3 : tie.Need-returns-then-opening
@@ -41,7 +42,7 @@ returns_3 c =
     let opening = if1.before.before in
     let start = opening.before.before.before.before in
     let o = opening.«open» in
-    take_failed start.args.rows.now start.args.state-1.now o.new.1.1.1.0 o.new.1.1.1.1.0 o.result start.args.e o.ensures if1.if-opening-ne0.false if2.if-not-e.false if3.if-opening.true
+    take_failed start.args.rows.now start.args.state.now o.new.1.1.1.0 o.new.1.1.1.1.0 o.result start.args.e o.ensures if1.if-opening-ne0.false (not_from_true _ if2.if-not-e.false) if3.if-opening.true
     c.take_failed.result c.take_failed.ensures
 
 sub_last : tie.Need-overflow-sub-last
@@ -51,8 +52,8 @@ sub_last c =
     let opening = if1.before.before in
     let start = opening.before.before.before.before in
     let o = opening.«open» in
-    (opened_fine start.args.rows.now start.args.state-1.now o.new.1.1.1.0 o.new.1.1.1.1.0 o.result
-    (opened start.args.rows.now start.args.state-1.now true) o.ensures if1.if-opening-ne0.false if3.if-opening.false).0
+    (opened_fine start.args.rows.now start.args.state.now o.new.1.1.1.0 o.new.1.1.1.1.0 o.result
+    (opened start.args.rows.now start.args.state.now true) o.ensures if1.if-opening-ne0.false if3.if-opening.false).0
 
 handle_requires : tie.Need-handle-number-requires
 handle_requires c κs =
@@ -62,8 +63,8 @@ handle_requires c κs =
     let opening = if1.before.before in
     let start = opening.before.before.before.before in
     let o = opening.«open» in (
-      (opened_fine start.args.rows.now start.args.state-1.now o.new.1.1.1.0 o.new.1.1.1.1.0 o.result (opened start.args.rows.now start.args.state-1.now true) o.ensures if1.if-opening-ne0.false if3.if-opening.false).2,
-      start.requires (not-false start.args.e.readable if2.if-not-e.false),
+      (opened_fine start.args.rows.now start.args.state.now o.new.1.1.1.0 o.new.1.1.1.1.0 o.result (opened start.args.rows.now start.args.state.now true) o.ensures if1.if-opening-ne0.false if3.if-opening.false).2,
+      start.requires (not-false start.args.e.readable (not_from_true _ if2.if-not-e.false)),
     )
 
 returns_4 : tie.Need-returns-then-number-ne0
@@ -77,7 +78,7 @@ returns_4 c =
     let start = opening.before.before.before.before in
     let o = opening.«open» in
     let h = handled.handle-number in
-    take_no start.args.rows.now start.args.state-1.now o.new.1.1.1.0 o.new.1.1.1.1.0 o.result start.args.e if1.if-opening-ne0.false if3.if-opening.false if2.if-not-e.false
+    take_no start.args.rows.now start.args.state.now o.new.1.1.1.0 o.new.1.1.1.1.0 o.result start.args.e if1.if-opening-ne0.false if3.if-opening.false (not_from_true _ if2.if-not-e.false)
     h.new.1.0 _ h.result h.ensures o.ensures if4.if-number-ne0.true c.refused-then-number-ne0.result c.refused-then-number-ne0.ensures
 
 normalise_requires : tie.Need-normalise-strides-requires
@@ -87,8 +88,8 @@ normalise_requires c κs =
     let opening = if1.before.before in
     let start = opening.before.before.before.before in
     let o = opening.«open» in
-    (opened_fine start.args.rows.now start.args.state-1.now o.new.1.1.1.0 o.new.1.1.1.1.0 o.result
-    (opened start.args.rows.now start.args.state-1.now true) o.ensures if1.if-opening-ne0.false if3.if-opening.false).2
+    (opened_fine start.args.rows.now start.args.state.now o.new.1.1.1.0 o.new.1.1.1.1.0 o.result
+    (opened start.args.rows.now start.args.state.now true) o.ensures if1.if-opening-ne0.false if3.if-opening.false).2
 
 state_out_requires : tie.Need-state_out-requires
 state_out_requires c κs =
@@ -99,8 +100,8 @@ state_out_requires c κs =
     let o = opening.«open» in
     let own = o.new.1.1.1.0 in
     let words = o.new.1.1.1.1.0 in
-    let x = opened start.args.rows.now start.args.state-1.now true in
-    (opened_room start.args.rows.now start.args.state-1.now own words o.result x o.ensures if1.if-opening-ne0.false if3.if-opening.false, (opened_fine start.args.rows.now start.args.state-1.now own words o.result x o.ensures if1.if-opening-ne0.false if3.if-opening.false).1)
+    let x = opened start.args.rows.now start.args.state.now true in
+    (opened_room start.args.rows.now start.args.state.now own words o.result x o.ensures if1.if-opening-ne0.false if3.if-opening.false, (opened_fine start.args.rows.now start.args.state.now own words o.result x o.ensures if1.if-opening-ne0.false if3.if-opening.false).1)
 
 returns_5 : tie.Need-returns
 returns_5 c =
@@ -117,7 +118,7 @@ returns_5 c =
     let h = handled.handle-number in
     let m = normal.normalise-strides in
     let w = state_out.state_out in
-    take_0 start.args.rows.now start.args.state-1.now o.new.1.1.1.0 o.new.1.1.1.1.0 o.result start.args.e if1.if-opening-ne0.false if3.if-opening.false if2.if-not-e.false
+    take_0 start.args.rows.now start.args.state.now o.new.1.1.1.0 o.new.1.1.1.1.0 o.result start.args.e if1.if-opening-ne0.false if3.if-opening.false (not_from_true _ if2.if-not-e.false)
     h.new.1.0 _ h.result h.ensures m.new.1.0 _ m.result w.new.1.1.0 m.ensures w.ensures.1 w.ensures.0
     o.ensures if4.if-number-ne0.false
 

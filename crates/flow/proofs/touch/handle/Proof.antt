@@ -17,8 +17,8 @@ returns c =
     let start_at = take.before.before in
     let read = start_at in
     let start = read.before.before in
-    take_handles start.args.rows.now start.args.state-1.now start.args.event.now read.read_event-e.result take.take.result
-    take.take.new.1.0 read.read_event-e.ensures take.take.ensures
+    take_handles start.args.rows.now start.args.state.now start.args.event.now read.read_event-e.result take.take.result
+    take.take.new.state read.read_event-e.ensures take.take.ensures
 
 pub handle_spec : {M : Type 1} → statement M
 handle_spec = tie.close (tie.spec (λ c κs. search rules) take_requires (λ c. search rules) returns)

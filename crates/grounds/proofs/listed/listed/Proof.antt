@@ -1,4 +1,5 @@
 -- `listed::listed`: a loop over all rows, left at the first that is not listed.
+use Rattle.std.proofs.lemmas.Bool.{not_from_false, not_from_true}
 use mathlib.Core.Path.{◌≡◌}
 use mathlib.Core.Bool.{true}
 use Prim.Native.Nat.{◌≤◌, ◌-◌}
@@ -27,14 +28,14 @@ listed_spec = tie.close (tie.spec
     let loop = test.before in
     let start = loop.before in
     every_broken (row_listed start.args.rows.now) start.args.n loop.loop-i.i row_listed_point.row_listed.result test.loop-i-test.true
-    row_listed_point.row_listed.ensures c.if-not-row_listed.true)
+    row_listed_point.row_listed.ensures (not_from_false _ c.if-not-row_listed.true))
     (λ c. search rules)
     (λ c. search rules)
     (λ c.
     let row_listed_point = c.before in
     let loop = row_listed_point.before.before in
     let start = loop.before in
-    (omega arith, every_more (row_listed start.args.rows.now) loop.loop-i.i row_listed_point.row_listed.result loop.loop-i.invariant.1 row_listed_point.row_listed.ensures c.if-not-row_listed.false))
+    (omega arith, every_more (row_listed start.args.rows.now) loop.loop-i.i row_listed_point.row_listed.result loop.loop-i.invariant.1 row_listed_point.row_listed.ensures (not_from_true _ c.if-not-row_listed.false)))
     (λ c.
     let loop = c.before in
     let start = loop.before in

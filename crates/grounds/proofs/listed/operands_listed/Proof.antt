@@ -1,4 +1,5 @@
 -- `listed::operands_listed`: the three operands, one after another.
+use Rattle.std.proofs.lemmas.Bool.{not_from_false, not_from_true}
 use borrow.Author.Rules.{rules}
 use Rattle.rows.specs.Rows.{listed_as}
 use Rattle.grounds.specs.Table.{ask_by}
@@ -19,7 +20,7 @@ operands_listed_spec = tie.close (tie.spec
     let start = s.before.before in
     not_first (listed_as (ask_by s.s-1.given.0.0) start.args.a) (listed_as (ask_by s.s-1.given.0.1.0) start.args.b)
     (listed_as (ask_by s.s-1.given.0.1.1.0) start.args.c) (listed_is start.args.a start.args.b start.args.c s.s-1.given.1)
-    listed_as_point.listed_as.ensures c.if-not-listed_as.true)
+    listed_as_point.listed_as.ensures (not_from_false _ c.if-not-listed_as.true))
     (λ c κs. search rules)
     (λ c.
     let listed_as2 = c.before in
@@ -29,7 +30,7 @@ operands_listed_spec = tie.close (tie.spec
     let start = s.before.before in
     not_second (listed_as (ask_by s.s-1.given.0.0) start.args.a) (listed_as (ask_by s.s-1.given.0.1.0) start.args.b)
     (listed_as (ask_by s.s-1.given.0.1.1.0) start.args.c) (listed_is start.args.a start.args.b start.args.c s.s-1.given.1)
-    listed_as_point.listed_as.ensures if1.if-not-listed_as.false listed_as2.listed_as-2.ensures c.if-not-listed_as-2.true)
+    listed_as_point.listed_as.ensures (not_from_true _ if1.if-not-listed_as.false) listed_as2.listed_as-2.ensures (not_from_false _ c.if-not-listed_as-2.true))
     (λ c κs. search rules)
     (λ c.
     let if2 = c.before in
@@ -40,4 +41,4 @@ operands_listed_spec = tie.close (tie.spec
     let start = s.before.before in
     third (listed_as (ask_by s.s-1.given.0.0) start.args.a) (listed_as (ask_by s.s-1.given.0.1.0) start.args.b)
     (listed_as (ask_by s.s-1.given.0.1.1.0) start.args.c) (listed_is start.args.a start.args.b start.args.c s.s-1.given.1)
-    listed_as_point.listed_as.ensures if1.if-not-listed_as.false listed_as2.listed_as-2.ensures if2.if-not-listed_as-2.false c.listed_as-3.ensures))
+    listed_as_point.listed_as.ensures (not_from_true _ if1.if-not-listed_as.false) listed_as2.listed_as-2.ensures (not_from_true _ if2.if-not-listed_as-2.false) c.listed_as-3.ensures))

@@ -1,4 +1,5 @@
 -- `listed::row_listed`: the operands are as the kind asks, and a truth cell holds a truth.
+use Rattle.std.proofs.lemmas.Bool.{not_from_false, not_from_true}
 use borrow.Author.Rules.{rules}
 use Rattle.grounds.proofs.Ground3.{row_unlisted, row_cell}
 use Rattle.grounds.proofs.listed.row_listed.Statement.{statement}
@@ -19,7 +20,7 @@ row_listed_spec = tie.close (tie.spec
     let asks_at = get.before in
     let start = asks_at.before in
     row_unlisted start.args.rows.now start.args.i asks_at.asks_at-s.result asks_at.asks_at-s.ensures get.get-a.ensures
-    get2.get-b.ensures get3.get-c.ensures operands_listed.operands_listed.ensures c.if-not-operands_listed.true)
+    get2.get-b.ensures get3.get-c.ensures operands_listed.operands_listed.ensures (not_from_false _ c.if-not-operands_listed.true))
     (λ c κs. search rules)
     (λ c.
     let if1 = c.before in
@@ -30,4 +31,4 @@ row_listed_spec = tie.close (tie.spec
     let asks_at = get.before in
     let start = asks_at.before in
     row_cell start.args.rows.now start.args.i asks_at.asks_at-s.result asks_at.asks_at-s.ensures get.get-a.ensures
-    get2.get-b.ensures get3.get-c.ensures operands_listed.operands_listed.ensures if1.if-not-operands_listed.false c.truth_cell_lem.ensures))
+    get2.get-b.ensures get3.get-c.ensures operands_listed.operands_listed.ensures (not_from_true _ if1.if-not-operands_listed.false) c.truth_cell_lem.ensures))

@@ -1,4 +1,5 @@
 -- `named::all_named`: a loop over all rows, left at the first that is not named as it must be.
+use Rattle.std.proofs.lemmas.Bool.{not_from_false, not_from_true}
 use mathlib.Core.Path.{◌≡◌}
 use mathlib.Core.Bool.{true}
 use Prim.Native.Nat.{◌≤◌, ◌-◌}
@@ -32,14 +33,14 @@ all_named_spec = tie.close (tie.spec
     let loop = test.before in
     let start = loop.before in
     every_broken (named_once start.args.rows.now start.args.n) start.args.n loop.loop-i.i named_once_point.named_once.result
-    test.loop-i-test.true named_once_point.named_once.ensures c.if-not-named_once.true)
+    test.loop-i-test.true named_once_point.named_once.ensures (not_from_false _ c.if-not-named_once.true))
     (λ c. search rules)
     (λ c. search rules)
     (λ c.
     let named_once_point = c.before in
     let loop = named_once_point.before.before.before in
     let start = loop.before in
-    (omega arith, every_more (named_once start.args.rows.now start.args.n) loop.loop-i.i named_once_point.named_once.result loop.loop-i.invariant.1 named_once_point.named_once.ensures c.if-not-named_once.false))
+    (omega arith, every_more (named_once start.args.rows.now start.args.n) loop.loop-i.i named_once_point.named_once.result loop.loop-i.invariant.1 named_once_point.named_once.ensures (not_from_true _ c.if-not-named_once.false)))
     (λ c.
     let loop = c.before in
     let start = loop.before in

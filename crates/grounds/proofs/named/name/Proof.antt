@@ -1,4 +1,5 @@
 -- `named::name`: an operand's naming is counted, where it names a row and the count has not stopped.
+use Rattle.std.proofs.lemmas.Bool.{not_from_false, not_from_true}
 use mathlib.Core.Path.{◌≡◌, subst}
 use mathlib.Core.Bool.{true, false, not}
 use borrow.Author.Rules.{rules}
@@ -11,7 +12,7 @@ use Rattle.grounds.proofs.named.name.Tie as tie
 pub name_spec : {M : Type 1} → statement M
 name_spec = tie.close (tie.spec
     (λ c κs. search rules)
-    (λ c. let s = c.before.before in name_not s.args.table.now (names (ask_by s.args.q)) s.args.w (subst (λ b. not b ≡ true) c.before.names_row.ensures c.if-not-names_row.true))
+    (λ c. let s = c.before.before in name_not s.args.table.now (names (ask_by s.args.q)) s.args.w (subst (λ b. not b ≡ true) c.before.names_row.ensures (not_from_false _ c.if-not-names_row.true)))
     (λ c. let s = c.before.before.before in name_past s.args.table.now (names (ask_by s.args.q)) s.args.w c.if-at-ge-MAX_ROWS.true)
     (λ c. search rules)
     (λ c.
@@ -25,4 +26,4 @@ name_spec = tie.close (tie.spec
     let names_row = if1.before in
     let start = names_row.before in
     name_one start.args.table.now (names (ask_by start.args.q)) start.args.w
-    (subst (λ b. not b ≡ false) names_row.names_row.ensures if1.if-not-names_row.false) if2.if-at-ge-MAX_ROWS.false c.if-x-ge-MAX_NAMINGS.false))
+    (subst (λ b. not b ≡ false) names_row.names_row.ensures (not_from_true _ if1.if-not-names_row.false)) if2.if-at-ge-MAX_ROWS.false c.if-x-ge-MAX_NAMINGS.false))

@@ -21,6 +21,6 @@ name_row_spec = tie.close (tie.spec
     let if1 = get2.before in
     let get = if1.before in
     let start = get.before in
-    name_high start.args.rows.now start.args.table.now start.args.j get.get.ensures if1.if-get-lt-FIRST_EXPRESSION.false c.name_operands.new.0
+    name_high start.args.rows.now start.args.table.now start.args.j get.get.ensures if1.if-get-lt-FIRST_EXPRESSION.false c.name_operands.new.table
     asks_at.asks_at.result asks_at.asks_at.ensures get2.get-a.ensures get3.get-b.ensures get4.get-c.ensures
     c.name_operands.ensures))

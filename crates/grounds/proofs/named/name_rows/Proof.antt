@@ -26,7 +26,7 @@ name_rows_spec = tie.close (tie.spec
     (λ c.
     let loop = c.before.before.before in
     let start = loop.before in
-    (omega arith, name_rows_more start.args.rows.now start.args.table.now loop.loop-j.table c.name_row.new.1.0 loop.loop-j.j loop.loop-j.invariant.1 c.name_row.ensures))
+    (omega arith, name_rows_more start.args.rows.now start.args.table.now loop.loop-j.table c.name_row.new.table loop.loop-j.j loop.loop-j.invariant.1 c.name_row.ensures))
     (λ c.
     let loop = c.before in
     let start = loop.before in

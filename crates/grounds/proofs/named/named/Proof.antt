@@ -1,4 +1,5 @@
 -- `named::named`: the counts from an empty table, the test of each row, and the last row's kind.
+use Rattle.std.proofs.lemmas.Bool.{not_from_false, not_from_true}
 use mathlib.Core.Path.{ap, sym, ◌∙◌}
 use mathlib.Core.Bool.{◌&&◌}
 use Prim.Native.Nat.{◌-◌}
@@ -15,12 +16,12 @@ named_spec = tie.close (tie.spec
     (λ c κs.
     let name_rows = c.before in
     let start = name_rows.before.before in
-    (start.requires.1, more_zero name_rows.name_rows.new.1.0 (λ i. namings start.args.rows.now i start.args.n) name_rows.name_rows.ensures))
+    (start.requires.1, more_zero name_rows.name_rows.new.table (λ i. namings start.args.rows.now i start.args.n) name_rows.name_rows.ensures))
     (λ c.
     let all_named = c.before in
     let start = all_named.before.before.before.before in
     ap (λ b. b && last_fits start.args.rows.now (start.args.n - 1))
-    (sym (not-true all_named.all_named.result c.if-not-all_named.true) ∙ all_named.all_named.ensures))
+    (sym (not-true all_named.all_named.result (not_from_false _ c.if-not-all_named.true)) ∙ all_named.all_named.ensures))
     (λ c. search rules)
     (λ c κs. search rules)
     (λ c κs. search rules)
@@ -31,4 +32,4 @@ named_spec = tie.close (tie.spec
     let start = all_named.before.before.before.before in
     last_is start.args.rows.now (start.args.n - 1) get.get.result get.get.ensures c.last_fits.result c.last_fits.ensures ∙
     ap (λ b. b && last_fits start.args.rows.now (start.args.n - 1))
-    (sym (not-false all_named.all_named.result if1.if-not-all_named.false) ∙ all_named.all_named.ensures)))
+    (sym (not-false all_named.all_named.result (not_from_true _ if1.if-not-all_named.false)) ∙ all_named.all_named.ensures)))

@@ -41,7 +41,7 @@ few_spec = tie.close (tie.spec
     let loop = row_count.before.before.before in
     let most_of_point = loop.before in
     let start = most_of_point.before in
-    (omega arith, length-set loop.loop-i.table-1 loop.loop-i.i row_count.row_count-x.result ∙ loop.loop-i.invariant.1, count_written start.args.w start.args.rows.now loop.loop-i.table-1 loop.loop-i.i loop.loop-i.invariant.2 row_count.row_count-x.result (omega arith) row_count.row_count-x.ensures.0, every_so (few_at start.args.w start.args.rows.now) loop.loop-i.i loop.loop-i.invariant.3 (few_so start.args.w start.args.rows.now loop.loop-i.i row_count.row_count-x.result row_count.row_count-x.ensures.0 (omega (arith, most_of_point.most_of-most.ensures)))))
+    (omega arith, length-set loop.loop-i.table loop.loop-i.i row_count.row_count-x.result ∙ loop.loop-i.invariant.1, count_written start.args.w start.args.rows.now loop.loop-i.table loop.loop-i.i loop.loop-i.invariant.2 row_count.row_count-x.result (omega arith) row_count.row_count-x.ensures.0, every_so (few_at start.args.w start.args.rows.now) loop.loop-i.i loop.loop-i.invariant.3 (few_so start.args.w start.args.rows.now loop.loop-i.i row_count.row_count-x.result row_count.row_count-x.ensures.0 (omega (arith, most_of_point.most_of-most.ensures)))))
     (λ c.
     let loop = c.before in
     let start = loop.before.before in

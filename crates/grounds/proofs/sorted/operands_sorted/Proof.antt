@@ -1,4 +1,5 @@
 -- `sorted::operands_sorted`: the three operands, one after another.
+use Rattle.std.proofs.lemmas.Bool.{not_from_false, not_from_true}
 use borrow.Author.Rules.{rules}
 use Rattle.rows.specs.Rows.{sorted_as}
 use Rattle.grounds.specs.Table.{ask_by}
@@ -17,7 +18,7 @@ operands_sorted_spec = tie.close (tie.spec
     let sorted_as_point = c.before in
     let s = sorted_as_point.before.before in
     λ u v w d e f. not_first (sorted_as (ask_by s.s-1.given.0.0) u v) (sorted_as (ask_by s.s-1.given.0.1.0) v v)
-    (sorted_as (ask_by s.s-1.given.0.1.1.0) w v) (sorted_is u v w s.s-1.given.1) (sorted_as_point.sorted_as.ensures u v d e) c.if-not-sorted_as.true)
+    (sorted_as (ask_by s.s-1.given.0.1.1.0) w v) (sorted_is u v w s.s-1.given.1) (sorted_as_point.sorted_as.ensures u v d e) (not_from_false _ c.if-not-sorted_as.true))
     (λ c κs. search rules)
     (λ c.
     let sorted_as2 = c.before in
@@ -25,8 +26,8 @@ operands_sorted_spec = tie.close (tie.spec
     let sorted_as_point = if1.before in
     let s = sorted_as_point.before.before in
     λ u v w d e f. not_second (sorted_as (ask_by s.s-1.given.0.0) u v) (sorted_as (ask_by s.s-1.given.0.1.0) v v)
-    (sorted_as (ask_by s.s-1.given.0.1.1.0) w v) (sorted_is u v w s.s-1.given.1) (sorted_as_point.sorted_as.ensures u v d e) if1.if-not-sorted_as.false
-    (sorted_as2.sorted_as-2.ensures v v e e) c.if-not-sorted_as-2.true)
+    (sorted_as (ask_by s.s-1.given.0.1.1.0) w v) (sorted_is u v w s.s-1.given.1) (sorted_as_point.sorted_as.ensures u v d e) (not_from_true _ if1.if-not-sorted_as.false)
+    (sorted_as2.sorted_as-2.ensures v v e e) (not_from_false _ c.if-not-sorted_as-2.true))
     (λ c κs. search rules)
     (λ c.
     let if2 = c.before in
@@ -35,5 +36,5 @@ operands_sorted_spec = tie.close (tie.spec
     let sorted_as_point = if1.before in
     let s = sorted_as_point.before.before in
     λ u v w d e f. third (sorted_as (ask_by s.s-1.given.0.0) u v) (sorted_as (ask_by s.s-1.given.0.1.0) v v)
-    (sorted_as (ask_by s.s-1.given.0.1.1.0) w v) (sorted_is u v w s.s-1.given.1) (sorted_as_point.sorted_as.ensures u v d e) if1.if-not-sorted_as.false
-    (sorted_as2.sorted_as-2.ensures v v e e) if2.if-not-sorted_as-2.false (c.sorted_as-3.ensures w v f e)))
+    (sorted_as (ask_by s.s-1.given.0.1.1.0) w v) (sorted_is u v w s.s-1.given.1) (sorted_as_point.sorted_as.ensures u v d e) (not_from_true _ if1.if-not-sorted_as.false)
+    (sorted_as2.sorted_as-2.ensures v v e e) (not_from_true _ if2.if-not-sorted_as-2.false) (c.sorted_as-3.ensures w v f e)))

@@ -1,4 +1,5 @@
 -- `sorted::sorted`: a loop over all rows, the table holding the sorts of the rows passed.
+use Rattle.std.proofs.lemmas.Bool.{not_from_false, not_from_true}
 use mathlib.Core.Path.{◌≡◌, refl, ◌∙◌}
 use mathlib.Core.Bool.{true}
 use Prim.Native.Nat.{◌≤◌, ◌-◌}
@@ -29,7 +30,7 @@ sorted_spec = tie.close (tie.spec
     let loop = test.before in
     let start = loop.before in
     every_broken (row_sorted start.args.rows.now) start.args.n loop.loop-i.i row_sorted_point.row_sorted.result test.loop-i-test.true
-    row_sorted_point.row_sorted.ensures c.if-not-row_sorted.true)
+    row_sorted_point.row_sorted.ensures (not_from_false _ c.if-not-row_sorted.true))
     (λ c κs.
     let loop = c.before.before.before.before.before in
     (omega arith, loop.loop-i.invariant.2))
@@ -41,7 +42,7 @@ sorted_spec = tie.close (tie.spec
     let row_sorted_point = if1.before in
     let loop = row_sorted_point.before.before.before in
     let start = loop.before in
-    (omega arith, length-set loop.loop-i.table-1 loop.loop-i.i c.own_sort-s.result ∙ loop.loop-i.invariant.1, sort_written start.args.rows.now loop.loop-i.table-1 loop.loop-i.i loop.loop-i.invariant.2 c.own_sort-s.result (omega arith) c.own_sort-s.ensures, every_more (row_sorted start.args.rows.now) loop.loop-i.i row_sorted_point.row_sorted.result loop.loop-i.invariant.3 row_sorted_point.row_sorted.ensures if1.if-not-row_sorted.false))
+    (omega arith, length-set loop.loop-i.table loop.loop-i.i c.own_sort-s.result ∙ loop.loop-i.invariant.1, sort_written start.args.rows.now loop.loop-i.table loop.loop-i.i loop.loop-i.invariant.2 c.own_sort-s.result (omega arith) c.own_sort-s.ensures, every_more (row_sorted start.args.rows.now) loop.loop-i.i row_sorted_point.row_sorted.result loop.loop-i.invariant.3 row_sorted_point.row_sorted.ensures (not_from_true _ if1.if-not-row_sorted.false)))
     (λ c.
     let loop = c.before in
     let start = loop.before in

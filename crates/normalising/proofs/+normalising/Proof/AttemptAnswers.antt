@@ -37,7 +37,7 @@ attempt_returns_2 t c =
     let pushed = operand.before in
     let start = pushed.before.before in
     attempt_over start.args.rows.now start.args.state.now start.args.row start.args.env.now start.args.depth start.args.v
-    pushed.pushed-inner.result evaluate.evaluate.new.1.0 operand.operand-b.result evaluate.evaluate.result pushed.pushed-inner.ensures
+    pushed.pushed-inner.result evaluate.evaluate.new.state operand.operand-b.result evaluate.evaluate.result pushed.pushed-inner.ensures
     operand.operand-b.ensures evaluate.evaluate.ensures c.if-evaluate.true
 
 pub attempt_add_failing : (t : ℕ) → attempt-lts.Need-overflow_add-depth-2 (attempt_calls t) (attempt_at t) attempt.Post
@@ -60,7 +60,7 @@ attempt_returns_3 t c =
     let pushed = operand.before in
     let start = pushed.before.before in
     attempt_fails start.args.rows.now start.args.state.now start.args.row start.args.env.now start.args.depth start.args.v
-    pushed.pushed-inner.result evaluate.evaluate.new.1.0 operand.operand-b.result evaluate.evaluate.result pushed.pushed-inner.ensures
+    pushed.pushed-inner.result evaluate.evaluate.new.state operand.operand-b.result evaluate.evaluate.result pushed.pushed-inner.ensures
     operand.operand-b.ensures evaluate.evaluate.ensures if2.if-evaluate.false failing.failing.result failing.failing.ensures c.if-failing.true
 
 pub attempt_operand_requires_2 : (t : ℕ) → attempt-lts.Need-operand-requires (attempt_calls t) (attempt_at t) attempt.Post
@@ -91,6 +91,6 @@ attempt_returns_4 t c =
     let pushed = operand.before in
     let start = pushed.before.before in
     attempt_goes start.args.rows.now start.args.state.now start.args.row start.args.env.now start.args.depth start.args.v
-    pushed.pushed-inner.result evaluate.evaluate.new.1.0 operand.operand-b.result evaluate.evaluate.result pushed.pushed-inner.ensures
+    pushed.pushed-inner.result evaluate.evaluate.new.state operand.operand-b.result evaluate.evaluate.result pushed.pushed-inner.ensures
     operand.operand-b.ensures evaluate.evaluate.ensures if2.if-evaluate.false failing.failing.result failing.failing.ensures
-    clear.clear.new.1.0 c.put_value.new.0 operand2.operand.result if3.if-failing.false operand2.operand.ensures clear.clear.ensures c.put_value.ensures
+    clear.clear.new.state c.put_value.new.state operand2.operand.result if3.if-failing.false operand2.operand.ensures clear.clear.ensures c.put_value.ensures

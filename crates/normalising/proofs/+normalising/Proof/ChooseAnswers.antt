@@ -49,9 +49,9 @@ choose_returns t c =
     let operand2 = stride.before.before in
     let operand = operand2.before in
     let start = operand.before in
-    choose_left_lem start.args.rows.now start.args.state.now stride.stride-left.new.1.0 start.args.row start.args.env.now
+    choose_left_lem start.args.rows.now start.args.state.now stride.stride-left.new.state start.args.row start.args.env.now
     start.args.depth start.requires.1.2 operand.operand-a.result stride.stride-left.result operand.operand-a.ensures stride.stride-left.ensures
-    value.value-first.result value.value-first.ensures clear.clear.new.1.0 c.put_tag.new.0 operand2.operand-b.result start.requires.1.1
+    value.value-first.result value.value-first.ensures clear.clear.new.state c.put_tag.new.state operand2.operand-b.result start.requires.1.1
     if1.if-first.true operand2.operand-b.ensures clear.clear.ensures c.put_tag.ensures
 
 pub choose_stride_requires_2 : (t : ℕ) → choose-lts.Need-stride-right-requires (choose_calls t) (choose_at t) choose.Post
@@ -92,11 +92,11 @@ choose_returns_2 t c =
     let operand2 = stride.before.before in
     let operand = operand2.before in
     let start = operand.before in
-    choose_right_lem start.args.rows.now start.args.state.now stride.stride-left.new.1.0 stride2.stride-right.new.1.0 start.args.row
+    choose_right_lem start.args.rows.now start.args.state.now stride.stride-left.new.state stride2.stride-right.new.state start.args.row
     start.args.env.now start.args.depth operand.operand-a.result operand2.operand-b.result stride.stride-left.result
     stride2.stride-right.result operand.operand-a.ensures operand2.operand-b.ensures stride.stride-left.ensures stride2.stride-right.ensures
     start.requires.1.2 value.value-first.result value2.value-second.result value.value-first.ensures value2.value-second.ensures start.requires.1.1
-    if1.if-first.false clear2.clear-then-second.new.1.0 c.put_tag-then-second.new.0 if2.if-second.true clear2.clear-then-second.ensures c.put_tag-then-second.ensures
+    if1.if-first.false clear2.clear-then-second.new.state c.put_tag-then-second.new.state if2.if-second.true clear2.clear-then-second.ensures c.put_tag-then-second.ensures
 
 pub choose_returns_3 : (t : ℕ) → choose-lts.Need-returns-then-left (choose_calls t) (choose_at t) choose.Post
 choose_returns_3 t c =
@@ -109,7 +109,7 @@ choose_returns_3 t c =
     let operand2 = stride.before.before in
     let operand = operand2.before in
     let start = operand.before in
-    choose_none start.args.rows.now start.args.state.now stride.stride-left.new.1.0 stride2.stride-right.new.1.0 start.args.row
+    choose_none start.args.rows.now start.args.state.now stride.stride-left.new.state stride2.stride-right.new.state start.args.row
     start.args.env.now start.args.depth operand.operand-a.result operand2.operand-b.result stride.stride-left.result
     stride2.stride-right.result operand.operand-a.ensures operand2.operand-b.ensures stride.stride-left.ensures stride2.stride-right.ensures
     start.requires.1.2 value.value-first.result value2.value-second.result value.value-first.ensures value2.value-second.ensures start.requires.1.1
@@ -126,7 +126,7 @@ choose_returns_4 t c =
     let operand2 = stride.before.before in
     let operand = operand2.before in
     let start = operand.before in
-    choose_none start.args.rows.now start.args.state.now stride.stride-left.new.1.0 stride2.stride-right.new.1.0 start.args.row
+    choose_none start.args.rows.now start.args.state.now stride.stride-left.new.state stride2.stride-right.new.state start.args.row
     start.args.env.now start.args.depth operand.operand-a.result operand2.operand-b.result stride.stride-left.result
     stride2.stride-right.result operand.operand-a.ensures operand2.operand-b.ensures stride.stride-left.ensures stride2.stride-right.ensures
     start.requires.1.2 value.value-first.result value2.value-second.result value.value-first.ensures value2.value-second.ensures start.requires.1.1

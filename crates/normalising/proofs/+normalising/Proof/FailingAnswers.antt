@@ -42,7 +42,7 @@ failing_returns t c =
     let handed_on = if1.before in
     let start = handed_on.before in
     failing_hands start.args.rows.now start.args.state.now start.args.row (handed_on.handed_on-part.ensures.on if1.if-part-ne0.true)
-    operand.operand.ensures start.args.env.now enclose.enclose-under.new.1.1.1.0 start.args.depth enclose.enclose-under.result
+    operand.operand.ensures start.args.env.now enclose.enclose-under.new.env start.args.depth enclose.enclose-under.result
     enclose.enclose-under.ensures c.failing.result c.failing.ensures
 
 pub failing_get_requires : (t : ℕ) → failing-lts.Need-get-kind-requires (failing_calls t) (failing_at t) failing.Post

@@ -1,4 +1,5 @@
 -- What the walk of `normalise`, `settle` and `tried` leaves to prove, an arm by the law of its form. Rests on Cycle.
+use Rattle.std.proofs.lemmas.Bool.{not_from_false, not_from_true}
 use native.Mathlib.Omega.{arith}
 use borrow.Author.Rules.{rules}
 use Rattle.normalising.specs.Trying.{max_strides}
@@ -35,9 +36,9 @@ normalise_returns t c =
     let test = stride.before.before in
     let loop = test.before in
     let start = loop.before in
-    mid_stop start.args.rows.now start.args.state.now loop.loop-strides.state stride.stride-moved.new.1.0 start.args.row
+    mid_stop start.args.rows.now start.args.state.now loop.loop-strides.state stride.stride-moved.new.state start.args.row
     start.args.env.now start.args.depth loop.loop-strides.strides stride.stride-moved.result loop.loop-strides.invariant.1 stride.stride-moved.ensures
-    test.loop-strides-test.true start.requires.1 (not_t _ c.if-not-moved.true)
+    test.loop-strides-test.true start.requires.1 (not_t _ (not_from_false _ c.if-not-moved.true))
 
 pub normalise_loop_less : (t : ℕ) → normalise-lts.Need-loop-strides-smaller (normalise_calls t) (normalise_at t) normalise.Post normalise_Inv_loop normalise_μ_loop
 normalise_loop_less t c = let l = c.before.before.before.loop-strides-test.true in omega arith
@@ -48,7 +49,7 @@ normalise_loop_again t c =
     let test = stride.before.before in
     let loop = test.before in
     let start = loop.before in
-    (let l = test.loop-strides-test.true in omega arith, mid_more start.args.rows.now start.args.state.now loop.loop-strides.state stride.stride-moved.new.1.0 start.args.row start.args.env.now start.args.depth loop.loop-strides.strides stride.stride-moved.result loop.loop-strides.invariant.1 stride.stride-moved.ensures test.loop-strides-test.true (not_f _ c.if-not-moved.false))
+    (let l = test.loop-strides-test.true in omega arith, mid_more start.args.rows.now start.args.state.now loop.loop-strides.state stride.stride-moved.new.state start.args.row start.args.env.now start.args.depth loop.loop-strides.strides stride.stride-moved.result loop.loop-strides.invariant.1 stride.stride-moved.ensures test.loop-strides-test.true (not_f _ (not_from_true _ c.if-not-moved.false)))
 
 pub normalise_returns_2 : (t : ℕ) → normalise-lts.Need-returns (normalise_calls t) (normalise_at t) normalise.Post normalise_Inv_loop normalise_μ_loop
 normalise_returns_2 t c =
@@ -64,7 +65,7 @@ pub settle_returns : (t : ℕ) → settle-lts.Need-returns-then-evaluate (settle
 settle_returns t c =
     let evaluate = c.before in
     let start = evaluate.before.before in
-    settle_over start.args.rows.now start.args.state.now evaluate.evaluate.new.1.0 start.args.row start.args.env.now
+    settle_over start.args.rows.now start.args.state.now evaluate.evaluate.new.state start.args.row start.args.env.now
     start.args.depth evaluate.evaluate.result evaluate.evaluate.ensures c.if-evaluate.true
 
 pub settle_normalise_requires : (t : ℕ) → settle-lts.Need-normalise-strides-requires (settle_calls t) (settle_at t) settle.Post
@@ -76,7 +77,7 @@ settle_returns_2 t c =
     let if1 = normalise.before.before in
     let evaluate = if1.before in
     let start = evaluate.before.before in
-    settle_moved start.args.rows.now start.args.state.now evaluate.evaluate.new.1.0 normalise.normalise-strides.new.1.0
+    settle_moved start.args.rows.now start.args.state.now evaluate.evaluate.new.state normalise.normalise-strides.new.state
     start.args.row start.args.env.now start.args.depth normalise.normalise-strides.result evaluate.evaluate.result
     evaluate.evaluate.ensures normalise.normalise-strides.ensures if1.if-evaluate.false c.if-strides-gt1.true
 
@@ -91,7 +92,7 @@ settle_returns_3 t c =
     let if1 = normalise.before.before in
     let evaluate = if1.before in
     let start = evaluate.before.before in
-    settle_asked start.args.rows.now start.args.state.now evaluate.evaluate.new.1.0 normalise.normalise-strides.new.1.0
+    settle_asked start.args.rows.now start.args.state.now evaluate.evaluate.new.state normalise.normalise-strides.new.state
     start.args.row start.args.env.now start.args.depth normalise.normalise-strides.result evaluate.evaluate.result
     evaluate.evaluate.ensures normalise.normalise-strides.ensures if1.if-evaluate.false c.failing.result c.failing.ensures
 
@@ -99,4 +100,4 @@ pub tried_settle_requires : (t : ℕ) → tried-lts.Need-settle-requires (tried_
 tried_settle_requires t c κs = let s = c.before.before in call_same s.args.rows.now s.args.row s.args.depth t 5 s.requires 4 (omega arith)
 
 pub tried_returns : (t : ℕ) → tried-lts.Need-returns (tried_calls t) (tried_at t) tried.Post
-tried_returns t c = let s = c.before.before.before in tried_is s.args.rows.now s.args.state.now c.settle.new.1.0 s.args.row s.args.env.now s.args.depth c.settle.result c.settle.ensures
+tried_returns t c = let s = c.before.before.before in tried_is s.args.rows.now s.args.state.now c.settle.new.state s.args.row s.args.env.now s.args.depth c.settle.result c.settle.ensures

@@ -1,4 +1,5 @@
 -- What the walk of `stride` leaves to prove, an arm by the law of its form. Rests on Cycle.
+use Rattle.std.proofs.lemmas.Bool.{not_from_false, not_from_true}
 use mathlib.Core.Path.{sym, ◌∙◌}
 use native.Mathlib.Omega.{arith}
 use Rattle.running.proofs.Handing.{stride_hands}
@@ -41,8 +42,8 @@ stride_returns t c =
     let handed_on = if1.before in
     let start = handed_on.before.before in
     stride_hands start.args.rows.now start.args.state.now start.args.row (handed_on.handed_on-part.ensures.on if1.if-part-ne0.true)
-    operand.operand.ensures start.args.env.now enclose.enclose-under.new.1.1.1.0 start.args.depth enclose.enclose-under.result
-    enclose.enclose-under.ensures c.stride.new.1.0 c.stride.result c.stride.ensures
+    operand.operand.ensures start.args.env.now enclose.enclose-under.new.env start.args.depth enclose.enclose-under.result
+    enclose.enclose-under.ensures c.stride.new.state c.stride.result c.stride.ensures
 
 pub stride_get_requires : (t : ℕ) → stride-lts.Need-get-kind-requires (stride_calls t) (stride_at t) stride.Post
 stride_get_requires t c κs = let s = c.before.before.before in (s.requires.1.low, omega arith)
@@ -80,10 +81,10 @@ stride_returns_2 t c =
     let if1 = get.before in
     let handed_on = if1.before in
     let start = handed_on.before.before in
-    step_waits start.args.rows.now start.args.state.now stride2.stride-moved.new.1.0 start.args.row start.args.env.now
+    step_waits start.args.rows.now start.args.state.now stride2.stride-moved.new.state start.args.row start.args.env.now
     start.args.depth (handed_on.handed_on-part.ensures.none if1.if-part-ne0.false) operand2.operand-a.result stride2.stride-moved.result
     operand2.operand-a.ensures stride2.stride-moved.ensures value.value-found.result value.value-found.ensures
-    (sym get.get-kind.ensures ∙ match_at.in_default.keys1) (not_t _ c.if-not-found.true)
+    (sym get.get-kind.ensures ∙ match_at.in_default.keys1) (not_t _ (not_from_false _ c.if-not-found.true))
 
 pub stride_attempt_requires : (t : ℕ) → stride-lts.Need-attempt-requires (stride_calls t) (stride_at t) stride.Post
 stride_attempt_requires t c κs =
@@ -154,11 +155,11 @@ stride_returns_3 t c =
     let if1 = get.before in
     let handed_on = if1.before in
     let start = handed_on.before.before in
-    step_tries start.args.rows.now start.args.state.now stride2.stride-moved.new.1.0 start.args.row start.args.env.now
+    step_tries start.args.rows.now start.args.state.now stride2.stride-moved.new.state start.args.row start.args.env.now
     start.args.depth (handed_on.handed_on-part.ensures.none if1.if-part-ne0.false) operand2.operand-a.result stride2.stride-moved.result
-    operand2.operand-a.ensures stride2.stride-moved.ensures value.value-found.result value.value-found.ensures attempt.attempt.new.1.0
+    operand2.operand-a.ensures stride2.stride-moved.ensures value.value-found.result value.value-found.ensures attempt.attempt.new.state
     attempt.attempt.result attempt.attempt.result (hands_or_left _ c.if-attempt.true) (sym get.get-kind.ensures ∙ match_at.in_default.keys1)
-    (not_f _ if2.if-not-found.false) attempt.attempt.ensures
+    (not_f _ (not_from_true _ if2.if-not-found.false)) attempt.attempt.ensures
 
 pub stride_returns_4 : (t : ℕ) → stride-lts.Need-returns-else-attempt (stride_calls t) (stride_at t) stride.Post
 stride_returns_4 t c =
@@ -172,11 +173,11 @@ stride_returns_4 t c =
     let if1 = get.before in
     let handed_on = if1.before in
     let start = handed_on.before.before in
-    step_tries start.args.rows.now start.args.state.now stride2.stride-moved.new.1.0 start.args.row start.args.env.now
+    step_tries start.args.rows.now start.args.state.now stride2.stride-moved.new.state start.args.row start.args.env.now
     start.args.depth (handed_on.handed_on-part.ensures.none if1.if-part-ne0.false) operand2.operand-a.result stride2.stride-moved.result
-    operand2.operand-a.ensures stride2.stride-moved.ensures value.value-found.result value.value-found.ensures attempt.attempt.new.1.0
+    operand2.operand-a.ensures stride2.stride-moved.ensures value.value-found.result value.value-found.ensures attempt.attempt.new.state
     attempt.attempt.result stride2.stride-moved.result (hands_or_right c.if-attempt.false) (sym get.get-kind.ensures ∙ match_at.in_default.keys1)
-    (not_f _ if2.if-not-found.false) attempt.attempt.ensures
+    (not_f _ (not_from_true _ if2.if-not-found.false)) attempt.attempt.ensures
 
 pub stride_returns_5 : (t : ℕ) → stride-lts.Need-returns-in-44 (stride_calls t) (stride_at t) stride.Post
 stride_returns_5 t c =
@@ -186,7 +187,7 @@ stride_returns_5 t c =
     let if1 = get.before in
     let handed_on = if1.before in
     let start = handed_on.before.before in
-    stride_next start.args.rows.now start.args.state.now c.stride-in-44.new.1.0 start.args.row start.args.env.now
+    stride_next start.args.rows.now start.args.state.now c.stride-in-44.new.state start.args.row start.args.env.now
     start.args.depth (handed_on.handed_on-part.ensures.none if1.if-part-ne0.false) operand3.operand-in-44.result c.stride-in-44.result
     operand3.operand-in-44.ensures c.stride-in-44.ensures (sym get.get-kind.ensures ∙ match_at.in_default.keys2)
 
@@ -199,7 +200,7 @@ stride_returns_6 t c =
     let match_at = operand4.before.before in
     let get = match_at.before in
     let start = get.before.before.before.before in
-    stride_both start.args.rows.now start.args.state.now stride4.stride-left.new.1.0 stride5.stride-right.new.1.0 start.args.row
+    stride_both start.args.rows.now start.args.state.now stride4.stride-left.new.state stride5.stride-right.new.state start.args.row
     start.args.env.now start.args.depth operand4.operand-in-46.result operand5.operand-in-46-2.result stride4.stride-left.result
     stride5.stride-right.result operand4.operand-in-46.ensures operand5.operand-in-46-2.ensures stride4.stride-left.ensures stride5.stride-right.ensures
     stride4.stride-left.result (sym get.get-kind.ensures ∙ match_at.in_default.keys3) (hands_or_left _ c.if-left.true)
@@ -213,7 +214,7 @@ stride_returns_7 t c =
     let match_at = operand4.before.before in
     let get = match_at.before in
     let start = get.before.before.before.before in
-    stride_both start.args.rows.now start.args.state.now stride4.stride-left.new.1.0 stride5.stride-right.new.1.0 start.args.row
+    stride_both start.args.rows.now start.args.state.now stride4.stride-left.new.state stride5.stride-right.new.state start.args.row
     start.args.env.now start.args.depth operand4.operand-in-46.result operand5.operand-in-46-2.result stride4.stride-left.result
     stride5.stride-right.result operand4.operand-in-46.ensures operand5.operand-in-46-2.ensures stride4.stride-left.ensures stride5.stride-right.ensures
     stride5.stride-right.result (sym get.get-kind.ensures ∙ match_at.in_default.keys3) (hands_or_right c.if-left.false)

@@ -15,8 +15,8 @@ returns c =
     let strides = fails.before.before.before.before in
     let answer = strides.before.before.before.before in
     let start = answer.before.before.before in
-    head_written start.args.s-1.now answer.write.new.0 strides.write-2.new.0 fails.write-3.new.0 valued.write-4.new.0
-    leaves.write_numbers.new.0 entries.write-5.new.0 write_end.write_end.new.0 start.args.h leaves.write_numbers.ensures.1
+    head_written start.args.s.now answer.write.new.s strides.write-2.new.s fails.write-3.new.s valued.write-4.new.s
+    leaves.write_numbers.new.s entries.write-5.new.s write_end.write_end.new.s start.args.h leaves.write_numbers.ensures.1
     answer.write.ensures.1 strides.write-2.ensures.1 fails.write-3.ensures.1 valued.write-4.ensures.1
     leaves.write_numbers.ensures.0 entries.write-5.ensures.1 write_end.write_end.ensures
 

@@ -23,7 +23,7 @@ begin_spec = tie.close (tie.spec
     let a = start.args in
     let l = load_counted.load_counted-ground in
     begin_refused a.n a.text.now a.rows-1.now a.state-1.now a.out.now l.result l.new.1.1.0 l.ensures.0 l.ensures.1
-    if1.if-ground-ne0.true c.refuse.result c.refuse.new.1.0 c.refuse.ensures)
+    if1.if-ground-ne0.true c.refuse.result c.refuse.new.out c.refuse.ensures)
     (λ c κs. search rules)
     (λ c κs.
     let start = c.before.before.before.before in
@@ -45,7 +45,7 @@ begin_spec = tie.close (tie.spec
     let l = load_counted.load_counted-ground in
     let q = start.start-a in
     begin_unstarted a.n a.text.now a.rows-1.now a.state-1.now a.out.now l.result l.new.1.1.0 l.ensures.0 l.ensures.1
-    if1.if-ground-ne0.false q.result q.new.1.0 q.ensures.0 if2.if-a-ne0.true c.refuse-then-a-ne0.result c.refuse-then-a-ne0.new.1.0
+    if1.if-ground-ne0.false q.result q.new.1.0 q.ensures.0 if2.if-a-ne0.true c.refuse-then-a-ne0.result c.refuse-then-a-ne0.new.out
     c.refuse-then-a-ne0.ensures)
     (λ c κs.
     let a = c.before.before.before.before.before.before.before.before.before.before.before.before.before.before.args in let l = c.before.before.before.before.before.before.before.before.before.before.before.load_counted-ground in let q = c.before.before.before.before.before.before.start-a in
@@ -63,4 +63,4 @@ begin_spec = tie.close (tie.spec
     let l = load_counted.load_counted-ground in
     let q = start.start-a in
     begin_started a.n a.text.now a.rows-1.now a.state-1.now a.out.now l.result l.new.1.1.0 l.ensures.0 l.ensures.1
-    if1.if-ground-ne0.false q.result q.new.1.0 q.ensures.0 if2.if-a-ne0.false c.show-bytes.result c.show-bytes.new.1.1.1.1.1.0 c.show-bytes.ensures))
+    if1.if-ground-ne0.false q.result q.new.1.0 q.ensures.0 if2.if-a-ne0.false c.show-bytes.result c.show-bytes.new.out c.show-bytes.ensures))

@@ -10,4 +10,4 @@ refuse_spec = tie.close (tie.spec
     (λ c κs. search rules)
     (λ c.
     let a = c.before.before.args in
-    (refl, drawn_refused a.number a.out.now c.write.new.0 c.before.before.requires (search rules) c.write.auto.0 c.write.ensures)))
+    (refl, drawn_refused a.number a.out.now c.write.new.s c.before.before.requires (search rules) c.write.auto.s c.write.ensures)))

@@ -40,4 +40,4 @@ show_spec = tie.close (tie.spec
     let q = fill.fill-seen in
     drawn a.rows.now a.state.now a.role a.answer a.strides a.out-1.now start.requires.0 q.result q.new.1.1.1.0 q.new.1.1.1.1.0
     q.auto.1.1.1.1.0 q.ensures start.requires.1 start.requires.2 q.auto.1.1.1.0 copy_in.copy_in.ensures.1
-    copy_in.copy_in.new.1.0 write.write.new.0 copy_in.copy_in.ensures.0 write.write.auto.0 write.write.ensures))
+    copy_in.copy_in.new.own write.write.new.s copy_in.copy_in.ensures.0 write.write.auto.s write.write.ensures))

@@ -25,5 +25,5 @@ touch_spec = tie.close (tie.spec
     let e = q.ensures.0 in
     let g = role.role_of-role in (
       touch_state a.rows.now a.state-1.now a.event.now a.out.now q.result q.new.1.0 e,
-      touch_drawn a.rows.now a.state-1.now a.event.now a.out.now q.result q.new.1.0 e g.result g.ensures c.show.result c.show.new.1.1.1.1.1.0 c.show.ensures,
+      touch_drawn a.rows.now a.state-1.now a.event.now a.out.now q.result q.new.1.0 e g.result g.ensures c.show.result c.show.new.out c.show.ensures,
     )))

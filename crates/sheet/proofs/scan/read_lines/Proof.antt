@@ -1,5 +1,6 @@
 -- `read_lines` meets its contract: the first i lines can be read, and their rows are kept; so are the first k words of the next.
 -- Assumes nothing.
+use Rattle.std.proofs.lemmas.Bool.{not_from_false, not_from_true}
 use mathlib.Core.Path.{◌≡◌, refl}
 use mathlib.Core.Bool.{true}
 use Prim.Native.Nat.{◌-◌, ◌≤◌}
@@ -32,7 +33,7 @@ loop_holds c =
     let start_at = is_line.before.before in
     let lines = start_at in
     let start = lines.before.before in
-    (search rules, lines.lines.invariant.1, kept_none start.args.sheet.now lines.lines.i lines.lines.own is_line.is_line.result is_line.is_line.ensures c.if-not-is_line.false)
+    (search rules, lines.lines.invariant.1, kept_none start.args.sheet.now lines.lines.i lines.lines.own is_line.is_line.result is_line.is_line.ensures (not_from_true _ c.if-not-is_line.false))
 
 loop_again : tie.Need-loop-k-preserved invariant-loop decreases-loop invariant-lines decreases-lines
 loop_again c =
@@ -42,7 +43,7 @@ loop_again c =
     let lines = loop.before.before.before.before in
     let start = lines.before.before in
     let few = rows_room start.args.sheet.now lines.lines.i (omega arith) lines.lines.invariant.2 in
-    (omega arith, loop.loop-k.invariant.1, kept_more start.args.sheet.now lines.lines.i lines.lines.own test.loop-k-test.true few loop.loop-k.invariant.2 read.read_word-word.result read.read_word-word.ensures (not-false _ c.if-not-word.false))
+    (omega arith, loop.loop-k.invariant.1, kept_more start.args.sheet.now lines.lines.i lines.lines.own test.loop-k-test.true few loop.loop-k.invariant.2 read.read_word-word.result read.read_word-word.ensures (not-false _ (not_from_true _ c.if-not-word.false)))
 
 lines_again : tie.Need-lines-preserved invariant-loop decreases-loop invariant-lines decreases-lines
 lines_again c =
@@ -66,7 +67,7 @@ returns_2 c =
     let lines = start_at in
     let start = lines.before.before in
     rows_stop start.args.sheet.now lines.lines.own lines.lines.i start.args.n test.lines-test.true
-    (line_none start.args.sheet.now lines.lines.i is_line.is_line.result is_line.is_line.ensures c.if-not-is_line.true)
+    (line_none start.args.sheet.now lines.lines.i is_line.is_line.result is_line.is_line.ensures (not_from_false _ c.if-not-is_line.true))
 
 returns_3 : tie.Need-returns-then-not-word invariant-loop decreases-loop invariant-lines decreases-lines
 returns_3 c =
@@ -78,7 +79,7 @@ returns_3 c =
     let start = lines.before.before in
     let few = rows_room start.args.sheet.now lines.lines.i (omega arith) lines.lines.invariant.2 in
     rows_stop start.args.sheet.now loop.loop-k.own lines.lines.i start.args.n line.lines-test.true
-    (line_stops start.args.sheet.now lines.lines.i lines.lines.own test.loop-k-test.true few loop.loop-k.invariant.2 read.read_word-word.result read.read_word-word.ensures (not-true _ c.if-not-word.true))
+    (line_stops start.args.sheet.now lines.lines.i lines.lines.own test.loop-k-test.true few loop.loop-k.invariant.2 read.read_word-word.result read.read_word-word.ensures (not-true _ (not_from_false _ c.if-not-word.true)))
 
 pub read_lines_spec : {M : Type 1} → statement M
 read_lines_spec = tie.close (tie.spec invariant-loop decreases-loop invariant-lines decreases-lines
