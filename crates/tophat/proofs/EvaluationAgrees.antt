@@ -12,10 +12,10 @@ use lib.ListN.{get_or, set}
 use Rattle.word.specs.Word.{IsWord, is_word}
 use Rattle.word.proofs.Results.{word_test, test_word}
 use Rattle.tophat.specs.Syntax.{Ty, truth, number, pair, Op}
-use Rattle.tophat.specs.Syntax.{Exp, eif, efst, esnd, Val, vunit, vtruth, vnumber, Env, Store}
+use Rattle.tophat.specs.Syntax.{Exp, eif, efst, esnd, Val, vunit, vtruth, vnumber, vpair, Env, Store}
 use Rattle.tophat.specs.Typing.{At, here, there, OpType, o_sum, o_difference, o_product, o_less, o_less_equal, o_equal, o_and, o_or}
 use Rattle.tophat.specs.Typing.{HasType, t_unit, t_truth, t_number, t_var, t_op, t_if, t_pair, t_fst, t_snd, t_deref, t_assign, t_let}
-use Rattle.tophat.specs.Typing.{ValueType, v_unit, v_truth, v_number, v_pair, ValueTypes, v_cons}
+use Rattle.tophat.specs.Typing.{ValueType, v_unit, v_truth, v_number, v_pair, ValueTypes, v_nil, v_cons}
 use Rattle.tophat.specs.Evaluation.{Reckons, sums, differs, multiplies, Applies, a_reckon, a_less, a_less_equal, a_equal, a_and, a_or, Exceeds, x_reckon}
 use Rattle.tophat.specs.Evaluation.{Evaluates, e_unit, e_truth, e_number, e_var, e_op, e_if_true, e_if_false, e_pair, e_fst, e_snd, e_deref, e_assign, e_let}
 use Rattle.tophat.specs.Evaluation.{Overflows, o_op, o_op_left, o_op_right, o_if, o_if_true, o_if_false, o_pair_left, o_pair_right, o_fst, o_snd, o_assign, o_let, o_let_body}
@@ -24,11 +24,13 @@ use Rattle.tophat.proofs.ComputeEvaluation.{leaf, is_true, kept, exact, apply, e
 
 -- what is looked up stands there, and is of its type
 pub look_up : {vs : List Val} {τs : List Ty} {n : ℕ} {τ : Ty} → ValueTypes vs τs → At τs n τ → At vs n (get_or vs n vunit) × ValueType (get_or vs n vunit) τ
+look_up v_nil d = elim d [ ]
 look_up (v_cons h hs) here = (here, h)
 look_up (v_cons h hs) (there d) = let r = look_up hs d in (there r.0, r.1)
 
 -- a cell that gets a value of its type
 pub put : {vs : List Val} {τs : List Ty} {n : ℕ} {τ : Ty} {v : Val} → ValueTypes vs τs → At τs n τ → ValueType v τ → ValueTypes (set vs n v) τs
+put v_nil d k = elim d [ ]
 put (v_cons h hs) here k = v_cons k hs
 put (v_cons h hs) (there d) k = v_cons h (put hs d k)
 
@@ -133,6 +135,9 @@ module _ {Σ : List Ty} {ρ : Env} {s : Store} where
     typed = g.typed;
     kept = g.kept;
   }
+  if_good {r = (vunit, s₁)} x c d g h = elim d [ ]
+  if_good {r = (vnumber _, s₁)} x c d g h = elim d [ ]
+  if_good {r = (vpair _ _, s₁)} x c d g h = elim d [ ]
   if_good {b = b} {r = (vtruth false, s₁)} x c (v_truth {b = false}) g h = record {
     derived = λ z. let (p, q) = or_false x (overflows b ρ s₁) z in e_if_false (c.derived p) (h.derived q);
     over = λ z. or_true x (overflows b ρ s₁) z (λ p. o_if (c.over p)) (λ p q. o_if_false (c.derived p) (h.over q));

@@ -122,9 +122,9 @@ started_failed d l s h o = ((evaluate_good d [] s v_nil h).over o, record { task
 -- from a rest every list of calls runs, and what it leaves stands
 pub every_run : {Σ : List Ty} {c : Code} {τ : Ty} {t : TaskOf c} {s : Store} → Rest Σ c τ t s → (ks : List Call) → (t₁ : TaskOf c) × (s₁ : Store) × Runs c t s ks t₁ s₁ × Stands Σ c τ t₁ s₁
 every_run {t = t} {s = s} r [] = (t, s, r_end, rest_stands r)
-every_run r (k ∷ ks) =
+every_run {t = t} {s = s} r (k ∷ ks) =
     let (t₁, s₁, l, q) = call_rest r k in
-    let (t₂, s₂, d, z) = every_run q ks in
+    let (t₂, s₂, d, z) = every_run {t = t₁} {s = s₁} q ks in
     (t₂, s₂, r_call l d, z)
 
 -- a call leaves one state

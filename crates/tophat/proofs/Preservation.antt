@@ -19,7 +19,7 @@ use Rattle.tophat.proofs.EvaluationAgrees.{look_up, eval_good, eval_is}
 use Rattle.tophat.proofs.TaskEvaluationAgrees.{evaluate_good, evaluate_is}
 use Rattle.tophat.proofs.NormalisingComplete.{strides_as}
 
-code_typed : {Σ Γ : List Ty} {c : Code} {ρ : Env} {t : TaskOf c} {τ : Ty} → Formed c ρ t → TaskType Σ Γ c t τ → CodeType Σ Γ c τ
+code_typed : {Σ : List Ty} {c : Code} {ρ : Env} {t : TaskOf c} {Γ : List Ty} {τ : Ty} → Formed c ρ t → TaskType Σ Γ c t τ → CodeType Σ Γ c τ
 code_typed (of_wraps {u = u} b d) k = let i = inner b u k in i.code (code_typed d i.task)
 code_typed of_edit (k_filled e v) = t_edit e
 code_typed of_enter (k_blank l) = t_enter l
@@ -57,7 +57,7 @@ unfolding first_of
 first_type o_none h = h
 first_type (o_some g) h = o_some g
 
-value_typed : {Σ Γ : List Ty} {c : Code} {ρ : Env} {t : TaskOf c} {τ : Ty} {s : Store} → Formed c ρ t → TaskType Σ Γ c t τ → ValueTypes s Σ → OptionType (value c t s) τ
+value_typed : {Σ : List Ty} {c : Code} {ρ : Env} {t : TaskOf c} {Γ : List Ty} {τ : Ty} {s : Store} → Formed c ρ t → TaskType Σ Γ c t τ → ValueTypes s Σ → OptionType (value c t s) τ
 unfolding value
 value_typed {s = s} (of_wraps {u = u} b d) k h = rw ((alike b).values s u) (value_typed d (inner b u k).task h)
 value_typed of_edit (k_filled e v) h = o_some v
@@ -112,7 +112,7 @@ module _ {Σ Γ : List Ty} {a b : Code} where
   left_kept m none G W d e h q = right_kept _ _ d q.task q.store
   left_kept m (some v) G W d e h q = record { task = k_or_left d (task_code e); store = h }
 
-kept : {Σ Γ : List Ty} {c : Code} {ρ : Env} {t : TaskOf c} {τ : Ty} → Formed c ρ t → TaskType Σ Γ c t τ → (s : Store) → ValueTypes ρ Γ → ValueTypes s Σ → KeptBy Σ Γ c τ (stride c ρ s t)
+kept : {Σ : List Ty} {c : Code} {ρ : Env} {t : TaskOf c} {Γ : List Ty} {τ : Ty} → Formed c ρ t → TaskType Σ Γ c t τ → (s : Store) → ValueTypes ρ Γ → ValueTypes s Σ → KeptBy Σ Γ c τ (stride c ρ s t)
 unfolding stride
 kept (of_wraps {u = u} b d) k s g h =
     let i = inner b u k in

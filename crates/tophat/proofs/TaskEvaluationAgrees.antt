@@ -6,7 +6,7 @@ use mathlib.Core.Bool.{Bool, true, false, ◌||◌}
 use mathlib.Core.Logic.{◌⊎◌, inl, inr}
 use mathlib.Core.List.{List}
 use native.Mathlib.Omega.{arith}
-use Rattle.tophat.specs.Syntax.{Ty, truth, Exp, Code, if, Val, vtruth, Env, Store, TaskOf, if_true, if_false}
+use Rattle.tophat.specs.Syntax.{Ty, truth, Exp, Code, if, Val, vunit, vtruth, vnumber, vpair, Env, Store, TaskOf, if_true, if_false}
 use Rattle.tophat.specs.Typing.{HasType, CodeType, t_edit, t_enter, t_update, t_then, t_next, t_fail, t_and, t_or, t_xor, t_view, t_gate, t_if_task, t_let_task}
 use Rattle.tophat.specs.Typing.{ValueType, v_truth, ValueTypes, v_cons}
 use Rattle.tophat.specs.Typing.{TaskType, k_filled, k_blank, k_shared, k_then_before, k_next_before, k_failed, k_both, k_either, k_unpicked, k_viewed, k_gated, k_if_true, k_if_false, k_bound}
@@ -39,6 +39,9 @@ if_good {ρ = ρ} {a = a} {r = (vtruth true, s₁)} x h k l c (v_truth {b = true
   task = k_if_true h p.task l;
   store = p.store;
 }
+if_good {r = (vunit, s₁)} x h k l c d p q = elim d [ ]
+if_good {r = (vnumber _, s₁)} x h k l c d p q = elim d [ ]
+if_good {r = (vpair _ _, s₁)} x h k l c d p q = elim d [ ]
 if_good {ρ = ρ} {b = b} {r = (vtruth false, s₁)} x h k l c (v_truth {b = false}) p q = record {
   derived = λ z. let (i, j) = or_false x (overflows_task b ρ s₁) z in e_if_false_task (c.derived i) (q.derived j);
   over = λ z. or_true x (overflows_task b ρ s₁) z (λ i. o_if_task (c.over i)) (λ i j. o_if_false_task (c.derived i) (q.over j));
