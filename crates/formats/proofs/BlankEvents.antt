@@ -76,6 +76,8 @@ said_blanked (one_more {fs = fs} {gs = gs} (same {f}) d) = by f (each leaf_said 
   where
     one : (l : Given) (x y : Option (List Given)) → BlankedSaid x y → BlankedSaid (bind x λ ls. some (l ∷ ls)) (bind y λ ms. some (l ∷ ms))
     one l none none not_said = not_said
+    one l none (some ms) b = elim b [ ]
+    one l (some ls) none b = elim b [ ]
     one l (some ls) (some ms) (both_said b) = both_said (kept l b)
 
     by : (f : Field) (x y : Option (List Given)) → BlankedSaid x y → BlankedSaid (bind (leaf_said f) λ l. bind x λ ls. some (l ∷ ls)) (bind (leaf_said f) λ l. bind y λ ms. some (l ∷ ms))
@@ -86,6 +88,8 @@ said_blanked (one_more {fs = fs} {gs = gs} zero_blank d) = by (each leaf_said fs
   where
     by : (x y : Option (List Given)) → BlankedSaid x y → BlankedSaid (bind x λ ls. some (some (pos 0) ∷ ls)) (bind y λ ms. some (none ∷ ms))
     by none none not_said = not_said
+    by none (some ms) b = elim b [ ]
+    by (some ls) none b = elim b [ ]
     by (some ls) (some ms) (both_said b) = both_said (left_blank b)
 
 -- a field that both texts have, or neither

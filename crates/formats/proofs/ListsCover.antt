@@ -15,7 +15,7 @@ use Rattle.tophat.specs.Showing.{Entry, Covers}
 use Rattle.tophat.proofs.Basics.{some_is}
 use Rattle.tophat.specs.Roles.{IsRole}
 use Rattle.formats.specs.Touches.{event_says, entry_says, event_of, CoversBytes}
-use Rattle.formats.specs.Lists.{offer_act, offer_kinds, list_text, entry_at, Entries, CoversAt, Fits, fit_more}
+use Rattle.formats.specs.Lists.{offer_act, offer_kinds, list_text, entry_at, Entries, CoversAt, Fits, fit_none, fit_more}
 use Rattle.formats.proofs.ListsRead.{entry_said, list_length, list_at, place_at, at_place}
 use Rattle.formats.proofs.CoversRead.{covers_bytes, bytes_cover, met_said, covers_some}
 
@@ -25,6 +25,7 @@ record Fit (e : Entry) : Type 0 where
   all : length (offer_kinds e.1) ≡ max_leaves
 
 fit_at : {m : ℕ} {es : List Entry} {i : ℕ} {e : Entry} → Fits m es → At es i e → Fit e
+fit_at fit_none d = elim d [ ]
 fit_at (fit_more l k h) here = record { few = omega arith; all = k }
 fit_at (fit_more l k h) (there d) = fit_at h d
 

@@ -102,6 +102,7 @@ later_at e s i h =
 -- entry i is the text of entry i
 pub list_at : {m : ℕ} {es : List Entry} {i : ℕ} {e : Entry} → Fits m es → At es i e → entry_at (list_text es) i ≡ entry_text e
 unfolding list_text
+list_at fit_none d = elim d [ ]
 list_at (fit_more {e} {es} l k h) here = first_at (entry_text e) (list_text es) (entry_length e (omega arith) k)
 list_at (fit_more {e} {es} l k h) (there {n = i} d) = later_at (entry_text e) (list_text es) i (entry_length e (omega arith) k) ∙ list_at h d
 

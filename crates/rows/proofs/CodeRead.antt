@@ -8,7 +8,8 @@ use Rattle.tophat.specs.Syntax.{Ty, Exp, Code}
 use Rattle.tophat.proofs.Basics.{no_some, some_is}
 use Rattle.rows.specs.Kinds.{EitherKind, if_k, let_k, type_k, cell_k, plain_k, either_k, Sort}
 use Rattle.rows.specs.Trees.{ReadsType, ReadsCell, r_cell, ReadsExp, ReadsCode}
-use Rattle.rows.specs.ComputeTrees.{code_by, code_at}
+use Rattle.rows.specs.Rows.{op_a, op_b, op_c}
+use Rattle.rows.specs.ComputeTrees.{type_at, exp_at, code_by, code_at}
 use Rattle.rows.proofs.KindNumbers.{kind_at_lem}
 use Rattle.rows.proofs.TreesAgree.{code_is}
 use Rattle.rows.proofs.Groups.{TypeRow, type_row, ExpRow, plain_row, plain_by, type_group, exp_group}
@@ -46,7 +47,7 @@ module _ {rs : List ℕ} where
     where
       by : ((j : ℕ) (b : Exp) → ReadsExp rs j b → code_at rs n j ≡ none) → ExpRow rs i → code_at rs (suc n) i ≡ none
       by f (plain_row k e) = rw (kind_at_lem rs i (plain_k k) e)
-      by f (plain_by k e d) = rw (kind_at_lem rs i (either_k k) e) (no_task _ _ _ _ _ _ k (f _ _ d))
+      by f (plain_by k e d) = rw (kind_at_lem rs i (either_k k) e) (no_task (λ j. type_at rs n j) (λ j. exp_at rs n j) (λ j. code_at rs n j) (op_a rs i) (op_b rs i) (op_c rs i) k (f _ _ d))
 
 pub none_some : {P X : Type 0} {x : X} {o : Option X} → o ≡ none → o ≡ some x → P
 none_some e h = no_some (sym e ∙ h)

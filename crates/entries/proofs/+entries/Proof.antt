@@ -114,7 +114,7 @@ entries_entries_requires_2 t c κs =
     let get = operand2.before in
     let start = get.before.before.before.before in
     call_at start.requires operand2.operand-a-2.result _ _ _
-    (low_a start.requires.1.0 get.get-kind.result operand2.operand-a-2.result get.get-kind.ensures operand2.operand-a-2.ensures (omega (arith, match_at.in_default-1.keys1)) (omega (arith, match_at.in_default-1.keys1)))
+    (low_a start.requires.1.0 get.get-kind.result operand2.operand-a-2.result get.get-kind.ensures operand2.operand-a-2.ensures (omega (arith, match_at.in-43.is)) (omega (arith, match_at.in-43.is)))
     start.requires.1.0.room start.requires.1.1
 
 entries_entries_requires_3 : (t : ℕ) → entries-lts.Need-entries-n-requires (entries_calls t) (entries_at t) entries.Post
@@ -124,7 +124,7 @@ entries_entries_requires_3 t c κs =
     let get = operand2.before in
     let start = get.before.before.before.before in
     call_at start.requires operand2.operand-a-2.result _ _ _
-    (low_a start.requires.1.0 get.get-kind.result operand2.operand-a-2.result get.get-kind.ensures operand2.operand-a-2.ensures (omega (arith, match_at.in_default-1.keys2)) (omega (arith, match_at.in_default-1.keys2)))
+    (low_a start.requires.1.0 get.get-kind.result operand2.operand-a-2.result get.get-kind.ensures operand2.operand-a-2.ensures (omega (arith, match_at.in-44.is)) (omega (arith, match_at.in-44.is)))
     start.requires.1.0.room start.requires.1.1
 
 entries_goes_on_requires : (t : ℕ) → entries-lts.Need-goes_on-enabled-requires (entries_calls t) (entries_at t) entries.Post
@@ -132,7 +132,7 @@ entries_goes_on_requires t c κs =
     let match_at = c.before.before.before.before in
     let get = match_at.before.before.before in
     let start = get.before.before.before.before in
-    (start.requires.1.0, omega (arith, get.get-kind.ensures, match_at.in_default-1.keys2), omega (arith, get.get-kind.ensures, match_at.in_default-1.keys2))
+    (start.requires.1.0, omega (arith, get.get-kind.ensures, match_at.in-44.is), omega (arith, get.get-kind.ensures, match_at.in-44.is))
 
 entries_choice_requires : (t : ℕ) → entries-lts.Need-choice-requires (entries_calls t) (entries_at t) entries.Post
 entries_choice_requires t c κs =
@@ -141,7 +141,7 @@ entries_choice_requires t c κs =
     let if1 = get.before in
     let handed_on = if1.before in
     let start = handed_on.before.before in
-    (start.requires.1.0, sym get.get-kind.ensures ∙ match_at.in_default-1.keys3, (handed_on.handed_on-part.ensures.none if1.if-part-ne0.false), start.requires.1.1.few)
+    (start.requires.1.0, sym get.get-kind.ensures ∙ match_at.in-48.is, (handed_on.handed_on-part.ensures.none if1.if-part-ne0.false), start.requires.1.1.few)
 
 entries_offer_requires : (t : ℕ) → entries-lts.Need-offer-requires (entries_calls t) (entries_at t) entries.Post
 entries_offer_requires t c κs =
@@ -161,12 +161,12 @@ entries_returns_3 t c =
     let start = handed_on.before.before in
     (omega arith, entries_full (who_of start.args.who) start.args.rows.now start.args.state.now start.args.row start.args.env.now start.args.depth (path_of start.args.marks) start.args.list.now (handed_on.handed_on-part.ensures.none if1.if-part-ne0.false) (omega (arith, get.get-kind.ensures, if5.if-kind-lt46.false)) (omega (arith, get.get-kind.ensures, if6.if-kind-lt48.true)) (path_full start.requires.1.1 c.if-unit-eq-MOST_UNIT.true))
 
-entries_mul_two : (t : ℕ) → entries-lts.Need-overflow-mul-two (entries_calls t) (entries_at t) entries.Post
+entries_mul_two : (t : ℕ) → entries-lts.Need-overflow_mul-two (entries_calls t) (entries_at t) entries.Post
 entries_mul_two t c =
     let start = c.before.before.before.before.before.before.before.before.before.before.before.before in
     omega (arith, unit_most start.requires.1.1)
 
-entries_add_entries : (t : ℕ) → entries-lts.Need-overflow-add-entries (entries_calls t) (entries_at t) entries.Post
+entries_add_entries : (t : ℕ) → entries-lts.Need-overflow_add-marks (entries_calls t) (entries_at t) entries.Post
 entries_add_entries t c =
     let start = c.before.before.before.before.before.before.before.before.before.before.before.before in
     omega (arith, unit_most start.requires.1.1, path_most start.requires.1.1)
@@ -194,7 +194,7 @@ entries_returns_4 t c =
     let if1 = get.before in
     let handed_on = if1.before in
     let start = handed_on.before.before in
-    (entries2.entries-in-43.ensures.0, entries_then (who_of start.args.who) start.args.rows.now start.args.state.now start.args.row start.args.env.now start.args.depth (path_of start.args.marks) start.args.list.now (handed_on.handed_on-part.ensures.none if1.if-part-ne0.false) entries2.entries-in-43.new.list operand2.operand-a-2.result entries2.entries-in-43.result (sym get.get-kind.ensures ∙ match_at.in_default-1.keys1) operand2.operand-a-2.ensures entries2.entries-in-43.ensures.1)
+    (entries2.entries-in-43.ensures.0, entries_then (who_of start.args.who) start.args.rows.now start.args.state.now start.args.row start.args.env.now start.args.depth (path_of start.args.marks) start.args.list.now (handed_on.handed_on-part.ensures.none if1.if-part-ne0.false) entries2.entries-in-43.new.list operand2.operand-a-2.result entries2.entries-in-43.result (sym get.get-kind.ensures ∙ match_at.in-43.is) operand2.operand-a-2.ensures entries2.entries-in-43.ensures.1)
 
 entries_same_length_4 : (t : ℕ) → entries-lts.Need-shape_of-list-in-48 (entries_calls t) (entries_at t) entries.Post
 entries_same_length_4 t c = c.before.before.choice.auto.list
@@ -257,7 +257,7 @@ entries_button_requires t c κs =
     let start = c.before.before.before.before.before.before.before.before.before.before.before.before.before.before in
     (start.requires.1.1.few, omega arith)
 
-entries_add_least : (t : ℕ) → entries-lts.Need-overflow-add-least (entries_calls t) (entries_at t) entries.Post
+entries_add_least : (t : ℕ) → entries-lts.Need-overflow_add-n (entries_calls t) (entries_at t) entries.Post
 entries_add_least t c =
     let button = c.before.before in
     let entries3 = button.before.before.before.before.before.before in
@@ -282,7 +282,7 @@ entries_returns_5 t c =
     let if1 = get.before in
     let handed_on = if1.before in
     let start = handed_on.before.before in
-    (c.least.ensures.at_most, entries_next (who_of start.args.who) start.args.rows.now start.args.state.now start.args.row start.args.env.now start.args.depth (path_of start.args.marks) start.args.list.now (handed_on.handed_on-part.ensures.none if1.if-part-ne0.false) operand2.operand-a-2.result goes_on.goes_on-enabled.result (sym get.get-kind.ensures ∙ match_at.in_default-1.keys2) operand2.operand-a-2.ensures (entries_next_after t c) entries3.entries-n.ensures.1 goes_on.goes_on-enabled.ensures button.button-m.ensures)
+    (c.least.ensures.at_most, entries_next (who_of start.args.who) start.args.rows.now start.args.state.now start.args.row start.args.env.now start.args.depth (path_of start.args.marks) start.args.list.now (handed_on.handed_on-part.ensures.none if1.if-part-ne0.false) operand2.operand-a-2.result goes_on.goes_on-enabled.result (sym get.get-kind.ensures ∙ match_at.in-44.is) operand2.operand-a-2.ensures (entries_next_after t c) entries3.entries-n.ensures.1 goes_on.goes_on-enabled.ensures button.button-m.ensures)
 
 -- ---- 46 and 47: the right part's entries, after the left part's
 
@@ -295,7 +295,7 @@ entries_both_after t c =
     let entries4 = least3.before.before.before in
     record { kept = entries4.entries-n-in-46-to-47.auto.list; place = least3.least-at-in-46-to-47.ensures; sum = c.least-in-46-to-47.ensures }
 
-entries_add_entries_2 : (t : ℕ) → entries-lts.Need-overflow-add-entries-2 (entries_calls t) (entries_at t) entries.Post
+entries_add_entries_2 : (t : ℕ) → entries-lts.Need-overflow_add-marks-in-46-to-47 (entries_calls t) (entries_at t) entries.Post
 entries_add_entries_2 t c =
     let start = c.before.before.before.before.before.before.before.before.before.before.before.before.before.before.before.before.before in
     omega (arith, unit_most start.requires.1.1, path_most start.requires.1.1)
@@ -311,7 +311,7 @@ entries_entries_requires_5 t c κs =
     (low_b start.requires.1.0 get.get-kind.result operand3.operand-b.result get.get-kind.ensures operand3.operand-b.ensures (omega (arith, if5.if-kind-lt46.false)))
     start.requires.1.0.room (at_second start.requires.1.1 if7.if-unit-eq-MOST_UNIT.false).1
 
-entries_add_least_2 : (t : ℕ) → entries-lts.Need-overflow-add-least-2 (entries_calls t) (entries_at t) entries.Post
+entries_add_least_2 : (t : ℕ) → entries-lts.Need-overflow_add-n-in-46-to-47 (entries_calls t) (entries_at t) entries.Post
 entries_add_least_2 t c =
     let entries5 = c.before.before in
     let entries4 = entries5.before.before.before.before.before in
@@ -341,6 +341,6 @@ entries_returns_8 t c =
     let start = handed_on.before.before in
     (c.least-in-46-to-47.ensures.at_most, entries_marked (who_of start.args.who) start.args.rows.now start.args.state.now start.args.row start.args.env.now start.args.depth start.args.marks start.args.unit start.args.list.now operand2.operand-a-2.result operand3.operand-b.result start.requires.1.1 if7.if-unit-eq-MOST_UNIT.false (handed_on.handed_on-part.ensures.none if1.if-part-ne0.false) (entries_both_after t c) (omega (arith, get.get-kind.ensures, if5.if-kind-lt46.false)) (omega (arith, get.get-kind.ensures, if6.if-kind-lt48.true)) operand2.operand-a-2.ensures operand3.operand-b.ensures entries4.entries-n-in-46-to-47.ensures.1 entries5.entries-m.ensures.1)
 
-pub +entries-spec : {M : Type 1} → statement M
-+entries-spec = close μ_entries λ t. entries-lts.spec (entries_calls t) (entries_at t)
+pub +entries_spec : {M : Type 1} → statement M
++entries_spec = close μ_entries λ t. entries-lts.spec (entries_calls t) (entries_at t)
     entries.Post (entries_handed_on_requires t) (entries_shut_requires t) (entries_returns t) (entries_enclose_requires t) (entries_operand_requires t) (entries_entries_requires t) (entries_same_length t) (entries_returns_2 t) (entries_get_requires t) (entries_operand_requires_2 t) (entries_operand_requires_3 t) (entries_entries_requires_2 t) (entries_entries_requires_3 t) (entries_goes_on_requires t) (λ c κs. search rules) (λ c. search rules) (λ c. search rules) (λ c. search rules) (entries_button_requires t) (entries_add_least t) (λ c κs. search rules) (entries_choice_requires t) (entries_offer_requires t) (entries_returns_3 t) (entries_mul_two t) (entries_add_entries t) (entries_entries_requires_4 t) (λ c κs. search rules) (entries_add_entries_2 t) (λ c. search rules) (λ c. search rules) (λ c. search rules) (entries_entries_requires_5 t) (entries_add_least_2 t) (λ c κs. search rules) (entries_same_length_2 t) (entries_returns_4 t) (entries_same_length_3 t) (entries_returns_5 t) (entries_same_length_4 t) (entries_returns_6 t) (entries_same_length_5 t) (entries_returns_7 t) (entries_same_length_6 t) (entries_returns_8 t) (entries_returns_9 t) (entries_returns_10 t) (entries_returns_11 t)

@@ -31,14 +31,14 @@ content_spec = tie.close (tie.spec
     let get = match_at.before.before in
     let start = get.before in
     content_filled start.args.rows.now start.args.state.now start.args.row c.read.result
-    (sym get.get-kind.ensures ∙ match_at.in_default.keys1) c.read.ensures)
+    (sym get.get-kind.ensures ∙ match_at.in-40.is) c.read.ensures)
     (λ c.
     let match_at = c.before in
     let operand = match_at.before in
     let get = operand.before in
     let start = get.before in
     content_entered start.args.rows.now start.args.state.now start.args.row operand.operand-a.result c.row_type.result _ _
-    (sym get.get-kind.ensures ∙ match_at.in_default.keys2) operand.operand-a.ensures c.row_type.ensures)
+    (sym get.get-kind.ensures ∙ match_at.in-41.is) operand.operand-a.ensures c.row_type.ensures)
     (λ c.
     let match_at = c.before in
     let operand = match_at.before in

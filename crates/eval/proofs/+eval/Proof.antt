@@ -38,8 +38,8 @@ eval_at t = and 3 eval-kinds.ps (is 3 eval-kinds.ps μ_eval t) eval.Pre
 abbrev eval_below : ℕ → In 3 eval-kinds.ps
 eval_below t = and 3 eval-kinds.ps (falls 3 eval-kinds.ps ◌<◌ μ_eval t) eval.Pre
 
-pub +eval-spec : {M : Type 1} → statement M
-+eval-spec = close μ_eval λ t. eval-lts.spec (
+pub +eval_spec : {M : Type 1} → statement M
++eval_spec = close μ_eval λ t. eval-lts.spec (
   get-reads.Asked,
   get-reads.Learnt,
   operand-reads.Asked,
@@ -76,7 +76,7 @@ pub +eval-spec : {M : Type 1} → statement M
     let match_at = c.before.before in
     let get = match_at.before in
     let start = get.before in
-    call_b start.requires get.get-kind.result c.operand.result get.get-kind.ensures c.operand.ensures (omega (arith, match_at.in_default-1.keys1)))
+    call_b start.requires get.get-kind.result c.operand.result get.get-kind.ensures c.operand.ensures (omega (arith, match_at.in-24.is)))
     (λ c κs.
     let start = c.before.before.before.before.before.before in
     (start.requires.1.low, omega arith))
@@ -84,7 +84,7 @@ pub +eval-spec : {M : Type 1} → statement M
     let match_at = c.before.before.before.before.before in
     let get = match_at.before in
     let start = get.before in
-    call_c start.requires get.get-kind.result c.operand-in-24.result get.get-kind.ensures c.operand-in-24.ensures (omega (arith, match_at.in_default-1.keys1)) (omega (arith, match_at.in_default-1.keys1)))
+    call_c start.requires get.get-kind.result c.operand-in-24.result get.get-kind.ensures c.operand-in-24.ensures (omega (arith, match_at.in-24.is)) (omega (arith, match_at.in-24.is)))
     (λ c κs.
     let start = c.before.before.before.before.before.before.before.before in
     (start.requires.1.low, omega arith)) (λ c κs. search rules) (λ c κs. search rules) (λ c κs. search rules)
@@ -93,7 +93,7 @@ pub +eval-spec : {M : Type 1} → statement M
     let match_at = c.before.before in
     let get = match_at.before in
     let start = get.before in
-    call_a start.requires get.get-kind.result c.operand-in-25.result get.get-kind.ensures c.operand-in-25.ensures (omega (arith, match_at.in_default-1.keys2)) (omega (arith, match_at.in_default-1.keys2)))
+    call_a start.requires get.get-kind.result c.operand-in-25.result get.get-kind.ensures c.operand-in-25.ensures (omega (arith, match_at.in-25.is)) (omega (arith, match_at.in-25.is)))
     (λ c κs. search rules)
     (λ c κs.
     let start = c.before.before.before.before.before.before.before.before in
@@ -102,7 +102,7 @@ pub +eval-spec : {M : Type 1} → statement M
     let match_at = c.before.before.before.before.before.before.before in
     let get = match_at.before in
     let start = get.before in
-    call_b start.requires get.get-kind.result c.operand-then-is_true.result get.get-kind.ensures c.operand-then-is_true.ensures (omega (arith, match_at.in_default-1.keys2)))
+    call_b start.requires get.get-kind.result c.operand-then-is_true.result get.get-kind.ensures c.operand-then-is_true.ensures (omega (arith, match_at.in-25.is)))
     (λ c κs. search rules)
     (λ c.
     let eval4 = c.before in
@@ -117,7 +117,7 @@ pub +eval-spec : {M : Type 1} → statement M
     eval_if_true start.args.rows.now start.args.row start.args.env.now start.args.depth start.args.state.now
     eval3.eval-test.new.state eval4.eval-taken.new.state eval3.eval-test.result eval4.eval-taken.result c.after-then-is_true.result c.after-then-is_true.ensures
     is_true.is_true.result is_true.is_true.ensures operand3.operand-in-25.result operand4.operand-then-is_true.result
-    (sym get.get-kind.ensures ∙ match_at.in_default-1.keys2) operand3.operand-in-25.ensures eval3.eval-test.ensures eval4.eval-taken.ensures
+    (sym get.get-kind.ensures ∙ match_at.in-25.is) operand3.operand-in-25.ensures eval3.eval-test.ensures eval4.eval-taken.ensures
     if1.if-is_true.true operand4.operand-then-is_true.ensures)
     (λ c κs.
     let start = c.before.before.before.before.before.before.before.before in
@@ -126,14 +126,14 @@ pub +eval-spec : {M : Type 1} → statement M
     let match_at = c.before.before.before.before.before.before.before in
     let get = match_at.before in
     let start = get.before in
-    call_c start.requires get.get-kind.result c.operand-in-25-2.result get.get-kind.ensures c.operand-in-25-2.ensures (omega (arith, match_at.in_default-1.keys2)) (omega (arith, match_at.in_default-1.keys2)))
+    call_c start.requires get.get-kind.result c.operand-in-25-2.result get.get-kind.ensures c.operand-in-25-2.ensures (omega (arith, match_at.in-25.is)) (omega (arith, match_at.in-25.is)))
     (λ c κs. search rules)
     (λ c κs. (c.before.before.before.requires.1.low, omega arith))
     (λ c κs.
     let match_at = c.before.before in
     let get = match_at.before in
     let start = get.before in
-    call_a start.requires get.get-kind.result c.operand-in-26.result get.get-kind.ensures c.operand-in-26.ensures (omega (arith, match_at.in_default-1.keys3)) (omega (arith, match_at.in_default-1.keys3)))
+    call_a start.requires get.get-kind.result c.operand-in-26.result get.get-kind.ensures c.operand-in-26.ensures (omega (arith, match_at.in-26.is)) (omega (arith, match_at.in-26.is)))
     (λ c κs.
     let start = c.before.before.before.before.before.before in
     (start.requires.1.low, omega arith))
@@ -141,13 +141,13 @@ pub +eval-spec : {M : Type 1} → statement M
     let match_at = c.before.before.before.before.before in
     let get = match_at.before in
     let start = get.before in
-    call_b start.requires get.get-kind.result c.operand-in-26-2.result get.get-kind.ensures c.operand-in-26-2.ensures (omega (arith, match_at.in_default-1.keys3)))
+    call_b start.requires get.get-kind.result c.operand-in-26-2.result get.get-kind.ensures c.operand-in-26-2.ensures (omega (arith, match_at.in-26.is)))
     (λ c κs. search rules) (λ c κs. search rules) (λ c κs. search rules) (λ c κs. search rules) (λ c κs. (c.before.before.before.requires.1.low, omega arith))
     (λ c κs.
     let match_at = c.before.before in
     let get = match_at.before in
     let start = get.before in
-    let h = low_a start.requires.1 get.get-kind.result c.operand-in-29.result get.get-kind.ensures c.operand-in-29.ensures (omega (arith, match_at.in_default-1.keys4)) (omega (arith, match_at.in_default-1.keys4)) in
+    let h = low_a start.requires.1 get.get-kind.result c.operand-in-29.result get.get-kind.ensures c.operand-in-29.ensures (omega (arith, match_at.in-29.is)) (omega (arith, match_at.in-29.is)) in
     omega (arith, start.requires.1.low))
     (λ c κs. search rules)
     (λ c κs. (c.before.before.before.requires.1.low, omega arith))
@@ -155,7 +155,7 @@ pub +eval-spec : {M : Type 1} → statement M
     let match_at = c.before.before in
     let get = match_at.before in
     let start = get.before in
-    call_b start.requires get.get-kind.result c.operand-in-30.result get.get-kind.ensures c.operand-in-30.ensures (omega (arith, match_at.in_default-1.keys5)))
+    call_b start.requires get.get-kind.result c.operand-in-30.result get.get-kind.ensures c.operand-in-30.ensures (omega (arith, match_at.in-30.is)))
     (λ c κs.
     let start = c.before.before.before.before.before.before in
     (start.requires.1.low, omega arith))
@@ -163,7 +163,7 @@ pub +eval-spec : {M : Type 1} → statement M
     let match_at = c.before.before.before.before.before in
     let get = match_at.before in
     let start = get.before in
-    let h = low_a start.requires.1 get.get-kind.result c.operand-in-30-2.result get.get-kind.ensures c.operand-in-30-2.ensures (omega (arith, match_at.in_default-1.keys5)) (omega (arith, match_at.in_default-1.keys5)) in
+    let h = low_a start.requires.1 get.get-kind.result c.operand-in-30-2.result get.get-kind.ensures c.operand-in-30-2.ensures (omega (arith, match_at.in-30.is)) (omega (arith, match_at.in-30.is)) in
     omega (arith, start.requires.1.low))
     (λ c κs. search rules) (λ c κs. search rules)
     (λ c κs. search rules) (λ c κs. (c.before.before.before.requires.1.low, omega arith))
@@ -171,7 +171,7 @@ pub +eval-spec : {M : Type 1} → statement M
     let match_at = c.before.before in
     let get = match_at.before in
     let start = get.before in
-    call_a start.requires get.get-kind.result c.operand-in-31.result get.get-kind.ensures c.operand-in-31.ensures (omega (arith, match_at.in_default-1.keys6)) (omega (arith, match_at.in_default-1.keys6)))
+    call_a start.requires get.get-kind.result c.operand-in-31.result get.get-kind.ensures c.operand-in-31.ensures (omega (arith, match_at.in-31.is)) (omega (arith, match_at.in-31.is)))
     (λ c κs. search rules) (λ c κs. search rules)
     (λ c.
     let if2 = c.before.before in
@@ -180,7 +180,7 @@ pub +eval-spec : {M : Type 1} → statement M
     let get = match_at.before in
     let start = get.before in
     eval_deep start.args.rows.now start.args.row start.args.env.now start.args.depth start.args.state.now
-    eval9.eval-bound.new.state c.sure-then-depth-ge-MAX_BINDERS.result (sym get.get-kind.ensures ∙ match_at.in_default-1.keys6) if2.if-depth-ge-MAX_BINDERS.true)
+    eval9.eval-bound.new.state c.sure-then-depth-ge-MAX_BINDERS.result (sym get.get-kind.ensures ∙ match_at.in-31.is) if2.if-depth-ge-MAX_BINDERS.true)
     (λ c κs. c.if-depth-ge-MAX_BINDERS.false)
     (λ c κs.
     let start = c.before.before.before.before.before.before.before.before in
@@ -191,7 +191,7 @@ pub +eval-spec : {M : Type 1} → statement M
     let match_at = if2.before.before.before.before in
     let get = match_at.before in
     let start = get.before in
-    let h = low_b start.requires.1 get.get-kind.result operand12.operand-in-31-2.result get.get-kind.ensures operand12.operand-in-31-2.ensures (omega (arith, match_at.in_default-1.keys6)) in
+    let h = low_b start.requires.1 get.get-kind.result operand12.operand-in-31-2.result get.get-kind.ensures operand12.operand-in-31-2.ensures (omega (arith, match_at.in-31.is)) in
     (omega (arith, start.requires.0), fine_at start.requires.1 _ _ (omega arith) (omega (arith, if2.if-depth-ge-MAX_BINDERS.false))))
     (λ c κs. search rules)
     (λ c κs.
@@ -226,7 +226,7 @@ pub +eval-spec : {M : Type 1} → statement M
     let y = eval2.eval-y.result in
     eval_op start.args.rows.now start.args.row start.args.env.now start.args.depth start.args.state.now
     eval.eval-x.new.state eval2.eval-y.new.state x y c.after-in-24.result operand.operand.result
-    operand2.operand-in-24.result get2.get.result (sym get.get-kind.ensures ∙ match_at.in_default-1.keys1) operand.operand.ensures
+    operand2.operand-in-24.result get2.get.result (sym get.get-kind.ensures ∙ match_at.in-24.is) operand.operand.ensures
     operand2.operand-in-24.ensures get2.get.ensures eval.eval-x.ensures eval2.eval-y.ensures
     (c.after-in-24.ensures ∙ ap (after_over x.over) (after.after.ensures ∙ ap (after_over y.over) apply.apply-z.ensures)))
     (λ c.
@@ -242,7 +242,7 @@ pub +eval-spec : {M : Type 1} → statement M
     eval_if_false start.args.rows.now start.args.row start.args.env.now start.args.depth start.args.state.now
     eval3.eval-test.new.state eval5.eval-other.new.state eval3.eval-test.result eval5.eval-other.result c.after-in-25.result c.after-in-25.ensures
     is_true.is_true.result is_true.is_true.ensures operand3.operand-in-25.result operand5.operand-in-25-2.result
-    (sym get.get-kind.ensures ∙ match_at.in_default-1.keys2) operand3.operand-in-25.ensures eval3.eval-test.ensures eval5.eval-other.ensures
+    (sym get.get-kind.ensures ∙ match_at.in-25.is) operand3.operand-in-25.ensures eval3.eval-test.ensures eval5.eval-other.ensures
     if1.if-is_true.false operand5.operand-in-25-2.ensures)
     (λ c.
     let after5 = c.before in
@@ -259,7 +259,7 @@ pub +eval-spec : {M : Type 1} → statement M
     let y = eval7.eval-b.result in
     eval_pair start.args.rows.now start.args.row start.args.env.now start.args.depth start.args.state.now
     eval6.eval-a.new.state eval7.eval-b.new.state x y c.after-in-26-2.result
-    operand6.operand-in-26.result operand7.operand-in-26-2.result (sym get.get-kind.ensures ∙ match_at.in_default-1.keys3) operand6.operand-in-26.ensures
+    operand6.operand-in-26.result operand7.operand-in-26-2.result (sym get.get-kind.ensures ∙ match_at.in-26.is) operand6.operand-in-26.ensures
     operand7.operand-in-26-2.ensures eval6.eval-a.ensures eval7.eval-b.ensures
     (c.after-in-26-2.ensures ∙ ap (after_over x.over) (after5.after-in-26.ensures ∙ ap (after_over y.over) (sure.sure.ensures ∙ ap sure_of pair.pair-both.ensures))))
     (λ c.
@@ -270,7 +270,7 @@ pub +eval-spec : {M : Type 1} → statement M
     let start = get.before in
     subst (EvalOk start.args.rows.now start.args.state.now start.args.state.now start.args.row start.args.env.now start.args.depth) (sym c.sure-in-29.ensures)
     (eval_content start.args.rows.now start.args.row start.args.env.now start.args.depth start.args.state.now
-    read_value.read_value.result operand8.operand-in-29.result (sym get.get-kind.ensures ∙ match_at.in_default-1.keys4) operand8.operand-in-29.ensures
+    read_value.read_value.result operand8.operand-in-29.result (sym get.get-kind.ensures ∙ match_at.in-29.is) operand8.operand-in-29.ensures
     read_value.read_value.ensures))
     (λ c.
     let sure3 = c.before in
@@ -285,7 +285,7 @@ pub +eval-spec : {M : Type 1} → statement M
     let x = eval8.eval-content.result in
     eval_assign start.args.rows.now start.args.row start.args.env.now start.args.depth start.args.state.now
     eval8.eval-content.new.state put_value.put_value.new.state x c.after-in-30.result operand10.operand-in-30-2.result
-    operand9.operand-in-30.result (sym get.get-kind.ensures ∙ match_at.in_default-1.keys5) operand10.operand-in-30-2.ensures operand9.operand-in-30.ensures
+    operand9.operand-in-30.result (sym get.get-kind.ensures ∙ match_at.in-30.is) operand10.operand-in-30-2.ensures operand9.operand-in-30.ensures
     eval8.eval-content.ensures put_value.put_value.ensures
     (c.after-in-30.ensures ∙ ap (after_over x.over) (sure3.sure-in-30.ensures ∙ ap sure_of unit.unit.ensures)))
     (λ c.
@@ -300,7 +300,7 @@ pub +eval-spec : {M : Type 1} → statement M
     eval_let start.args.rows.now start.args.row start.args.env.now start.args.depth start.args.state.now
     eval9.eval-bound.new.state eval10.eval-body.new.state pushed.pushed-inner.result eval9.eval-bound.result eval10.eval-body.result
     c.after-in-31.result c.after-in-31.ensures operand11.operand-in-31.result operand12.operand-in-31-2.result
-    (sym get.get-kind.ensures ∙ match_at.in_default-1.keys6) operand11.operand-in-31.ensures operand12.operand-in-31-2.ensures
+    (sym get.get-kind.ensures ∙ match_at.in-31.is) operand11.operand-in-31.ensures operand12.operand-in-31-2.ensures
     eval9.eval-bound.ensures pushed.pushed-inner.ensures eval10.eval-body.ensures)
     (λ c.
     let constant = c.before in

@@ -10,19 +10,19 @@ pub constant_spec : {M : Type 1} → statement M
 constant_spec = tie.close (tie.spec
     (λ c κs. search rules) (λ c κs. search rules) (λ c κs. search rules) (λ c κs. search rules)
     (λ c κs. search rules) (λ c κs. search rules) (λ c κs. search rules)
-    (λ c. let s = c.before.before in eval_unit s.args.rows.now s.args.row s.args.env.now s.args.depth c.unit.result (sym s.requires.2 ∙ c.before.in_default.keys1) c.unit.ensures)
+    (λ c. let s = c.before.before in eval_unit s.args.rows.now s.args.row s.args.env.now s.args.depth c.unit.result (sym s.requires.2 ∙ c.before.in-20.is) c.unit.ensures)
     (λ c.
     let get = c.before in
     let match_at = get.before in
     let start = match_at.before in
     eval_truth start.args.rows.now start.args.row start.args.env.now start.args.depth c.truth.result get.get.result
-    (sym start.requires.2 ∙ match_at.in_default.keys2) get.get.ensures c.truth.ensures)
+    (sym start.requires.2 ∙ match_at.in-21.is) get.get.ensures c.truth.ensures)
     (λ c.
     let get2 = c.before in
     let match_at = get2.before in
     let start = match_at.before in
     eval_number start.args.rows.now start.args.row start.args.env.now start.args.depth c.number.result get2.get-in-22.result
-    (sym start.requires.2 ∙ match_at.in_default.keys3) get2.get-in-22.ensures c.number.ensures)
+    (sym start.requires.2 ∙ match_at.in-22.is) get2.get-in-22.ensures c.number.ensures)
     (λ c.
     let operand = c.before in
     let match_at = operand.before in

@@ -21,13 +21,13 @@ decreases-loop s at width words₀ blank₀ k₀ words blank k = max_leaves - k
 loop_holds : tie.Need-loop-k-init invariant-loop decreases-loop
 loop_holds c = let start = c.before in (search rules, refl, refl, read_first start.args.s.now start.args.at start.args.width)
 
-mul_read_leaf : tie.Need-overflow-mul-read-leaf invariant-loop decreases-loop
+mul_read_leaf : tie.Need-overflow_mul-k invariant-loop decreases-loop
 mul_read_leaf c =
     let loop = c.before in
     let start = loop.before.before in
     omega (arith, mul-le-mul_right start.args.width loop.loop-k.invariant.0)
 
-add_read_leaf : tie.Need-overflow-add-read-leaf invariant-loop decreases-loop
+add_read_leaf : tie.Need-overflow_add-at invariant-loop decreases-loop
 add_read_leaf c =
     let loop = c.before in
     let start = loop.before.before in
@@ -39,7 +39,7 @@ returns c =
     let test = leaf.before in
     let loop = test.before in
     let start = loop.before.before in
-    read_none start.args.s.now start.args.at start.args.width loop.loop-k.k (omega arith) leaf.read_leaf-leaf.result leaf.read_leaf-leaf.ensures (not-true _ (not_from_false _ c.if-not-leaf.true))
+    read_none start.args.s.now start.args.at start.args.width loop.loop-k.k (omega arith) leaf.read_leaf-leaf.result leaf.read_leaf-leaf.ensures (not-true _ c.if-not-leaf.true)
 
 loop_again : tie.Need-loop-k-preserved invariant-loop decreases-loop
 loop_again c =
@@ -51,7 +51,7 @@ loop_again c =
       length-set loop.loop-k.words loop.loop-k.k leaf.read_leaf-leaf.result.bits ∙ loop.loop-k.invariant.1,
       length-set loop.loop-k.blank loop.loop-k.k leaf.read_leaf-leaf.result.blank ∙ loop.loop-k.invariant.2,
       read_more start.args.s.now start.args.at start.args.width loop.loop-k.k (omega arith) leaf.read_leaf-leaf.result leaf.read_leaf-leaf.ensures
-          loop.loop-k.words loop.loop-k.blank loop.loop-k.invariant.3 (not-false _ (not_from_true _ c.if-not-leaf.false)),
+          loop.loop-k.words loop.loop-k.blank loop.loop-k.invariant.3 (not-false _ c.if-not-leaf.false),
     )
 
 returns_2 : tie.Need-returns invariant-loop decreases-loop

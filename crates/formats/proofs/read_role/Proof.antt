@@ -9,15 +9,8 @@ pub read_role_spec : {M : Type 1} → statement M
 read_role_spec = tie.close (tie.spec
     (λ c κs. search rules) (λ c. search rules) (λ c κs. search rules) (λ c. search rules) (λ c. search rules)
     (λ c.
-    let reading = c.before.before in
-    let read = reading.before.before in
-    let start = read.before.before in
-    role_number start.args.s.now reading.reading-1.given.0.0 c.as_role.result (sym reading.reading-1.given.1 ∙ read.read-reading.ensures) c.as_role.ensures)
+    role_number c.args.s.now c.in-Number.bits c.as_role.result (sym c.in-Number.is ∙ c.read-reading.ensures) c.as_role.ensures)
     (λ c.
-    let read = c.before.before in
-    let start = read.before.before in
-    role_blank start.args.s.now (sym c.enum_told-1.given.1 ∙ read.read-reading.ensures))
+    role_blank c.args.s.now (sym c.in-Blank.is ∙ c.read-reading.ensures))
     (λ c.
-    let read = c.before.before in
-    let start = read.before.before in
-    role_unread start.args.s.now (sym c.enum_told-in-Unreadable-1.given.1 ∙ read.read-reading.ensures)))
+    role_unread c.args.s.now (sym c.in-Unreadable.is ∙ c.read-reading.ensures)))

@@ -21,13 +21,13 @@ loop_holds : tie.Need-loop-i-init invariant-loop decreases-loop
 unfolding put_items
 loop_holds c = (search rules, refl, refl)
 
-mul_write : tie.Need-overflow-mul-write invariant-loop decreases-loop
+mul_write : tie.Need-overflow_mul-i invariant-loop decreases-loop
 mul_write c =
     let loop = c.before.before in
     let start = loop.before.before in
     omega (arith, mul-le-mul_right start.args.width loop.loop-i.invariant.0)
 
-add_write : tie.Need-overflow-add-write invariant-loop decreases-loop
+add_write : tie.Need-overflow_add-at invariant-loop decreases-loop
 add_write c =
     let loop = c.before.before in
     let start = loop.before.before in
@@ -39,15 +39,15 @@ loop_again c =
     let start_at = write.before.before.before in
     let loop = start_at in
     let start = loop.before.before in
-    let long : length start.args.t4 ≡ max_leaves = let g = start.well_formed in search rules in
-    (omega arith, write.write.auto.s ∙ loop.loop-i.invariant.1, write_more start.args.s.now start.args.at start.args.width start.args.t4 loop.loop-i.i loop.loop-i.s write.write.new.s (omega (arith, long)) loop.loop-i.invariant.2 write.write.ensures.1)
+    let long : length start.args.numbers ≡ max_leaves = let g = start.well_formed in search rules in
+    (omega arith, write.write.auto.s ∙ loop.loop-i.invariant.1, write_more start.args.s.now start.args.at start.args.width start.args.numbers loop.loop-i.i loop.loop-i.s write.write.new.s (omega (arith, long)) loop.loop-i.invariant.2 write.write.ensures.1)
 
 returns : tie.Need-returns invariant-loop decreases-loop
 returns c =
     let loop = c.before in
     let start = loop.before.before in
-    let long : length start.args.t4 ≡ max_leaves = let g = start.well_formed in search rules in
-    (write_all start.args.s.now start.args.at start.args.width start.args.t4 loop.loop-i.i loop.loop-i.s (omega (arith, long)) loop.loop-i.invariant.2, long)
+    let long : length start.args.numbers ≡ max_leaves = let g = start.well_formed in search rules in
+    (write_all start.args.s.now start.args.at start.args.width start.args.numbers loop.loop-i.i loop.loop-i.s (omega (arith, long)) loop.loop-i.invariant.2, long)
 
 pub write_numbers_spec : {M : Type 1} → statement M
 write_numbers_spec = tie.close (tie.spec invariant-loop decreases-loop loop_holds mul_write add_write

@@ -46,8 +46,8 @@ handle_below t = and 3 handle-kinds.ps (falls 3 handle-kinds.ps ◌<◌ μ_handl
 abbrev handle_calls : ℕ → handle-lts.Claims
 handle_calls t = (handed_on-reads.Asked, handed_on-reads.Learnt, enclose-reads.Asked, enclose-reads.Learnt, operand-reads.Asked, operand-reads.Learnt, handle_below t, handle.Post, pass-reads.Asked, pass-reads.Learnt, get-reads.Asked, get-reads.Learnt, going-on-reads.Asked, going-on-reads.Learnt, attempt-reads.Asked, attempt-reads.Learnt, answer-reads.Asked, answer-reads.Learnt, pick-reads.Asked, pick-reads.Learnt, edit-reads.Asked, edit-reads.Learnt, front-mark-reads.Asked, front-mark-reads.Learnt, inside-reads.Asked, inside-reads.Learnt)
 
-pub +handle-spec : {M : Type 1} → statement M
-+handle-spec = close μ_handle λ t. handle-lts.spec (handle_calls t) (handle_at t)
+pub +handle_spec : {M : Type 1} → statement M
++handle_spec = close μ_handle λ t. handle-lts.spec (handle_calls t) (handle_at t)
     handle.Post
     (λ c κs. c.before.requires.1.0.low)
     (λ c κs.
@@ -88,20 +88,20 @@ pub +handle-spec : {M : Type 1} → statement M
     let operand2 = match_at.before in
     let get = operand2.before in
     let start = get.before.before.before.before in
-    let q = call_a (start.requires.0, start.requires.1.0) get.get-kind.result operand2.operand-a.result get.get-kind.ensures operand2.operand-a.ensures (omega (arith, match_at.in_default-1.keys1)) (omega (arith, match_at.in_default-1.keys1)) in
+    let q = call_a (start.requires.0, start.requires.1.0) get.get-kind.result operand2.operand-a.result get.get-kind.ensures operand2.operand-a.ensures (omega (arith, match_at.in-43.is)) (omega (arith, match_at.in-43.is)) in
     (q.0, (q.1, start.requires.1.1)))
     (λ c κs.
     let match_at = c.before in
     let operand2 = match_at.before in
     let get = operand2.before in
     let start = get.before.before.before.before in
-    let h = low_a start.requires.1.0 get.get-kind.result operand2.operand-a.result get.get-kind.ensures operand2.operand-a.ensures (omega (arith, match_at.in_default-1.keys2)) (omega (arith, match_at.in_default-1.keys2)) in
+    let h = low_a start.requires.1.0 get.get-kind.result operand2.operand-a.result get.get-kind.ensures operand2.operand-a.ensures (omega (arith, match_at.in-44.is)) (omega (arith, match_at.in-44.is)) in
     fine_at start.requires.1.0 operand2.operand-a.result 0 (omega arith) (omega arith))
     (λ c κs.
     let match_at = c.before.before.before.before in
     let get = match_at.before.before in
     let start = get.before.before.before.before in
-    (start.requires.1.0, omega (arith, get.get-kind.ensures, match_at.in_default-1.keys2), omega (arith, get.get-kind.ensures, match_at.in_default-1.keys2)))
+    (start.requires.1.0, omega (arith, get.get-kind.ensures, match_at.in-44.is), omega (arith, get.get-kind.ensures, match_at.in-44.is)))
     (λ c κs. search rules)
     (λ c.
     let attempt = c.before in
@@ -114,15 +114,15 @@ pub +handle-spec : {M : Type 1} → statement M
     let handed_on = if1.before in
     let start = handed_on.before.before in
     handle_continue start.args.rows.now start.args.state.now attempt.attempt.new.state start.args.row start.args.env.now
-    start.args.depth c.answer.result start.args.e operand2.operand-a.result Going-on.Going-on.result
-    (handed_on.handed_on-part.ensures.none if1.if-part-ne0.false) (sym get.get-kind.ensures ∙ match_at.in_default-1.keys2) operand2.operand-a.ensures
-    Going-on.Going-on.ensures attempt.attempt.result c.answer.ensures if2.if-found.true attempt.attempt.ensures)
+    start.args.depth c.answer.result start.args.e operand2.operand-a.result Going-on.going_on-found.result
+    (handed_on.handed_on-part.ensures.none if1.if-part-ne0.false) (sym get.get-kind.ensures ∙ match_at.in-44.is) operand2.operand-a.ensures
+    Going-on.going_on-found.ensures attempt.attempt.result c.answer.ensures if2.if-found.true attempt.attempt.ensures)
     (λ c κs.
     let match_at = c.before.before.before.before in
     let operand2 = match_at.before in
     let get = operand2.before in
     let start = get.before.before.before.before in
-    let q = call_a (start.requires.0, start.requires.1.0) get.get-kind.result operand2.operand-a.result get.get-kind.ensures operand2.operand-a.ensures (omega (arith, match_at.in_default-1.keys2)) (omega (arith, match_at.in_default-1.keys2)) in
+    let q = call_a (start.requires.0, start.requires.1.0) get.get-kind.result operand2.operand-a.result get.get-kind.ensures operand2.operand-a.ensures (omega (arith, match_at.in-44.is)) (omega (arith, match_at.in-44.is)) in
     (q.0, (q.1, start.requires.1.1)))
     (λ c κs.
     let match_at = c.before in
@@ -130,7 +130,7 @@ pub +handle-spec : {M : Type 1} → statement M
     let if1 = get.before in
     let handed_on = if1.before in
     let start = handed_on.before.before in
-    (start.requires.1.0, sym get.get-kind.ensures ∙ match_at.in_default-1.keys3, (handed_on.handed_on-part.ensures.none if1.if-part-ne0.false), start.requires.1.1))
+    (start.requires.1.0, sym get.get-kind.ensures ∙ match_at.in-48.is, (handed_on.handed_on-part.ensures.none if1.if-part-ne0.false), start.requires.1.1))
     (λ c κs. search rules)
     (λ c κs.
     let if4 = c.before in
@@ -172,7 +172,7 @@ pub +handle-spec : {M : Type 1} → statement M
     let start = handed_on.before.before in
     handle_then start.args.rows.now start.args.state.now c.handle.new.state start.args.row start.args.env.now
     start.args.depth c.handle.result start.args.e.role operand2.operand-a.result (event_path start.args.e) (event_action start.args.e)
-    (handed_on.handed_on-part.ensures.none if1.if-part-ne0.false) (sym get.get-kind.ensures ∙ match_at.in_default-1.keys1) operand2.operand-a.ensures
+    (handed_on.handed_on-part.ensures.none if1.if-part-ne0.false) (sym get.get-kind.ensures ∙ match_at.in-43.is) operand2.operand-a.ensures
     c.handle.ensures)
     (λ c.
     let if2 = c.before.before in
@@ -184,9 +184,9 @@ pub +handle-spec : {M : Type 1} → statement M
     let handed_on = if1.before in
     let start = handed_on.before.before in
     handle_next start.args.rows.now start.args.state.now c.handle-in-44.new.state start.args.row start.args.env.now
-    start.args.depth c.handle-in-44.result start.args.e operand2.operand-a.result Going-on.Going-on.result
-    (handed_on.handed_on-part.ensures.none if1.if-part-ne0.false) (sym get.get-kind.ensures ∙ match_at.in_default-1.keys2) operand2.operand-a.ensures
-    Going-on.Going-on.ensures if2.if-found.false c.handle-in-44.ensures)
+    start.args.depth c.handle-in-44.result start.args.e operand2.operand-a.result Going-on.going_on-found.result
+    (handed_on.handed_on-part.ensures.none if1.if-part-ne0.false) (sym get.get-kind.ensures ∙ match_at.in-44.is) operand2.operand-a.ensures
+    Going-on.going_on-found.ensures if2.if-found.false c.handle-in-44.ensures)
     (λ c.
     let pick = c.before in
     let start = pick.before.before.before.before.before.before.before.before in
@@ -208,7 +208,7 @@ pub +handle-spec : {M : Type 1} → statement M
     handle_unmarked start.args.rows.now start.args.state.now start.args.row start.args.env.now start.args.depth start.args.e.role
     (event_path start.args.e) (event_action start.args.e) (handed_on.handed_on-part.ensures.none if1.if-part-ne0.false)
     (omega (arith, get.get-kind.ensures, if5.if-kind-lt46.false)) (omega (arith, get.get-kind.ensures, if6.if-kind-lt48.true))
-    (front_empty (event_path start.args.e) (sym c.enum_told-1.given.1 ∙ front_mark.front_mark-front.ensures)))
+    (front_empty (event_path start.args.e) (sym c.in-Empty.is ∙ front_mark.front_mark-front.ensures)))
     (λ c.
     let inside = c.before in
     let front = inside.before.before.before in
@@ -223,9 +223,9 @@ pub +handle-spec : {M : Type 1} → statement M
     handle_first start.args.rows.now start.args.state.now c.handle-in-First.new.state start.args.row start.args.env.now
     start.args.depth c.handle-in-First.result start.args.e.role (event_path start.args.e) (event_action start.args.e)
     (handed_on.handed_on-part.ensures.none if1.if-part-ne0.false) (omega (arith, get.get-kind.ensures, if5.if-kind-lt46.false))
-    (omega (arith, get.get-kind.ensures, if6.if-kind-lt48.true)) operand2.operand-a.result (path_of front.front-1.given.0.0)
+    (omega (arith, get.get-kind.ensures, if6.if-kind-lt48.true)) operand2.operand-a.result (path_of front.in-First.rest)
     operand2.operand-a.ensures
-    (front_one (event_path start.args.e) front.front-1.given.0.0 (sym front.front-1.given.1 ∙ front_mark.front_mark-front.ensures))
+    (front_one (event_path start.args.e) front.in-First.rest (sym front.in-First.is ∙ front_mark.front_mark-front.ensures))
     (subst (λ f. HandleOk start.args.rows.now start.args.state.now c.handle-in-First.new.state operand2.operand-a.result start.args.env.now start.args.depth f.role (event_path f) (event_action f) c.handle-in-First.result) inside.inside.ensures c.handle-in-First.ensures))
     (λ c.
     let inside2 = c.before in
@@ -241,9 +241,9 @@ pub +handle-spec : {M : Type 1} → statement M
     handle_second start.args.rows.now start.args.state.now c.handle-in-Second.new.state start.args.row start.args.env.now
     start.args.depth c.handle-in-Second.result start.args.e.role (event_path start.args.e) (event_action start.args.e)
     (handed_on.handed_on-part.ensures.none if1.if-part-ne0.false) (omega (arith, get.get-kind.ensures, if5.if-kind-lt46.false))
-    (omega (arith, get.get-kind.ensures, if6.if-kind-lt48.true)) operand3.operand-b.result (path_of front2.front-in-Second-1.given.0.0)
+    (omega (arith, get.get-kind.ensures, if6.if-kind-lt48.true)) operand3.operand-b.result (path_of front2.in-Second.rest)
     operand3.operand-b.ensures
-    (front_two (event_path start.args.e) front2.front-in-Second-1.given.0.0 (sym front2.front-in-Second-1.given.1 ∙ front_mark.front_mark-front.ensures))
+    (front_two (event_path start.args.e) front2.in-Second.rest (sym front2.in-Second.is ∙ front_mark.front_mark-front.ensures))
     (subst (λ f. HandleOk start.args.rows.now start.args.state.now c.handle-in-Second.new.state operand3.operand-b.result start.args.env.now start.args.depth f.role (event_path f) (event_action f) c.handle-in-Second.result) inside2.inside-in-Second.ensures c.handle-in-Second.ensures))
     (λ c.
     let get = c.before.before.before in

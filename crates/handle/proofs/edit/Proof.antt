@@ -24,7 +24,7 @@ edit_spec = tie.close (tie.spec
     let get = match_at.before.before in
     let start = get.before in
     λ env d. handle_edit start.args.rows.now start.args.state.now c.fill.new.state start.args.row env d start.args.e
-    c.fill.result read.read-shape.result (sym get.get-kind.ensures ∙ match_at.in_default.keys1) read.read-shape.ensures c.fill.ensures)
+    c.fill.result read.read-shape.result (sym get.get-kind.ensures ∙ match_at.in-40.is) read.read-shape.ensures c.fill.ensures)
     (λ c κs.
     let operand = c.before in
     let get = operand.before in
@@ -41,7 +41,7 @@ edit_spec = tie.close (tie.spec
     let start = get.before in
     λ env d. handle_enter start.args.rows.now start.args.state.now c.fill-in-41.new.state start.args.row env d start.args.e
     c.fill-in-41.result operand.operand-a.result row_type.row_type-shape.result (replicate max_binders 0)
-    (sym get.get-kind.ensures ∙ match_at.in_default.keys2) operand.operand-a.ensures row_type.row_type-shape.ensures c.fill-in-41.ensures)
+    (sym get.get-kind.ensures ∙ match_at.in-41.is) operand.operand-a.ensures row_type.row_type-shape.ensures c.fill-in-41.ensures)
     (λ c κs.
     let operand = c.before.before in
     let get = operand.before in

@@ -11,7 +11,7 @@ fill_spec = tie.close (tie.spec
     (λ c κs. search rules)
     (λ c. let s = c.before.before in fill_not_given s.args.state.now s.args.row s.args.tag s.args.shape s.args.e (c.before.ends.ensures.no (not-true _ (not_from_false _ c.if-not-ends.true))))
     (λ c κs. search rules)
-    (λ c κs. c.Leaves-of.ensures.1)
+    (λ c κs. c.leaves_of.ensures.1)
     (λ c.
     let none_blank = c.before in
     let Leaves-of = none_blank.before in
@@ -19,7 +19,7 @@ fill_spec = tie.close (tie.spec
     let ends = if1.before in
     let start = ends.before in
     fill_blank start.args.state.now start.args.row start.args.tag start.args.shape start.args.e
-    (ends.ends.ensures.yes (not-false _ (not_from_true _ if1.if-not-ends.false))) Leaves-of.Leaves-of.result Leaves-of.Leaves-of.ensures.0 none_blank.none_blank.result none_blank.none_blank.ensures
+    (ends.ends.ensures.yes (not-false _ (not_from_true _ if1.if-not-ends.false))) Leaves-of.leaves_of.result Leaves-of.leaves_of.ensures.0 none_blank.none_blank.result none_blank.none_blank.ensures
     (not-true _ (not_from_false _ c.if-not-none_blank.true)))
     (λ c κs. search rules)
     (λ c κs. search rules)
@@ -33,7 +33,7 @@ fill_spec = tie.close (tie.spec
     let ends = if1.before in
     let start = ends.before in
     fill_fits start.args.state.now start.args.row start.args.tag start.args.shape start.args.e
-    (ends.ends.ensures.yes (not-false _ (not_from_true _ if1.if-not-ends.false))) Leaves-of.Leaves-of.result Leaves-of.Leaves-of.ensures.0 none_blank.none_blank.result none_blank.none_blank.ensures
+    (ends.ends.ensures.yes (not-false _ (not_from_true _ if1.if-not-ends.false))) Leaves-of.leaves_of.result Leaves-of.leaves_of.ensures.0 none_blank.none_blank.result none_blank.none_blank.ensures
     start.requires.1 (not-false _ (not_from_true _ if2.if-not-none_blank.false)) fits2.fits2.result fits2.fits2.ensures.1 fits2.fits2.ensures.0 c.put_value.new.state
     if3.if-fits.true c.put_value.ensures)
     (λ c.
@@ -45,5 +45,5 @@ fill_spec = tie.close (tie.spec
     let ends = if1.before in
     let start = ends.before in
     fill_unfit start.args.state.now start.args.row start.args.tag start.args.shape start.args.e
-    (ends.ends.ensures.yes (not-false _ (not_from_true _ if1.if-not-ends.false))) Leaves-of.Leaves-of.result Leaves-of.Leaves-of.ensures.0 none_blank.none_blank.result none_blank.none_blank.ensures
+    (ends.ends.ensures.yes (not-false _ (not_from_true _ if1.if-not-ends.false))) Leaves-of.leaves_of.result Leaves-of.leaves_of.ensures.0 none_blank.none_blank.result none_blank.none_blank.ensures
     start.requires.1 (not-false _ (not_from_true _ if2.if-not-none_blank.false)) fits2.fits2.result fits2.fits2.ensures.1 fits2.fits2.ensures.0 c.if-fits.false))

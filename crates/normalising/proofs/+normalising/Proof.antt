@@ -29,8 +29,8 @@ use Rattle.normalising.proofs.+normalising.Proof.FailingAnswers.{failing_handed_
 use Rattle.normalising.proofs.+normalising.Proof.StrideAnswers.{stride_handed_on_requires, stride_enclose_requires, stride_operand_requires, stride_stride_requires, stride_returns, stride_get_requires, stride_operand_requires_2, stride_stride_requires_2, stride_value_requires, stride_returns_2, stride_attempt_requires, stride_operand_requires_3, stride_stride_requires_3, stride_operand_requires_4, stride_stride_requires_4, stride_operand_requires_5, stride_stride_requires_5, stride_choose_requires, stride_returns_3, stride_returns_4, stride_returns_5, stride_returns_6, stride_returns_7, stride_returns_8, stride_returns_9}
 use Rattle.normalising.proofs.+normalising.Proof.NormaliseAnswers.{normalise_Inv_loop, normalise_μ_loop, normalise_loop_holds, normalise_stride_requires, normalise_add_strides, normalise_returns, normalise_loop_less, normalise_loop_again, normalise_returns_2, settle_evaluate_requires, settle_returns, settle_normalise_requires, settle_returns_2, settle_failing_requires, settle_returns_3, tried_settle_requires, tried_returns}
 
-pub +normalising-spec : {M : Type 1} → statement M
-+normalising-spec =
+pub +normalising_spec : {M : Type 1} → statement M
++normalising_spec =
     close
     μ_attempt
     μ_choose

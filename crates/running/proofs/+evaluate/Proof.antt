@@ -38,8 +38,8 @@ evaluate_below t =
 abbrev evaluate_calls : ℕ → evaluate-lts.Claims
 evaluate_calls t = (get-reads.Asked, get-reads.Learnt, operand-reads.Asked, operand-reads.Learnt, eval-reads.Asked, eval-reads.Learnt, is-true-reads.Asked, is-true-reads.Learnt, evaluate_below t, evaluate.Post, put-tag-reads.Asked, put-tag-reads.Learnt, put-value-reads.Asked, put-value-reads.Learnt, bind-reads.Asked, bind-reads.Learnt, put-touches-reads.Asked, put-touches-reads.Learnt)
 
-pub +evaluate-spec : {M : Type 1} → statement M
-+evaluate-spec = close μ_evaluate λ t. evaluate-lts.spec (evaluate_calls t) (evaluate_at t)
+pub +evaluate_spec : {M : Type 1} → statement M
++evaluate_spec = close μ_evaluate λ t. evaluate-lts.spec (evaluate_calls t) (evaluate_at t)
     evaluate.Post
     (λ c κs. (c.requires.1.low, omega arith))
     (λ c κs. (c.before.before.before.requires.1.low, omega arith))
@@ -47,7 +47,7 @@ pub +evaluate-spec : {M : Type 1} → statement M
     let match_at = c.before.before in
     let get = match_at.before in
     let start = get.before in
-    (call_a start.requires get.get-kind.result c.operand.result get.get-kind.ensures c.operand.ensures (omega (arith, match_at.in_default-1.keys1)) (omega (arith, match_at.in_default-1.keys1))).1)
+    (call_a start.requires get.get-kind.result c.operand.result get.get-kind.ensures c.operand.ensures (omega (arith, match_at.in-25.is)) (omega (arith, match_at.in-25.is))).1)
     (λ c κs. search rules)
     (λ c κs.
     let start = c.before.before.before.before.before.before.before.before in
@@ -56,7 +56,7 @@ pub +evaluate-spec : {M : Type 1} → statement M
     let match_at = c.before.before.before.before.before.before.before in
     let get = match_at.before in
     let start = get.before in
-    call_b start.requires get.get-kind.result c.operand-then-is_true.result get.get-kind.ensures c.operand-then-is_true.ensures (omega (arith, match_at.in_default-1.keys1)))
+    call_b start.requires get.get-kind.result c.operand-then-is_true.result get.get-kind.ensures c.operand-then-is_true.ensures (omega (arith, match_at.in-25.is)))
     (λ c κs.
     let start = c.before.before.before.before.before.before.before.before.before.before.before in
     start.requires.1.low)
@@ -73,7 +73,7 @@ pub +evaluate-spec : {M : Type 1} → statement M
     let start = get.before in
     evaluate_true start.args.rows.now start.args.row start.args.env.now start.args.depth start.args.state.now
     eval.eval-x.new.state evaluate.evaluate-over.new.state put_tag.put_tag.new.state eval.eval-x.result evaluate.evaluate-over.result is_true.is_true.result
-    is_true.is_true.ensures operand.operand.result operand2.operand-then-is_true.result (sym get.get-kind.ensures ∙ match_at.in_default-1.keys1)
+    is_true.is_true.ensures operand.operand.result operand2.operand-then-is_true.result (sym get.get-kind.ensures ∙ match_at.in-25.is)
     operand.operand.ensures eval.eval-x.ensures evaluate.evaluate-over.ensures if1.if-is_true.true operand2.operand-then-is_true.ensures
     put_tag.put_tag.ensures)
     (λ c κs.
@@ -83,7 +83,7 @@ pub +evaluate-spec : {M : Type 1} → statement M
     let match_at = c.before.before.before.before.before.before.before in
     let get = match_at.before in
     let start = get.before in
-    call_c start.requires get.get-kind.result c.operand-in-25.result get.get-kind.ensures c.operand-in-25.ensures (omega (arith, match_at.in_default-1.keys1)) (omega (arith, match_at.in_default-1.keys1)))
+    call_c start.requires get.get-kind.result c.operand-in-25.result get.get-kind.ensures c.operand-in-25.ensures (omega (arith, match_at.in-25.is)) (omega (arith, match_at.in-25.is)))
     (λ c κs.
     let start = c.before.before.before.before.before.before.before.before.before.before.before in
     start.requires.1.low)
@@ -92,7 +92,7 @@ pub +evaluate-spec : {M : Type 1} → statement M
     let match_at = c.before.before in
     let get = match_at.before in
     let start = get.before in
-    (call_a start.requires get.get-kind.result c.operand-in-31.result get.get-kind.ensures c.operand-in-31.ensures (omega (arith, match_at.in_default-1.keys2)) (omega (arith, match_at.in_default-1.keys2))
+    (call_a start.requires get.get-kind.result c.operand-in-31.result get.get-kind.ensures c.operand-in-31.ensures (omega (arith, match_at.in-31.is)) (omega (arith, match_at.in-31.is))
     ).1)
     (λ c κs.
     let start = c.before.before.before.before.before.before in
@@ -109,15 +109,15 @@ pub +evaluate-spec : {M : Type 1} → statement M
     let match_at = bind.before.before.before.before.before.before.before.before.before in
     let get = match_at.before in
     let start = get.before in
-    let h = low_b start.requires.1 get.get-kind.result operand5.operand-in-31-2.result get.get-kind.ensures operand5.operand-in-31-2.ensures (omega (arith, match_at.in_default-1.keys2)) in
+    let h = low_b start.requires.1 get.get-kind.result operand5.operand-in-31-2.result get.get-kind.ensures operand5.operand-in-31-2.ensures (omega (arith, match_at.in-31.is)) in
     (omega (arith, start.requires.0), fine_at start.requires.1 operand5.operand-in-31-2.result bind.bind-deeper.result (omega arith) bind.bind-deeper.ensures.room))
     (λ c κs. (c.before.before.before.requires.1.low, omega arith))
     (λ c κs.
     let match_at = c.before.before in
     let get = match_at.before in
     let start = get.before in
-    (call_a start.requires get.get-kind.result c.operand-in-40.result get.get-kind.ensures c.operand-in-40.ensures (⊎_elim (λ e. omega (arith, e)) (λ e. omega (arith, e)) match_at.in_default-1.keys3)
-    (⊎_elim (λ e. omega (arith, e)) (λ e. omega (arith, e)) match_at.in_default-1.keys3)).1)
+    (call_a start.requires get.get-kind.result c.operand-in-40.result get.get-kind.ensures c.operand-in-40.ensures (⊎_elim (λ e. omega (arith, e)) (λ e. omega (arith, e)) match_at.in-40.is)
+    (⊎_elim (λ e. omega (arith, e)) (λ e. omega (arith, e)) match_at.in-40.is)).1)
     (λ c κs.
     let start = c.before.before.before.before.before.before in
     start.requires.1.low)
@@ -134,7 +134,7 @@ pub +evaluate-spec : {M : Type 1} → statement M
     let match_at = c.before.before.before.before.before in
     let get = match_at.before in
     let start = get.before in
-    call_b start.requires get.get-kind.result c.operand-in-50.result get.get-kind.ensures c.operand-in-50.ensures (omega (arith, match_at.in_default-1.keys4)))
+    call_b start.requires get.get-kind.result c.operand-in-50.result get.get-kind.ensures c.operand-in-50.ensures (omega (arith, match_at.in-50.is)))
     (λ c κs.
     let start = c.before.before.before.before.before in
     (start.requires.1.low, omega arith))
@@ -185,7 +185,7 @@ pub +evaluate-spec : {M : Type 1} → statement M
     let start = get.before in
     evaluate_false start.args.rows.now start.args.row start.args.env.now start.args.depth start.args.state.now
     eval.eval-x.new.state evaluate2.evaluate-over-in-25.new.state put_tag2.put_tag-in-25.new.state eval.eval-x.result evaluate2.evaluate-over-in-25.result is_true.is_true.result
-    is_true.is_true.ensures operand.operand.result operand3.operand-in-25.result (sym get.get-kind.ensures ∙ match_at.in_default-1.keys1)
+    is_true.is_true.ensures operand.operand.result operand3.operand-in-25.result (sym get.get-kind.ensures ∙ match_at.in-25.is)
     operand.operand.ensures eval.eval-x.ensures evaluate2.evaluate-over-in-25.ensures if1.if-is_true.false operand3.operand-in-25.ensures
     put_tag2.put_tag-in-25.ensures)
     (λ c.
@@ -202,7 +202,7 @@ pub +evaluate-spec : {M : Type 1} → statement M
     eval2.eval-x-in-31.new.state put_value.put_value.new.state evaluate3.evaluate-over-in-31.new.state bind.bind-deeper.new.env bind.bind-deeper.result
     eval2.eval-x-in-31.result evaluate3.evaluate-over-in-31.result operand4.operand-in-31.result operand5.operand-in-31-2.result operand4.operand-in-31.ensures
     operand5.operand-in-31-2.ensures eval2.eval-x-in-31.ensures put_value.put_value.ensures bind.bind-deeper.ensures evaluate3.evaluate-over-in-31.ensures
-    (sym get.get-kind.ensures ∙ match_at.in_default-1.keys2))
+    (sym get.get-kind.ensures ∙ match_at.in-31.is))
     (λ c.
     let eval3 = c.before.before in
     let operand6 = eval3.before in
@@ -211,7 +211,7 @@ pub +evaluate-spec : {M : Type 1} → statement M
     let start = get.before in
     evaluate_content start.args.rows.now start.args.row start.args.env.now start.args.depth start.args.state.now
     eval3.eval-x-in-40.new.state c.put_value-in-40.new.state operand6.operand-in-40.result eval3.eval-x-in-40.result operand6.operand-in-40.ensures
-    eval3.eval-x-in-40.ensures c.put_value-in-40.ensures (subst (OneOf content_kinds) get.get-kind.ensures match_at.in_default-1.keys3))
+    eval3.eval-x-in-40.ensures c.put_value-in-40.ensures (subst (OneOf content_kinds) get.get-kind.ensures match_at.in-40.is))
     (λ c.
     let operand7 = c.before in
     let put_touches = operand7.before.before in
@@ -221,7 +221,7 @@ pub +evaluate-spec : {M : Type 1} → statement M
     let start = get.before in
     evaluate_gate start.args.rows.now start.args.row start.args.env.now start.args.depth start.args.state.now
     put_touches.put_touches.new.state c.evaluate.new.state operand7.operand-in-50.result get2.get.result c.evaluate.result operand7.operand-in-50.ensures
-    get2.get.ensures put_touches.put_touches.ensures c.evaluate.ensures (sym get.get-kind.ensures ∙ match_at.in_default-1.keys4))
+    get2.get.ensures put_touches.put_touches.ensures c.evaluate.ensures (sym get.get-kind.ensures ∙ match_at.in-50.is))
     (λ c.
     let evaluate5 = c.before.before in
     let operand8 = evaluate5.before in

@@ -39,8 +39,8 @@ value_below t = and 2 value-kinds.ps (falls 2 value-kinds.ps ◌<◌ μ_value t)
 abbrev value_calls : ℕ → value-lts.Claims
 value_calls t = (handed_on-reads.Asked, handed_on-reads.Learnt, operand-reads.Asked, operand-reads.Learnt, value_below t, value.Post, get-reads.Asked, get-reads.Learnt, read-value-reads.Asked, read-value-reads.Learnt, some-reads.Asked, some-reads.Learnt, read-reads.Asked, read-reads.Learnt, none_reads.Asked, none_reads.Learnt, both-reads.Asked, both-reads.Learnt)
 
-pub +value-spec : {M : Type 1} → statement M
-+value-spec = close μ_value λ t. value-lts.spec (value_calls t) (value_at_lem t)
+pub +value_spec : {M : Type 1} → statement M
++value_spec = close μ_value λ t. value-lts.spec (value_calls t) (value_at_lem t)
     value.Post
     (λ c κs. c.requires.1.low)
     (λ c κs. (c.before.before.requires.1.low, c.before.handed_on-k.ensures.low))
@@ -77,7 +77,7 @@ pub +value-spec : {M : Type 1} → statement M
     let get = match_at.before in
     let start = get.before.before.before in
     subst (ValueOk start.args.rows.now start.args.state.now start.args.row) (sym c.some-then-read-eq-ONE.ensures)
-    (value_entered start.args.rows.now start.args.state.now start.args.row read_value2.read_value-then-read-eq-ONE.result (sym get.get-kind.ensures ∙ match_at.in_default.keys2) (sym read.read.ensures ∙ if2.if-read-eq-ONE.true) read_value2.read_value-then-read-eq-ONE.ensures))
+    (value_entered start.args.rows.now start.args.state.now start.args.row read_value2.read_value-then-read-eq-ONE.result (sym get.get-kind.ensures ∙ match_at.in-41.is) (sym read.read.ensures ∙ if2.if-read-eq-ONE.true) read_value2.read_value-then-read-eq-ONE.ensures))
     (λ c κs. search rules)
     (λ c κs.
     let start = c.before.before.before.before in
@@ -86,7 +86,7 @@ pub +value-spec : {M : Type 1} → statement M
     let match_at = c.before in
     let get = match_at.before in
     let start = get.before.before.before in
-    let h = low_a start.requires.1 get.get-kind.result c.operand-cell.result get.get-kind.ensures c.operand-cell.ensures (omega (arith, match_at.in_default.keys3)) (omega (arith, match_at.in_default.keys3)) in
+    let h = low_a start.requires.1 get.get-kind.result c.operand-cell.result get.get-kind.ensures c.operand-cell.ensures (omega (arith, match_at.in-42.is)) (omega (arith, match_at.in-42.is)) in
     let l = start.requires.1.low in
     omega arith)
     (λ c κs. search rules)
@@ -97,7 +97,7 @@ pub +value-spec : {M : Type 1} → statement M
     let match_at = c.before in
     let get = match_at.before in
     let start = get.before.before.before in
-    call_a start.requires get.get-kind.result c.operand-in-46.result get.get-kind.ensures c.operand-in-46.ensures (omega (arith, match_at.in_default.keys4)) (omega (arith, match_at.in_default.keys4)))
+    call_a start.requires get.get-kind.result c.operand-in-46.result get.get-kind.ensures c.operand-in-46.ensures (omega (arith, match_at.in-46.is)) (omega (arith, match_at.in-46.is)))
     (λ c κs.
     let start = c.before.before.before.before.before.before in
     (start.requires.1.low, omega arith))
@@ -105,7 +105,7 @@ pub +value-spec : {M : Type 1} → statement M
     let match_at = c.before.before.before in
     let get = match_at.before in
     let start = get.before.before.before in
-    call_b start.requires get.get-kind.result c.operand-in-46-2.result get.get-kind.ensures c.operand-in-46-2.ensures (omega (arith, match_at.in_default.keys4)))
+    call_b start.requires get.get-kind.result c.operand-in-46-2.result get.get-kind.ensures c.operand-in-46-2.ensures (omega (arith, match_at.in-46.is)))
     (λ c κs. search rules)
     (λ c κs.
     let start = c.before.before.before.before in
@@ -114,7 +114,7 @@ pub +value-spec : {M : Type 1} → statement M
     let match_at = c.before in
     let get = match_at.before in
     let start = get.before.before.before in
-    call_a start.requires get.get-kind.result c.operand-in-47.result get.get-kind.ensures c.operand-in-47.ensures (omega (arith, match_at.in_default.keys5)) (omega (arith, match_at.in_default.keys5)))
+    call_a start.requires get.get-kind.result c.operand-in-47.result get.get-kind.ensures c.operand-in-47.ensures (omega (arith, match_at.in-47.is)) (omega (arith, match_at.in-47.is)))
     (λ c.
     let value4 = c.before in
     let operand5 = value4.before in
@@ -124,7 +124,7 @@ pub +value-spec : {M : Type 1} → statement M
     let handed_on = if1.before in
     let start = handed_on.before in
     value_first start.args.rows.now start.args.state.now start.args.row operand5.operand-in-47.result operand5.operand-in-47.ensures
-    (handed_on.handed_on-k.ensures.none if1.if-k-ne0.false) (sym get.get-kind.ensures ∙ match_at.in_default.keys5) value4.value-left.result
+    (handed_on.handed_on-k.ensures.none if1.if-k-ne0.false) (sym get.get-kind.ensures ∙ match_at.in-47.is) value4.value-left.result
     value4.value-left.ensures c.if-left.true)
     (λ c κs.
     let start = c.before.before.before.before.before.before.before in
@@ -133,7 +133,7 @@ pub +value-spec : {M : Type 1} → statement M
     let match_at = c.before.before.before.before in
     let get = match_at.before in
     let start = get.before.before.before in
-    call_b start.requires get.get-kind.result c.operand-in-47-2.result get.get-kind.ensures c.operand-in-47-2.ensures (omega (arith, match_at.in_default.keys5)))
+    call_b start.requires get.get-kind.result c.operand-in-47-2.result get.get-kind.ensures c.operand-in-47-2.ensures (omega (arith, match_at.in-47.is)))
     (λ c κs. search rules)
     (λ c.
     let read_value = c.before in
@@ -141,7 +141,7 @@ pub +value-spec : {M : Type 1} → statement M
     let get = match_at.before in
     let start = get.before.before.before in
     subst (ValueOk start.args.rows.now start.args.state.now start.args.row) (sym c.some.ensures)
-    (value_content start.args.rows.now start.args.state.now start.args.row read_value.read_value.result (subst (OneOf content_kinds) get.get-kind.ensures match_at.in_default.keys1) read_value.read_value.ensures))
+    (value_content start.args.rows.now start.args.state.now start.args.row read_value.read_value.result (subst (OneOf content_kinds) get.get-kind.ensures match_at.in-40.is) read_value.read_value.ensures))
     (λ c.
     let if2 = c.before in
     let read = if2.before in
@@ -149,7 +149,7 @@ pub +value-spec : {M : Type 1} → statement M
     let get = match_at.before in
     let start = get.before.before.before in
     subst (ValueOk start.args.rows.now start.args.state.now start.args.row) (sym c.none.ensures)
-    (value_blank start.args.rows.now start.args.state.now start.args.row (sym get.get-kind.ensures ∙ match_at.in_default.keys2) (λ e. if2.if-read-eq-ONE.false (read.read.ensures ∙ e))))
+    (value_blank start.args.rows.now start.args.state.now start.args.row (sym get.get-kind.ensures ∙ match_at.in-41.is) (λ e. if2.if-read-eq-ONE.false (read.read.ensures ∙ e))))
     (λ c.
     let read_value3 = c.before in
     let operand2 = read_value3.before in
@@ -157,7 +157,7 @@ pub +value-spec : {M : Type 1} → statement M
     let get = match_at.before in
     let start = get.before.before.before in
     subst (ValueOk start.args.rows.now start.args.state.now start.args.row) (sym c.some-in-42.ensures)
-    (value_shared start.args.rows.now start.args.state.now start.args.row operand2.operand-cell.result read_value3.read_value-in-42.result (sym get.get-kind.ensures ∙ match_at.in_default.keys3) operand2.operand-cell.ensures read_value3.read_value-in-42.ensures))
+    (value_shared start.args.rows.now start.args.state.now start.args.row operand2.operand-cell.result read_value3.read_value-in-42.result (sym get.get-kind.ensures ∙ match_at.in-42.is) operand2.operand-cell.ensures read_value3.read_value-in-42.ensures))
     (λ c.
     let value3 = c.before in
     let operand4 = value3.before in
@@ -168,7 +168,7 @@ pub +value-spec : {M : Type 1} → statement M
     let start = get.before.before.before in
     value_both start.args.rows.now start.args.state.now start.args.row operand3.operand-in-46.result operand3.operand-in-46.ensures
     operand4.operand-in-46-2.result value2.value-x.result value3.value-y.result c.both.result
-    (sym get.get-kind.ensures ∙ match_at.in_default.keys4) operand4.operand-in-46-2.ensures value2.value-x.ensures value3.value-y.ensures
+    (sym get.get-kind.ensures ∙ match_at.in-46.is) operand4.operand-in-46-2.ensures value2.value-x.ensures value3.value-y.ensures
     c.both.ensures)
     (λ c.
     let operand6 = c.before in
@@ -181,7 +181,7 @@ pub +value-spec : {M : Type 1} → statement M
     let handed_on = if1.before in
     let start = handed_on.before in
     value_else start.args.rows.now start.args.state.now start.args.row operand5.operand-in-47.result operand5.operand-in-47.ensures
-    (handed_on.handed_on-k.ensures.none if1.if-k-ne0.false) (sym get.get-kind.ensures ∙ match_at.in_default.keys5) value4.value-left.result
+    (handed_on.handed_on-k.ensures.none if1.if-k-ne0.false) (sym get.get-kind.ensures ∙ match_at.in-47.is) value4.value-left.result
     value4.value-left.ensures operand6.operand-in-47-2.result c.value-in-47.result operand6.operand-in-47-2.ensures if3.if-left.false c.value-in-47.ensures)
     (λ c.
     let match_at = c.before in

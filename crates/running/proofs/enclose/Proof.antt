@@ -14,7 +14,7 @@ enclose_spec = tie.close (tie.spec
     (λ c.
     let match_at = c.before.before in
     let get = match_at.before in
-    under_let (sym get.get-kind.ensures ∙ match_at.in_default-1.keys1) c.bind.ensures)
+    under_let (sym get.get-kind.ensures ∙ match_at.in-31.is) c.bind.ensures)
     (λ c.
     let get = c.before.before.before.before.before in
     let g = get.get-kind.ensures in

@@ -19,7 +19,7 @@ handed_on_spec = tie.close (tie.spec
     let get = read.before in
     let g = get.get-kind.ensures in
     let t = read.read-tag.ensures in
-    handed_left (omega arith) (omega arith) (sym t ∙ match_at.in_default.keys1))
+    handed_left (omega arith) (omega arith) (sym t ∙ match_at.in-2.is))
     (λ c.
     let match2 = c.before in
     let if1 = match2.before.before in
@@ -50,8 +50,8 @@ handed_on_spec = tie.close (tie.spec
     let get = read.before in
     let g = get.get-kind.ensures in
     let t = read.read-tag.ensures in
-    let x = sym t ∙ match_at.in_default.keys1 in
-    ⊎_elim (λ e. handed_true (sym g ∙ e) x) (λ e. handed_let (sym g ∙ e) x) c.in_default-1.keys1)
+    let x = sym t ∙ match_at.in-2.is in
+    ⊎_elim (λ e. handed_true (sym g ∙ e) x) (λ e. handed_let (sym g ∙ e) x) c.in-2.is)
     (λ c.
     let match_at = c.before.before.before in
     let if1 = match_at.before in
@@ -59,7 +59,7 @@ handed_on_spec = tie.close (tie.spec
     let get = read.before in
     let g = get.get-kind.ensures in
     let t = read.read-tag.ensures in
-    handed_step (omega arith) (omega arith) (sym t ∙ match_at.in_default.keys1))
+    handed_step (omega arith) (omega arith) (sym t ∙ match_at.in-2.is))
     (λ c.
     let match_at = c.before in
     let if1 = match_at.before in
@@ -67,7 +67,7 @@ handed_on_spec = tie.close (tie.spec
     let get = read.before in
     let g = get.get-kind.ensures in
     let t = read.read-tag.ensures in
-    handed_false (sym g ∙ c.in_default-1.keys1) (sym t ∙ match_at.in_default.keys2))
+    handed_false (sym g ∙ c.in-2.is) (sym t ∙ match_at.in-3.is))
     (λ c.
     let match_at = c.before.before.before in
     let if1 = match_at.before in
@@ -75,7 +75,7 @@ handed_on_spec = tie.close (tie.spec
     let get = read.before in
     let g = get.get-kind.ensures in
     let t = read.read-tag.ensures in
-    handed_right (omega arith) (omega arith) (sym t ∙ match_at.in_default.keys2))
+    handed_right (omega arith) (omega arith) (sym t ∙ match_at.in-3.is))
     (λ c.
     let match3 = c.before in
     let if1 = match3.before.before in

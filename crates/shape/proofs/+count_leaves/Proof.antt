@@ -25,8 +25,8 @@ count_leaves_below t =
     (falls 0 count-leaves-kinds.ps ◌<◌ μ_count_leaves t)
     count_leaves.Pre
 
-pub +count-leaves-spec : {M : Type 1} → statement M
-+count-leaves-spec = close μ_count_leaves λ t. count-leaves-lts.spec (
+pub +count_leaves_spec : {M : Type 1} → statement M
++count_leaves_spec = close μ_count_leaves λ t. count-leaves-lts.spec (
   count_leaves_below t,
   count_leaves.Post,
 )

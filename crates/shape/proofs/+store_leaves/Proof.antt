@@ -26,8 +26,8 @@ store_leaves_below t =
     (falls 0 store-leaves-kinds.ps ◌<◌ μ_store_leaves t)
     store-leaves.Pre
 
-pub +store-leaves-spec : {M : Type 1} → statement M
-+store-leaves-spec = close μ_store_leaves λ t. store-leaves-lts.spec (
+pub +store_leaves_spec : {M : Type 1} → statement M
++store_leaves_spec = close μ_store_leaves λ t. store-leaves-lts.spec (
   store_leaves_below t,
   store-leaves.Post,
 )

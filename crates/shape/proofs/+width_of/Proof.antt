@@ -20,8 +20,8 @@ abbrev width_of_below : ℕ → In 0 width-of-kinds.ps
 width_of_below t =
     and 0 width-of-kinds.ps (falls 0 width-of-kinds.ps ◌<◌ μ_width_of t) width_of_lem.Pre
 
-pub +width-of-spec : {M : Type 1} → statement M
-+width-of-spec =
+pub +width_of_spec : {M : Type 1} → statement M
++width_of_spec =
     close
     μ_width_of
     λ t. width-of-lts.spec
@@ -35,5 +35,5 @@ pub +width-of-spec : {M : Type 1} → statement M
     let if1 = c.before in
     let start = if1.before in
     omega
-    (arith, width_fits start.args.n start.requires.1, width_more start.args.n c.width_of_lem.result if1.if-n-lt2.false c.width_of_lem.ensures.0))
-    (λ c. (width_more c.before.before.args.n c.width_of_lem.result c.before.if-n-lt2.false c.width_of_lem.ensures.0, omega arith))
+    (arith, width_fits start.args.n start.requires.1, width_more start.args.n c.width_of.result if1.if-n-lt2.false c.width_of.ensures.0))
+    (λ c. (width_more c.before.before.args.n c.width_of.result c.before.if-n-lt2.false c.width_of.ensures.0, omega arith))

@@ -8,12 +8,12 @@ pub first_shape_spec : {M : Type 1} → statement M
 first_shape_spec =
     tie.close (tie.spec
     (λ c κs. search rules)
-    (λ c. first_no c.before.before.args.shape (omega (arith, c.if-leaves_of-lt2.true, c.before.Leaves-of.ensures.0)))
+    (λ c. first_no c.before.before.args.shape (omega (arith, c.if-leaves_of-lt2.true, c.before.leaves_of.ensures.0)))
     (λ c κs. search rules)
     (λ c. search rules)
     (λ c.
     let if1 = c.before in
     let Leaves-of = if1.before in
     let start = Leaves-of.before in
-    first_yes start.args.shape c.first_width-w.result (omega (arith, if1.if-leaves_of-lt2.false, Leaves-of.Leaves-of.ensures.0))
+    first_yes start.args.shape c.first_width-w.result (omega (arith, if1.if-leaves_of-lt2.false, Leaves-of.leaves_of.ensures.0))
     c.first_width-w.ensures.0))

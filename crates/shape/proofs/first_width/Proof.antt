@@ -11,4 +11,4 @@ pub first_width_spec : {M : Type 1} → statement M
 first_width_spec = tie.close (tie.spec
     (λ c κs. search rules)
     (λ c κs. omega (arith, first_leaves c.before.args.c c.before.requires, c.count_leaves.ensures.0))
-    (λ c. (c.width_of_lem.ensures.0 ∙ ap width c.before.count_leaves.ensures.0, c.width_of_lem.ensures.1)))
+    (λ c. (c.width_of.ensures.0 ∙ ap width c.before.count_leaves.ensures.0, c.width_of.ensures.1)))

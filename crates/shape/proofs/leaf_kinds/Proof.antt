@@ -8,10 +8,10 @@ use Rattle.shape.proofs.leaf_kinds.Tie as tie
 pub leaf_kinds_spec : {M : Type 1} → statement M
 leaf_kinds_spec = tie.close (tie.spec
     (λ c κs. search rules)
-    (λ c. kinds_none c.before.before.args.shape (sym c.before.Leaves-of.ensures.0 ∙ c.if-leaves_of-eq0.true))
-    (λ c κs. omega (arith, kinds_room c.before.before.args.shape (λ e. c.if-leaves_of-eq0.false (c.before.Leaves-of.ensures.0 ∙ e))))
+    (λ c. kinds_none c.before.before.args.shape (sym c.before.leaves_of.ensures.0 ∙ c.if-leaves_of-eq0.true))
+    (λ c κs. omega (arith, kinds_room c.before.before.args.shape (λ e. c.if-leaves_of-eq0.false (c.before.leaves_of.ensures.0 ∙ e))))
     (λ c.
     let if1 = c.before in
     let Leaves-of = if1.before in
     let start = Leaves-of.before in
-    c.store_leaves.ensures ∙ kinds_yes start.args.shape (λ e. if1.if-leaves_of-eq0.false (Leaves-of.Leaves-of.ensures.0 ∙ e))))
+    c.store_leaves.ensures ∙ kinds_yes start.args.shape (λ e. if1.if-leaves_of-eq0.false (Leaves-of.leaves_of.ensures.0 ∙ e))))

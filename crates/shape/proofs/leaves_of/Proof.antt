@@ -19,10 +19,10 @@ leaves_of_spec =
     let count_leaves = if1.before in
     let start = count_leaves.before in
     let n = count_leaves.count_leaves-n in
-    (leaves_yes start.args.shape n.result n.ensures.0 if1.if-n-gt-MAX_LEAVES.false (omega (arith, c.if-shape-width_of.true, width_of_lem.width_of_lem.ensures.0)), if1.if-n-gt-MAX_LEAVES.false))
+    (leaves_yes start.args.shape n.result n.ensures.0 if1.if-n-gt-MAX_LEAVES.false (omega (arith, c.if-shape-width_of.true, width_of_lem.width_of.ensures.0)), if1.if-n-gt-MAX_LEAVES.false))
     (λ c.
     let width_of_lem = c.before in
     let count_leaves = width_of_lem.before.before in
     let start = count_leaves.before in
     let n = count_leaves.count_leaves-n in
-    (leaves_wide start.args.shape n.result n.ensures.0 (omega (arith, c.if-shape-width_of.false, width_of_lem.width_of_lem.ensures.0)), omega arith)))
+    (leaves_wide start.args.shape n.result n.ensures.0 (omega (arith, c.if-shape-width_of.false, width_of_lem.width_of.ensures.0)), omega arith)))

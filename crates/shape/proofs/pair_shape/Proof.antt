@@ -12,7 +12,7 @@ pair_shape_spec =
     (λ c.
     let Leaves-of = c.before in
     let start = Leaves-of.before in
-    pair_left start.args.a start.args.b (sym Leaves-of.Leaves-of.ensures.0 ∙ c.if-m-eq0.true))
+    pair_left start.args.a start.args.b (sym Leaves-of.leaves_of-m.ensures.0 ∙ c.if-m-eq0.true))
     (λ c κs. search rules)
     (λ c.
     let leaves_of2 = c.before in
@@ -25,7 +25,7 @@ pair_shape_spec =
     let if1 = leaves_of2.before in
     let Leaves-of = if1.before in
     let start = Leaves-of.before in
-    let m = Leaves-of.Leaves-of in
+    let m = Leaves-of.leaves_of-m in
     let n = leaves_of2.leaves_of-n in
     pair_over start.args.a start.args.b m.result n.result m.ensures.0 n.ensures.0 if1.if-m-eq0.false if2.if-n-eq0.false
     c.if-m-n-gt-MAX_LEAVES.true)
@@ -37,10 +37,10 @@ pair_shape_spec =
     let if1 = leaves_of2.before in
     let Leaves-of = if1.before in
     let start = Leaves-of.before in
-    let m = Leaves-of.Leaves-of in
+    let m = Leaves-of.leaves_of-m in
     let n = leaves_of2.leaves_of-n in
     pair_fits start.args.a start.args.b m.result n.result m.ensures.0 n.ensures.0 if1.if-m-eq0.false if2.if-n-eq0.false
-    c.width_of_lem.result c.width_of_lem.ensures.0 if3.if-m-n-gt-MAX_LEAVES.false)
+    c.width_of.result c.width_of.ensures.0 if3.if-m-n-gt-MAX_LEAVES.false)
     (λ c.
     let width_of_lem = c.before in
     let if3 = width_of_lem.before in
@@ -49,8 +49,8 @@ pair_shape_spec =
     let if1 = leaves_of2.before in
     let Leaves-of = if1.before in
     let start = Leaves-of.before in
-    let m = Leaves-of.Leaves-of in
+    let m = Leaves-of.leaves_of-m in
     let n = leaves_of2.leaves_of-n in
-    let w = width_of_lem.width_of_lem in
+    let w = width_of_lem.width_of in
     c.joined.ensures ∙ pair_yes start.args.a start.args.b m.result n.result m.ensures.0 n.ensures.0 if1.if-m-eq0.false
     if2.if-n-eq0.false w.result w.ensures.0 if3.if-m-n-gt-MAX_LEAVES.false))

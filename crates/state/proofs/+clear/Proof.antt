@@ -25,8 +25,8 @@ clear_at t = and 2 clear-kinds.ps (is 2 clear-kinds.ps μ_clear t) clear.Pre
 abbrev clear_below : ℕ → In 2 clear-kinds.ps
 clear_below t = and 2 clear-kinds.ps (falls 2 clear-kinds.ps ◌<◌ μ_clear t) clear.Pre
 
-pub +clear-spec : {M : Type 1} → statement M
-+clear-spec = close μ_clear λ t. clear-lts.spec (
+pub +clear_spec : {M : Type 1} → statement M
++clear_spec = close μ_clear λ t. clear-lts.spec (
   get-reads.Asked,
   get-reads.Learnt,
   operand-reads.Asked,
@@ -45,7 +45,7 @@ pub +clear-spec : {M : Type 1} → statement M
     let match_at = operand.before in
     let get = match_at.before in
     let start = get.before in
-    let h = low_b start.requires.1 get.get-kind.result operand.operand-b.result get.get-kind.ensures operand.operand-b.ensures (omega (arith, match_at.in_default-1.keys1)) in
+    let h = low_b start.requires.1 get.get-kind.result operand.operand-b.result get.get-kind.ensures operand.operand-b.ensures (omega (arith, match_at.in-25.is)) in
     (omega (arith, start.requires.0), fine_at start.requires.1 _ _ (omega arith) start.requires.1.room))
     (λ c κs. search rules)
     (λ c κs.
@@ -53,7 +53,7 @@ pub +clear-spec : {M : Type 1} → statement M
     let match_at = operand2.before.before.before.before in
     let get = match_at.before in
     let start = get.before in
-    let h = low_c start.requires.1 get.get-kind.result operand2.operand-c.result get.get-kind.ensures operand2.operand-c.ensures (omega (arith, match_at.in_default-1.keys1)) (omega (arith, match_at.in_default-1.keys1)) in
+    let h = low_c start.requires.1 get.get-kind.result operand2.operand-c.result get.get-kind.ensures operand2.operand-c.ensures (omega (arith, match_at.in-25.is)) (omega (arith, match_at.in-25.is)) in
     (omega (arith, start.requires.0), fine_at start.requires.1 _ _ (omega arith) start.requires.1.room))
     (λ c κs.
     let start = c.before.before.before.before.before.before.before.before.before in
@@ -66,7 +66,7 @@ pub +clear-spec : {M : Type 1} → statement M
     let match_at = operand.before in
     let get = match_at.before in
     let start = get.before in
-    clear_if start.args.rows.now start.args.row (sym get.get-kind.ensures ∙ match_at.in_default-1.keys1) operand.operand-b.ensures
+    clear_if start.args.rows.now start.args.row (sym get.get-kind.ensures ∙ match_at.in-25.is) operand.operand-b.ensures
     operand2.operand-c.ensures clear.clear.ensures clear2.clear-in-25.ensures c.clear_row.ensures)
     (λ c κs. search rules)
     (λ c κs.
@@ -74,7 +74,7 @@ pub +clear-spec : {M : Type 1} → statement M
     let match_at = operand3.before in
     let get = match_at.before in
     let start = get.before in
-    let h = low_b start.requires.1 get.get-kind.result operand3.operand-b-in-31.result get.get-kind.ensures operand3.operand-b-in-31.ensures (⊎_elim (λ e. omega (arith, e)) (λ e. omega (arith, e)) match_at.in_default-1.keys2) in
+    let h = low_b start.requires.1 get.get-kind.result operand3.operand-b-in-31.result get.get-kind.ensures operand3.operand-b-in-31.ensures (⊎_elim (λ e. omega (arith, e)) (λ e. omega (arith, e)) match_at.in-31.is) in
     (omega (arith, start.requires.0), fine_at start.requires.1 _ _ (omega arith) start.requires.1.room))
     (λ c κs.
     let start = c.before.before.before.before.before.before in
@@ -91,13 +91,13 @@ pub +clear-spec : {M : Type 1} → statement M
     ⊎_elim
     (λ e. clear_let rs i (q ∙ e) operand3.operand-b-in-31.ensures clear3.clear-in-31.ensures c.clear_row-in-31.ensures)
     (λ e. clear_gate rs i (q ∙ e) operand3.operand-b-in-31.ensures clear3.clear-in-31.ensures c.clear_row-in-31.ensures)
-    match_at.in_default-1.keys2)
+    match_at.in-31.is)
     (λ c κs. c.before.before.before.requires.1.low)
     (λ c.
     let match_at = c.before.before in
     let get = match_at.before in
     let start = get.before in
-    let e = sym get.get-kind.ensures ∙ match_at.in_default-1.keys3 in
+    let e = sym get.get-kind.ensures ∙ match_at.in-45.is in
     clear_leaf start.args.rows.now start.args.row (λ z. omega arith) (λ z. omega arith) (λ z. omega arith) (λ x y z. z e) c.clear_row-in-45.ensures)
     (λ c κs. search rules)
     (λ c κs.

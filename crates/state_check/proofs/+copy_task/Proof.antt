@@ -30,8 +30,8 @@ abbrev copy_task_below : ℕ → In 3 copy-task-kinds.ps
 copy_task_below t =
     and 3 copy-task-kinds.ps (falls 3 copy-task-kinds.ps ◌<◌ μ_copy_task t) copy_task.Pre
 
-pub +copy-task-spec : {M : Type 1} → statement M
-+copy-task-spec = close μ_copy_task λ t. copy-task-lts.spec (
+pub +copy_task_spec : {M : Type 1} → statement M
++copy_task_spec = close μ_copy_task λ t. copy-task-lts.spec (
   read-reads.Asked,
   read-reads.Learnt,
   part-at-reads.Asked,
@@ -63,7 +63,7 @@ pub +copy-task-spec : {M : Type 1} → statement M
     let part = c.before in
     let part_at = part.before.before in
     let start = part_at.before.before in
-    let h = lower_as start.args.row part_at.part_at-part.ensures.1 part.part-1.given.1 in
+    let h = lower_as start.args.row part_at.part_at-part.ensures.1 part.in-Filled.is in
     let m = start.requires.1.low in
     omega arith)
     (λ c κs.
@@ -77,14 +77,14 @@ pub +copy-task-spec : {M : Type 1} → statement M
     let part2 = c.before.before.before.before in
     let part_at = part2.before.before in
     let start = part_at.before.before in
-    call_lower start.requires part2.part-in-Below-1.given.0.0 start.args.depth
-    (lower_as start.args.row part_at.part_at-part.ensures.1 part2.part-in-Below-1.given.1) start.requires.1.room)
+    call_lower start.requires part2.in-Below.k start.args.depth
+    (lower_as start.args.row part_at.part_at-part.ensures.1 part2.in-Below.is) start.requires.1.room)
     (λ c. search rules)
     (λ c κs.
     let part3 = c.before in
     let part_at = part3.before.before in
     let start = part_at.before.before in
-    let h = (lower_as start.args.row part_at.part_at-part.ensures.1 part3.part-in-Bound-1.given.1).0 in
+    let h = (lower_as start.args.row part_at.part_at-part.ensures.1 part3.in-Bound.is).0 in
     let m = start.requires.1.low in
     omega arith)
     (λ c κs.
@@ -98,8 +98,8 @@ pub +copy-task-spec : {M : Type 1} → statement M
     let part_at = part3.before.before in
     let start = part_at.before.before in
     let m = if2.if-depth-lt-MAX_BINDERS.true in
-    call_lower start.requires part3.part-in-Bound-1.given.0.1.0 (start.args.depth + 1)
-    (lower_as start.args.row part_at.part_at-part.ensures.1 part3.part-in-Bound-1.given.1).1 (omega arith))
+    call_lower start.requires part3.in-Bound.b (start.args.depth + 1)
+    (lower_as start.args.row part_at.part_at-part.ensures.1 part3.in-Bound.is).1 (omega arith))
     (λ c.
     let bound = c.before.before in
     let if1 = bound.before.before in
@@ -110,7 +110,7 @@ pub +copy-task-spec : {M : Type 1} → statement M
     let read = part_at.before in
     let start = read.before in
     copy_bound start.args.rows.now start.args.state.now start.args.work.now start.args.row start.args.env start.args.depth
-    read.read-tag.result part_at.part_at-part.result read.read-tag.ensures part_at.part_at-part.ensures.0 part3.part-in-Bound-1.given.1
+    read.read-tag.result part_at.part_at-part.result read.read-tag.ensures part_at.part_at-part.ensures.0 part3.in-Bound.is
     row_type2.row_type-t-in-Bound.ensures copy_value2.copy_value-in-Bound.ensures if1.if-copy_value.true bound.bound-inner.ensures c.copy_task-then-depth-lt-MAX_BINDERS.ensures)
     (λ c.
     let copy_value2 = c.before.before in
@@ -120,7 +120,7 @@ pub +copy-task-spec : {M : Type 1} → statement M
     let read = part_at.before in
     let start = read.before in
     copy_deep start.args.rows.now start.args.state.now start.args.work.now start.args.row start.args.env start.args.depth
-    read.read-tag.result part_at.part_at-part.result read.read-tag.ensures part_at.part_at-part.ensures.0 part3.part-in-Bound-1.given.1
+    read.read-tag.result part_at.part_at-part.result read.read-tag.ensures part_at.part_at-part.ensures.0 part3.in-Bound.is
     row_type2.row_type-t-in-Bound.ensures copy_value2.copy_value-in-Bound.ensures c.if-depth-lt-MAX_BINDERS.false)
     (λ c. search rules)
     (λ c κs.
@@ -130,14 +130,14 @@ pub +copy-task-spec : {M : Type 1} → statement M
     let part4 = c.before.before.before.before in
     let part_at = part4.before.before in
     let start = part_at.before.before in
-    call_lower start.requires part4.part-in-Two-1.given.0.0 start.args.depth
-    (lower_as start.args.row part_at.part_at-part.ensures.1 part4.part-in-Two-1.given.1).0 start.requires.1.room)
+    call_lower start.requires part4.in-Two.a start.args.depth
+    (lower_as start.args.row part_at.part_at-part.ensures.1 part4.in-Two.is).0 start.requires.1.room)
     (λ c κs.
     let part4 = c.before.before.before.before.before.before.before in
     let part_at = part4.before.before in
     let start = part_at.before.before in
-    call_lower start.requires part4.part-in-Two-1.given.0.1.0 start.args.depth
-    (lower_as start.args.row part_at.part_at-part.ensures.1 part4.part-in-Two-1.given.1).1 start.requires.1.room)
+    call_lower start.requires part4.in-Two.b start.args.depth
+    (lower_as start.args.row part_at.part_at-part.ensures.1 part4.in-Two.is).1 start.requires.1.room)
     (λ c.
     let if3 = c.before.before in
     let copy_task3 = if3.before in
@@ -147,7 +147,7 @@ pub +copy-task-spec : {M : Type 1} → statement M
     let read = part_at.before in
     let start = read.before in
     copy_two start.args.rows.now start.args.state.now start.args.work.now start.args.row start.args.env start.args.depth
-    read.read-tag.result part_at.part_at-part.result read.read-tag.ensures part_at.part_at-part.ensures.0 part4.part-in-Two-1.given.1
+    read.read-tag.result part_at.part_at-part.result read.read-tag.ensures part_at.part_at-part.ensures.0 part4.in-Two.is
     put_tag3.put_tag-in-Two.ensures copy_task3.copy_task-in-Two.ensures if3.if-copy_task.true c.copy_task-then-copy_task.ensures)
     (λ c. search rules)
     (λ c κs.
@@ -157,8 +157,8 @@ pub +copy-task-spec : {M : Type 1} → statement M
     let part5 = c.before.before.before.before.before in
     let part_at = part5.before.before in
     let start = part_at.before.before in
-    call_lower start.requires part5.part-in-Gate-1.given.0.0 start.args.depth
-    (lower_as start.args.row part_at.part_at-part.ensures.1 part5.part-in-Gate-1.given.1) start.requires.1.room)
+    call_lower start.requires part5.in-Gate.b start.args.depth
+    (lower_as start.args.row part_at.part_at-part.ensures.1 part5.in-Gate.is) start.requires.1.room)
     (λ c.
     let if4 = c.before.before in
     let copy_touches = if4.before in
@@ -167,21 +167,21 @@ pub +copy-task-spec : {M : Type 1} → statement M
     let read = part_at.before in
     let start = read.before in
     copy_gate start.args.rows.now start.args.state.now start.args.work.now start.args.row start.args.env start.args.depth
-    read.read-tag.result part_at.part_at-part.result read.read-tag.ensures part_at.part_at-part.ensures.0 part5.part-in-Gate-1.given.1
+    read.read-tag.result part_at.part_at-part.result read.read-tag.ensures part_at.part_at-part.ensures.0 part5.in-Gate.is
     copy_touches.copy_touches.ensures if4.if-copy_touches.true c.copy_task-then-copy_touches.ensures)
     (λ c.
     let part_at = c.before.before in
     let read = part_at.before in
     let start = read.before in
     copy_bad start.args.rows.now start.args.state.now start.args.work.now start.args.row start.args.env start.args.depth
-    read.read-tag.result part_at.part_at-part.result read.read-tag.ensures part_at.part_at-part.ensures.0 c.enum_told-1.given.1)
+    read.read-tag.result part_at.part_at-part.result read.read-tag.ensures part_at.part_at-part.ensures.0 c.in-Bad.is)
     (λ c.
     let enum_told2 = c.before.before in
     let part_at = enum_told2.before.before in
     let read = part_at.before in
     let start = read.before in
     copy_alone start.args.rows.now start.args.state.now start.args.work.now start.args.row start.args.env start.args.depth
-    read.read-tag.result part_at.part_at-part.result read.read-tag.ensures part_at.part_at-part.ensures.0 enum_told2.enum_told-in-Alone-1.given.1
+    read.read-tag.result part_at.part_at-part.result read.read-tag.ensures part_at.part_at-part.ensures.0 enum_told2.in-Alone.is
     c.put_tag.ensures)
     (λ c.
     let row_type = c.before.before in
@@ -190,7 +190,7 @@ pub +copy-task-spec : {M : Type 1} → statement M
     let read = part_at.before in
     let start = read.before in
     copy_filled start.args.rows.now start.args.state.now start.args.work.now start.args.row start.args.env
-    start.args.depth read.read-tag.result part_at.part_at-part.result read.read-tag.ensures part_at.part_at-part.ensures.0 part.part-1.given.1
+    start.args.depth read.read-tag.result part_at.part_at-part.result read.read-tag.ensures part_at.part_at-part.ensures.0 part.in-Filled.is
     row_type.row_type-t.ensures c.copy_value.ensures)
     (λ c.
     let put_tag2 = c.before.before in
@@ -199,7 +199,7 @@ pub +copy-task-spec : {M : Type 1} → statement M
     let read = part_at.before in
     let start = read.before in
     copy_below start.args.rows.now start.args.state.now start.args.work.now start.args.row start.args.env start.args.depth
-    read.read-tag.result part_at.part_at-part.result read.read-tag.ensures part_at.part_at-part.ensures.0 part2.part-in-Below-1.given.1
+    read.read-tag.result part_at.part_at-part.result read.read-tag.ensures part_at.part_at-part.ensures.0 part2.in-Below.is
     put_tag2.put_tag-in-Below.ensures c.copy_task.ensures)
     (λ c.
     let copy_value2 = c.before in
@@ -210,7 +210,7 @@ pub +copy-task-spec : {M : Type 1} → statement M
     let start = read.before in
     copy_unbound start.args.rows.now start.args.state.now start.args.work.now start.args.row start.args.env
     start.args.depth read.read-tag.result part_at.part_at-part.result read.read-tag.ensures part_at.part_at-part.ensures.0
-    part3.part-in-Bound-1.given.1 row_type2.row_type-t-in-Bound.ensures copy_value2.copy_value-in-Bound.ensures c.if-copy_value.false)
+    part3.in-Bound.is row_type2.row_type-t-in-Bound.ensures copy_value2.copy_value-in-Bound.ensures c.if-copy_value.false)
     (λ c.
     let copy_task3 = c.before in
     let put_tag3 = copy_task3.before.before in
@@ -219,7 +219,7 @@ pub +copy-task-spec : {M : Type 1} → statement M
     let read = part_at.before in
     let start = read.before in
     copy_first start.args.rows.now start.args.state.now start.args.work.now start.args.row start.args.env start.args.depth
-    read.read-tag.result part_at.part_at-part.result read.read-tag.ensures part_at.part_at-part.ensures.0 part4.part-in-Two-1.given.1
+    read.read-tag.result part_at.part_at-part.result read.read-tag.ensures part_at.part_at-part.ensures.0 part4.in-Two.is
     put_tag3.put_tag-in-Two.ensures copy_task3.copy_task-in-Two.ensures c.if-copy_task.false)
     (λ c.
     let copy_touches = c.before in
@@ -229,4 +229,4 @@ pub +copy-task-spec : {M : Type 1} → statement M
     let start = read.before in
     copy_ungated start.args.rows.now start.args.state.now start.args.work.now start.args.row start.args.env
     start.args.depth read.read-tag.result part_at.part_at-part.result read.read-tag.ensures part_at.part_at-part.ensures.0
-    part5.part-in-Gate-1.given.1 copy_touches.copy_touches.ensures c.if-copy_touches.false)
+    part5.in-Gate.is copy_touches.copy_touches.ensures c.if-copy_touches.false)

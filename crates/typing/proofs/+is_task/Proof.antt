@@ -20,8 +20,8 @@ is_task_at t = and 1 is-task-kinds.ps (is 1 is-task-kinds.ps μ_is_task t) is_ta
 abbrev is_task_below : ℕ → In 1 is-task-kinds.ps
 is_task_below t = and 1 is-task-kinds.ps (falls 1 is-task-kinds.ps ◌<◌ μ_is_task t) is_task.Pre
 
-pub +is-task-spec : {M : Type 1} → statement M
-+is-task-spec = close μ_is_task λ t. is-task-lts.spec (
+pub +is_task_spec : {M : Type 1} → statement M
++is_task_spec = close μ_is_task λ t. is-task-lts.spec (
   get-reads.Asked,
   get-reads.Learnt,
   operand-reads.Asked,
@@ -42,14 +42,14 @@ pub +is-task-spec : {M : Type 1} → statement M
     let start = get.before in
     let q = start.args in
     task_branch q.rows.now q.row get.get-k.result get.get-k.ensures operand.operand-b.result c.is_task.result
-    match_at.in_default-1.keys1 operand.operand-b.ensures if1.if-b-row.true c.is_task.ensures)
+    match_at.in-25.is operand.operand-b.ensures if1.if-b-row.true c.is_task.ensures)
     (λ c.
     let operand = c.before in
     let match_at = operand.before in
     let get = match_at.before in
     let start = get.before in
     let q = start.args in
-    task_high q.rows.now q.row get.get-k.result get.get-k.ensures operand.operand-b.result match_at.in_default-1.keys1
+    task_high q.rows.now q.row get.get-k.result get.get-k.ensures operand.operand-b.result match_at.in-25.is
     operand.operand-b.ensures c.if-b-row.false)
     (λ c.
     let if2 = c.before in

@@ -32,8 +32,8 @@ abbrev row_type_below : ℕ → In 1 row-type-kinds.ps
 row_type_below t =
     and 1 row-type-kinds.ps (falls 1 row-type-kinds.ps ◌<◌ μ_row_type t) row_type.Pre
 
-pub +row-type-spec : {M : Type 1} → statement M
-+row-type-spec = close μ_row_type λ t. row-type-lts.spec (
+pub +row_type_spec : {M : Type 1} → statement M
++row_type_spec = close μ_row_type λ t. row-type-lts.spec (
   node-at-reads.Asked,
   node-at-reads.Learnt,
   binder-shape-reads.Asked,
@@ -70,13 +70,13 @@ pub +row-type-spec : {M : Type 1} → statement M
     let x2 = c.before in
     let Node-at = x2.before.before in
     let start = Node-at.before in
-    let b = below_as start.args.row Node-at.Node-at.ensures.1 x2.x-in-Op-1.given.1 in
+    let b = below_as start.args.row Node-at.node_at-x.ensures.1 x2.in-Op.is in
     lower_call start.requires.0 start.requires.1 b.0)
     (λ c κs.
     let x2 = c.before.before in
     let Node-at = x2.before.before in
     let start = Node-at.before in
-    let b = below_as start.args.row Node-at.Node-at.ensures.1 x2.x-in-Op-1.given.1 in
+    let b = below_as start.args.row Node-at.node_at-x.ensures.1 x2.in-Op.is in
     lower_call start.requires.0 start.requires.1 b.1)
     (λ c κs. search rules)
     (λ c. search rules)
@@ -84,19 +84,19 @@ pub +row-type-spec : {M : Type 1} → statement M
     let x3 = c.before in
     let Node-at = x3.before.before in
     let start = Node-at.before in
-    let b = below_as start.args.row Node-at.Node-at.ensures.1 x3.x-in-If-1.given.1 in
+    let b = below_as start.args.row Node-at.node_at-x.ensures.1 x3.in-If.is in
     lower_call start.requires.0 start.requires.1 b.0)
     (λ c κs.
     let x3 = c.before.before in
     let Node-at = x3.before.before in
     let start = Node-at.before in
-    let b = below_as start.args.row Node-at.Node-at.ensures.1 x3.x-in-If-1.given.1 in
+    let b = below_as start.args.row Node-at.node_at-x.ensures.1 x3.in-If.is in
     lower_call start.requires.0 start.requires.1 b.1)
     (λ c κs.
     let x3 = c.before.before.before in
     let Node-at = x3.before.before in
     let start = Node-at.before in
-    let b = below_as start.args.row Node-at.Node-at.ensures.1 x3.x-in-If-1.given.1 in
+    let b = below_as start.args.row Node-at.node_at-x.ensures.1 x3.in-If.is in
     lower_call start.requires.0 start.requires.1 b.2)
     (λ c κs. search rules)
     (λ c. search rules)
@@ -104,13 +104,13 @@ pub +row-type-spec : {M : Type 1} → statement M
     let x4 = c.before in
     let Node-at = x4.before.before in
     let start = Node-at.before in
-    let b = below_as start.args.row Node-at.Node-at.ensures.1 x4.x-in-Pair-1.given.1 in
+    let b = below_as start.args.row Node-at.node_at-x.ensures.1 x4.in-Pair.is in
     lower_call start.requires.0 start.requires.1 b.0)
     (λ c κs.
     let x4 = c.before.before in
     let Node-at = x4.before.before in
     let start = Node-at.before in
-    let b = below_as start.args.row Node-at.Node-at.ensures.1 x4.x-in-Pair-1.given.1 in
+    let b = below_as start.args.row Node-at.node_at-x.ensures.1 x4.in-Pair.is in
     lower_call start.requires.0 start.requires.1 b.1)
     (λ c κs. search rules)
     (λ c. search rules)
@@ -118,7 +118,7 @@ pub +row-type-spec : {M : Type 1} → statement M
     let x5 = c.before in
     let Node-at = x5.before.before in
     let start = Node-at.before in
-    let b = below_as start.args.row Node-at.Node-at.ensures.1 x5.x-in-First-1.given.1 in
+    let b = below_as start.args.row Node-at.node_at-x.ensures.1 x5.in-First.is in
     lower_call start.requires.0 start.requires.1 (b))
     (λ c κs. search rules)
     (λ c. search rules)
@@ -126,7 +126,7 @@ pub +row-type-spec : {M : Type 1} → statement M
     let x6 = c.before in
     let Node-at = x6.before.before in
     let start = Node-at.before in
-    let b = below_as start.args.row Node-at.Node-at.ensures.1 x6.x-in-Second-1.given.1 in
+    let b = below_as start.args.row Node-at.node_at-x.ensures.1 x6.in-Second.is in
     lower_call start.requires.0 start.requires.1 (b))
     (λ c κs. search rules)
     (λ c. search rules)
@@ -134,20 +134,20 @@ pub +row-type-spec : {M : Type 1} → statement M
     let x7 = c.before in
     let Node-at = x7.before.before in
     let start = Node-at.before in
-    let b = below_as start.args.row Node-at.Node-at.ensures.1 x7.x-in-Through-1.given.1 in
+    let b = below_as start.args.row Node-at.node_at-x.ensures.1 x7.in-Through.is in
     lower_call start.requires.0 start.requires.1 (b))
     (λ c. search rules)
     (λ c κs.
     let x8 = c.before in
     let Node-at = x8.before.before in
     let start = Node-at.before in
-    let b = below_as start.args.row Node-at.Node-at.ensures.1 x8.x-in-Assign-1.given.1 in
+    let b = below_as start.args.row Node-at.node_at-x.ensures.1 x8.in-Assign.is in
     lower_call start.requires.0 start.requires.1 b.0)
     (λ c κs.
     let x8 = c.before.before in
     let Node-at = x8.before.before in
     let start = Node-at.before in
-    let b = below_as start.args.row Node-at.Node-at.ensures.1 x8.x-in-Assign-1.given.1 in
+    let b = below_as start.args.row Node-at.node_at-x.ensures.1 x8.in-Assign.is in
     lower_call start.requires.0 start.requires.1 b.1)
     (λ c κs. search rules)
     (λ c. search rules)
@@ -155,7 +155,7 @@ pub +row-type-spec : {M : Type 1} → statement M
     let x9 = c.before in
     let Node-at = x9.before.before in
     let start = Node-at.before in
-    let b = below_as start.args.row Node-at.Node-at.ensures.1 x9.x-in-Bind-1.given.1 in
+    let b = below_as start.args.row Node-at.node_at-x.ensures.1 x9.in-Bind.is in
     lower_call start.requires.0 start.requires.1 b.0)
     (λ c.
     let row_type13 = c.before in
@@ -163,15 +163,15 @@ pub +row-type-spec : {M : Type 1} → statement M
     let Node-at = x9.before.before in
     let start = Node-at.before in
     let q = start.args in
-    by_node q.rows.now q.env q.n q.row _ _ _ Node-at.Node-at.ensures.0 x9.x-in-Bind-1.given.1
-    (bind_none q.rows.now q.env q.n x9.x-in-Bind-1.given.0.1.0 _ _ row_type13.row_type-t-in-Bind.ensures c.if-t-eq0.true))
+    by_node q.rows.now q.env q.n q.row _ _ _ Node-at.node_at-x.ensures.0 x9.in-Bind.is
+    (bind_none q.rows.now q.env q.n x9.in-Bind.b _ _ row_type13.row_type-t-in-Bind.ensures c.if-t-eq0.true))
     (λ c κs. search rules)
     (λ c. search rules)
     (λ c κs.
     let x9 = c.before.before.before.before.before in
     let Node-at = x9.before.before in
     let start = Node-at.before in
-    let b = below_as start.args.row Node-at.Node-at.ensures.1 x9.x-in-Bind-1.given.1 in
+    let b = below_as start.args.row Node-at.node_at-x.ensures.1 x9.in-Bind.is in
     lower_call start.requires.0 start.requires.1 b.1)
     (λ c.
     let bound = c.before in
@@ -182,20 +182,20 @@ pub +row-type-spec : {M : Type 1} → statement M
     let Node-at = x9.before.before in
     let start = Node-at.before in
     let q = start.args in
-    by_node q.rows.now q.env q.n q.row _ _ _ Node-at.Node-at.ensures.0 x9.x-in-Bind-1.given.1
-    (bind_more q.rows.now q.env q.n x9.x-in-Bind-1.given.0.1.0 _ _ _ _ row_type13.row_type-t-in-Bind.ensures if1.if-t-eq0.false if2.if-n-lt-MAX_BINDERS.true bound.bound-inner.ensures c.row_type-then-n-lt-MAX_BINDERS.ensures))
+    by_node q.rows.now q.env q.n q.row _ _ _ Node-at.node_at-x.ensures.0 x9.in-Bind.is
+    (bind_more q.rows.now q.env q.n x9.in-Bind.b _ _ _ _ row_type13.row_type-t-in-Bind.ensures if1.if-t-eq0.false if2.if-n-lt-MAX_BINDERS.true bound.bound-inner.ensures c.row_type-then-n-lt-MAX_BINDERS.ensures))
     (λ c. search rules)
     (λ c κs.
     let x10 = c.before in
     let Node-at = x10.before.before in
     let start = Node-at.before in
-    let b = below_as start.args.row Node-at.Node-at.ensures.1 x10.x-in-Same-1.given.1 in
+    let b = below_as start.args.row Node-at.node_at-x.ensures.1 x10.in-Same.is in
     lower_call start.requires.0 start.requires.1 b.0)
     (λ c κs.
     let x10 = c.before.before in
     let Node-at = x10.before.before in
     let start = Node-at.before in
-    let b = below_as start.args.row Node-at.Node-at.ensures.1 x10.x-in-Same-1.given.1 in
+    let b = below_as start.args.row Node-at.node_at-x.ensures.1 x10.in-Same.is in
     lower_call start.requires.0 start.requires.1 b.1)
     (λ c κs. search rules)
     (λ c. search rules)
@@ -203,23 +203,23 @@ pub +row-type-spec : {M : Type 1} → statement M
     let Node-at = c.before.before in
     let start = Node-at.before in
     let q = start.args in
-    by_node q.rows.now q.env q.n q.row _ _ _ Node-at.Node-at.ensures.0 c.enum_told-1.given.1 refl)
+    by_node q.rows.now q.env q.n q.row _ _ _ Node-at.node_at-x.ensures.0 c.in-Unit.is refl)
     (λ c.
     let Node-at = c.before.before in
     let start = Node-at.before in
     let q = start.args in
-    by_node q.rows.now q.env q.n q.row _ _ _ Node-at.Node-at.ensures.0 c.enum_told-in-Truth-1.given.1 refl)
+    by_node q.rows.now q.env q.n q.row _ _ _ Node-at.node_at-x.ensures.0 c.in-Truth.is refl)
     (λ c.
     let Node-at = c.before.before in
     let start = Node-at.before in
     let q = start.args in
-    by_node q.rows.now q.env q.n q.row _ _ _ Node-at.Node-at.ensures.0 c.enum_told-in-Number-1.given.1 refl)
+    by_node q.rows.now q.env q.n q.row _ _ _ Node-at.node_at-x.ensures.0 c.in-Number.is refl)
     (λ c.
     let x = c.before.before in
     let Node-at = x.before.before in
     let start = Node-at.before in
     let q = start.args in
-    by_node q.rows.now q.env q.n q.row _ _ _ Node-at.Node-at.ensures.0 x.x-1.given.1 c.binder_shape.ensures)
+    by_node q.rows.now q.env q.n q.row _ _ _ Node-at.node_at-x.ensures.0 x.in-Binder.is c.binder_shape.ensures)
     (λ c.
     let row_type2 = c.before in
     let row_type = row_type2.before in
@@ -227,8 +227,8 @@ pub +row-type-spec : {M : Type 1} → statement M
     let Node-at = x2.before.before in
     let start = Node-at.before in
     let q = start.args in
-    by_node q.rows.now q.env q.n q.row _ _ _ Node-at.Node-at.ensures.0 x2.x-in-Op-1.given.1
-    (by2 (op_shape x2.x-in-Op-1.given.0.0) c.op_shape.ensures row_type.row_type-t.ensures row_type2.row_type-u.ensures))
+    by_node q.rows.now q.env q.n q.row _ _ _ Node-at.node_at-x.ensures.0 x2.in-Op.is
+    (by2 (op_shape x2.in-Op.o) c.op_shape.ensures row_type.row_type-t.ensures row_type2.row_type-u.ensures))
     (λ c.
     let row_type5 = c.before in
     let row_type4 = row_type5.before in
@@ -237,7 +237,7 @@ pub +row-type-spec : {M : Type 1} → statement M
     let Node-at = x3.before.before in
     let start = Node-at.before in
     let q = start.args in
-    by_node q.rows.now q.env q.n q.row _ _ _ Node-at.Node-at.ensures.0 x3.x-in-If-1.given.1
+    by_node q.rows.now q.env q.n q.row _ _ _ Node-at.node_at-x.ensures.0 x3.in-If.is
     (by3 if_shape c.if_shape.ensures row_type3.row_type-s.ensures row_type4.row_type-t-in-If.ensures row_type5.row_type-u-in-If.ensures))
     (λ c.
     let row_type7 = c.before in
@@ -246,7 +246,7 @@ pub +row-type-spec : {M : Type 1} → statement M
     let Node-at = x4.before.before in
     let start = Node-at.before in
     let q = start.args in
-    by_node q.rows.now q.env q.n q.row _ _ _ Node-at.Node-at.ensures.0 x4.x-in-Pair-1.given.1
+    by_node q.rows.now q.env q.n q.row _ _ _ Node-at.node_at-x.ensures.0 x4.in-Pair.is
     (by2 pair_shape c.pair_shape.ensures row_type6.row_type-t-in-Pair.ensures row_type7.row_type-u-in-Pair.ensures))
     (λ c.
     let row_type8 = c.before in
@@ -254,7 +254,7 @@ pub +row-type-spec : {M : Type 1} → statement M
     let Node-at = x5.before.before in
     let start = Node-at.before in
     let q = start.args in
-    by_node q.rows.now q.env q.n q.row _ _ _ Node-at.Node-at.ensures.0 x5.x-in-First-1.given.1
+    by_node q.rows.now q.env q.n q.row _ _ _ Node-at.node_at-x.ensures.0 x5.in-First.is
     (by1 first_shape c.first_shape.ensures row_type8.row_type.ensures))
     (λ c.
     let row_type9 = c.before in
@@ -262,14 +262,14 @@ pub +row-type-spec : {M : Type 1} → statement M
     let Node-at = x6.before.before in
     let start = Node-at.before in
     let q = start.args in
-    by_node q.rows.now q.env q.n q.row _ _ _ Node-at.Node-at.ensures.0 x6.x-in-Second-1.given.1
+    by_node q.rows.now q.env q.n q.row _ _ _ Node-at.node_at-x.ensures.0 x6.in-Second.is
     (by1 second_shape c.second_shape.ensures row_type9.row_type-in-Second.ensures))
     (λ c.
     let x7 = c.before.before in
     let Node-at = x7.before.before in
     let start = Node-at.before in
     let q = start.args in
-    by_node q.rows.now q.env q.n q.row _ _ _ Node-at.Node-at.ensures.0 x7.x-in-Through-1.given.1 c.row_type-in-Through.ensures)
+    by_node q.rows.now q.env q.n q.row _ _ _ Node-at.node_at-x.ensures.0 x7.in-Through.is c.row_type-in-Through.ensures)
     (λ c.
     let row_type12 = c.before in
     let row_type11 = row_type12.before in
@@ -277,7 +277,7 @@ pub +row-type-spec : {M : Type 1} → statement M
     let Node-at = x8.before.before in
     let start = Node-at.before in
     let q = start.args in
-    by_node q.rows.now q.env q.n q.row _ _ _ Node-at.Node-at.ensures.0 x8.x-in-Assign-1.given.1
+    by_node q.rows.now q.env q.n q.row _ _ _ Node-at.node_at-x.ensures.0 x8.in-Assign.is
     (by2 assign_shape c.assign_shape.ensures row_type11.row_type-t-in-Assign.ensures row_type12.row_type-u-in-Assign.ensures))
     (λ c.
     let if1 = c.before in
@@ -286,8 +286,8 @@ pub +row-type-spec : {M : Type 1} → statement M
     let Node-at = x9.before.before in
     let start = Node-at.before in
     let q = start.args in
-    by_node q.rows.now q.env q.n q.row _ _ _ Node-at.Node-at.ensures.0 x9.x-in-Bind-1.given.1
-    (bind_over q.rows.now q.env q.n x9.x-in-Bind-1.given.0.1.0 _ _ row_type13.row_type-t-in-Bind.ensures if1.if-t-eq0.false c.if-n-lt-MAX_BINDERS.false))
+    by_node q.rows.now q.env q.n q.row _ _ _ Node-at.node_at-x.ensures.0 x9.in-Bind.is
+    (bind_over q.rows.now q.env q.n x9.in-Bind.b _ _ row_type13.row_type-t-in-Bind.ensures if1.if-t-eq0.false c.if-n-lt-MAX_BINDERS.false))
     (λ c.
     let row_type16 = c.before in
     let row_type15 = row_type16.before in
@@ -295,10 +295,10 @@ pub +row-type-spec : {M : Type 1} → statement M
     let Node-at = x10.before.before in
     let start = Node-at.before in
     let q = start.args in
-    by_node q.rows.now q.env q.n q.row _ _ _ Node-at.Node-at.ensures.0 x10.x-in-Same-1.given.1
+    by_node q.rows.now q.env q.n q.row _ _ _ Node-at.node_at-x.ensures.0 x10.in-Same.is
     (by2 same_shape c.same_shape.ensures row_type15.row_type-t-in-Same.ensures row_type16.row_type-u-in-Same.ensures))
     (λ c.
     let Node-at = c.before.before in
     let start = Node-at.before in
     let q = start.args in
-    by_node q.rows.now q.env q.n q.row _ _ _ Node-at.Node-at.ensures.0 c.enum_told-in-Bad-1.given.1 refl)
+    by_node q.rows.now q.env q.n q.row _ _ _ Node-at.node_at-x.ensures.0 c.in-Bad.is refl)

@@ -23,37 +23,37 @@ node_from_spec =
     (λ c κs. search rules)
     (λ c κs. search rules)
     (λ c κs. search rules)
-    (λ c. let q = c.before.args in node_one q.i q.a q.b q.c (1 ∷ 20 ∷ []) q.k (refl, (refl, tt)) c.in_default-1.keys1)
-    (λ c. let q = c.before.args in node_one q.i q.a q.b q.c (2 ∷ 21 ∷ []) q.k (refl, (refl, tt)) c.in_default-1.keys2)
-    (λ c. let q = c.before.args in node_one q.i q.a q.b q.c (3 ∷ 22 ∷ []) q.k (refl, (refl, tt)) c.in_default-1.keys3)
-    (λ c. let q = c.before.args in node_one q.i q.a q.b q.c (23 ∷ []) q.k (refl, tt) c.in_default-1.keys4)
+    (λ c. let q = c.before.args in node_one q.i q.a q.b q.c (1 ∷ 20 ∷ []) q.k (refl, (refl, tt)) c.in-1.is)
+    (λ c. let q = c.before.args in node_one q.i q.a q.b q.c (2 ∷ 21 ∷ []) q.k (refl, (refl, tt)) c.in-2.is)
+    (λ c. let q = c.before.args in node_one q.i q.a q.b q.c (3 ∷ 22 ∷ []) q.k (refl, (refl, tt)) c.in-3.is)
+    (λ c. let q = c.before.args in node_one q.i q.a q.b q.c (23 ∷ []) q.k (refl, tt) c.in-23.is)
     (λ c. let q = c.before.before.args in
     let e = c.named2.ensures in
-    node_one q.i q.a q.b q.c (24 ∷ []) q.k (e, tt) c.before.in_default-1.keys5)
+    node_one q.i q.a q.b q.c (24 ∷ []) q.k (e, tt) c.before.in-24.is)
     (λ c. let q = c.before.before.args in
     let e = c.named3.ensures in
-    node_one q.i q.a q.b q.c (25 ∷ []) q.k (e, tt) c.before.in_default-1.keys6)
+    node_one q.i q.a q.b q.c (25 ∷ []) q.k (e, tt) c.before.in-25.is)
     (λ c. let q = c.before.before.args in
     let e = c.named2-in-4.ensures in
-    node_one q.i q.a q.b q.c (4 ∷ 26 ∷ 46 ∷ []) q.k (e, (e, (e, tt))) c.before.in_default-1.keys7)
+    node_one q.i q.a q.b q.c (4 ∷ 26 ∷ 46 ∷ []) q.k (e, (e, (e, tt))) c.before.in-4.is)
     (λ c. let q = c.before.before.args in
     let e = c.named1.ensures in
-    node_one q.i q.a q.b q.c (27 ∷ []) q.k (e, tt) c.before.in_default-1.keys8)
+    node_one q.i q.a q.b q.c (27 ∷ []) q.k (e, tt) c.before.in-27.is)
     (λ c. let q = c.before.before.args in
     let e = c.named1-in-28.ensures in
-    node_one q.i q.a q.b q.c (28 ∷ []) q.k (e, tt) c.before.in_default-1.keys9)
+    node_one q.i q.a q.b q.c (28 ∷ []) q.k (e, tt) c.before.in-28.is)
     (λ c. let q = c.before.before.args in
     let e = c.named1-in-10.ensures in
-    node_one q.i q.a q.b q.c (10 ∷ 29 ∷ 45 ∷ 49 ∷ []) q.k (e, (e, (e, (e, tt)))) c.before.in_default-1.keys10)
+    node_one q.i q.a q.b q.c (10 ∷ 29 ∷ 45 ∷ 49 ∷ []) q.k (e, (e, (e, (e, tt)))) c.before.in-10.is)
     (λ c. let q = c.before.before.args in
     let e = c.named2-in-30.ensures in
-    node_one q.i q.a q.b q.c (30 ∷ []) q.k (e, tt) c.before.in_default-1.keys11)
+    node_one q.i q.a q.b q.c (30 ∷ []) q.k (e, tt) c.before.in-30.is)
     (λ c. let q = c.before.before.args in
     let e = c.named2-in-31.ensures in
-    node_one q.i q.a q.b q.c (31 ∷ []) q.k (e, tt) c.before.in_default-1.keys12)
+    node_one q.i q.a q.b q.c (31 ∷ []) q.k (e, tt) c.before.in-31.is)
     (λ c. let q = c.before.before.args in
     let e = c.named1-in-50.ensures in
-    node_one q.i q.a q.b q.c (50 ∷ []) q.k (e, tt) c.before.in_default-1.keys13)
+    node_one q.i q.a q.b q.c (50 ∷ []) q.k (e, tt) c.before.in-50.is)
     (λ c.
     let if2 = c.before in
     let if1 = if2.before in

@@ -8,8 +8,8 @@ use Rattle.value.proofs.compared.Tie as tie
 pub compared_spec : {M : Type 1} → statement M
 compared_spec = tie.close (tie.spec
     (λ c κs. search rules) (λ c κs. search rules) (λ c κs. search rules)
-    (λ c. let s = c.before.before in less_is s.args.op s.args.x s.args.y c.less.result c.before.in_default.keys1 c.less.ensures)
-    (λ c. let s = c.before.before in less_equal_is s.args.op s.args.x s.args.y c.at_most.result c.before.in_default.keys2 c.at_most.ensures)
+    (λ c. let s = c.before.before in less_is s.args.op s.args.x s.args.y c.less.result c.before.in-4.is c.less.ensures)
+    (λ c. let s = c.before.before in less_equal_is s.args.op s.args.x s.args.y c.at_most.result c.before.in-5.is c.at_most.ensures)
     (λ c.
     let match_at = c.before in
     let start = match_at.before in

@@ -11,11 +11,11 @@ computed_spec = tie.close (tie.spec
     (λ c.
     let match_at = c.before.before in
     let s = match_at.before in
-    sum_is s.args.op s.args.x s.args.y c.result.result match_at.in_default.keys1 (c.result.ensures _ c.before.add.ensures))
+    sum_is s.args.op s.args.x s.args.y c.result.result match_at.in-1.is (c.result.ensures _ c.before.add.ensures))
     (λ c.
     let match_at = c.before.before in
     let s = match_at.before in
-    difference_is s.args.op s.args.x s.args.y c.result-in-2.result match_at.in_default.keys2 (c.result-in-2.ensures _ c.before.sub.ensures))
+    difference_is s.args.op s.args.x s.args.y c.result-in-2.result match_at.in-2.is (c.result-in-2.ensures _ c.before.sub.ensures))
     (λ c.
     let match_at = c.before.before in
     let s = match_at.before in

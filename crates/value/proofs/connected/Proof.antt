@@ -16,14 +16,14 @@ connected_spec = tie.close (tie.spec
     let equal = equal2.before in
     let start = equal.before in
     and_is start.args.op start.args.x start.args.y equal.equal-p.result equal2.equal-q.result equal.equal-p.ensures
-    equal2.equal-q.ensures equal2.equal-q.result match_at.in_default.keys1 (ap (λ p. p && equal2.equal-q.result) (sym c.if-p.true)))
+    equal2.equal-q.ensures equal2.equal-q.result match_at.in-7.is (ap (λ p. p && equal2.equal-q.result) (sym c.if-p.true)))
     (λ c.
     let match_at = c.before in
     let equal2 = match_at.before in
     let equal = equal2.before in
     let start = equal.before in
     and_is start.args.op start.args.x start.args.y equal.equal-p.result equal2.equal-q.result equal.equal-p.ensures
-    equal2.equal-q.ensures _ match_at.in_default.keys1 (c.if-p.false ∙ ap (λ p. p && equal2.equal-q.result) (sym c.if-p.false)))
+    equal2.equal-q.ensures _ match_at.in-7.is (c.if-p.false ∙ ap (λ p. p && equal2.equal-q.result) (sym c.if-p.false)))
     (λ c.
     let match_at = c.before in
     let equal2 = match_at.before in

@@ -16,4 +16,4 @@ first_spec = tie.close (tie.spec
     let start = first_shape_lem.before in
     let a = start.args in
     let s = first_shape_lem.first_shape-shape.ensures in
-    made s (c.joined-leaves.ensures ∙ ap (λ n. joined n a.a.leaves no_leaves) (Leaves-of.Leaves-of.ensures.0 ∙ ap shape_leaves s))))
+    made s (c.joined-leaves.ensures ∙ ap (λ n. joined n a.a.leaves no_leaves) (Leaves-of.leaves_of.ensures.0 ∙ ap shape_leaves s))))

@@ -14,4 +14,4 @@ pair_spec = tie.close (tie.spec
     let Leaves-of = joined_at.before in
     let start = Leaves-of.before.before.before in
     let a = start.args in
-    made c.pair_shape.ensures (joined_at.joined-leaves.ensures ∙ ap (λ n. joined n a.a.leaves a.b.leaves) Leaves-of.Leaves-of.ensures.0)))
+    made c.pair_shape.ensures (joined_at.joined-leaves.ensures ∙ ap (λ n. joined n a.a.leaves a.b.leaves) Leaves-of.leaves_of.ensures.0)))

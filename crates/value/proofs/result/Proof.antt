@@ -11,10 +11,10 @@ returns : tie.Need-returns-in-Word
 returns c z e =
     let told = c.before.before in
     let r = told.before in
-    c.sure.ensures ∙ ap sure_of c.before.number.ensures ∙ exactly_word z r.r-1.given.0.0 (sym r.r-1.given.1 ∙ e)
+    c.sure.ensures ∙ ap sure_of c.before.number.ensures ∙ exactly_word z r.in-Word.w (sym r.in-Word.is ∙ e)
 
 returns_2 : tie.Need-returns-in-Beyond
-returns_2 c z e = ap (λ v. record { over = true; value = v }) c.number-in-Beyond.ensures ∙ exactly_beyond z (sym c.before.enum_told-1.given.1 ∙ e)
+returns_2 c z e = ap (λ v. record { over = true; value = v }) c.number-in-Beyond.ensures ∙ exactly_beyond z (sym c.before.in-Beyond.is ∙ e)
 
 pub result_spec : {M : Type 1} → statement M
 result_spec = tie.close (tie.spec (λ c. search rules) (λ c κs. search rules) (λ c κs. search rules) (λ c. search rules) (λ c κs. search rules) returns returns_2)

@@ -17,4 +17,4 @@ second_spec = tie.close (tie.spec
     let start = first_shape_lem.before.before in
     let a = start.args in
     made c.second_shape.ensures
-    (leaves_from_point.leaves_from-leaves.ensures ∙ ap (λ n. leaves_from n a.a.leaves) (Leaves-of.Leaves-of.ensures.0 ∙ ap shape_leaves first_shape_lem.first_shape.ensures))))
+    (leaves_from_point.leaves_from-leaves.ensures ∙ ap (λ n. leaves_from n a.a.leaves) (Leaves-of.leaves_of.ensures.0 ∙ ap shape_leaves first_shape_lem.first_shape.ensures))))

@@ -18,7 +18,7 @@ decreases-loop leaves k₀ k = max_leaves - k
 loop_holds : tie.Need-loop-k-init invariant-loop decreases-loop
 loop_holds c = (omega arith, (λ i l. absurd (omega arith)))
 
-mul_if1 : tie.Need-overflow-mul-if1 invariant-loop decreases-loop
+mul_if1 : tie.Need-offset_bounds-leaves-k invariant-loop decreases-loop
 mul_if1 c = search rules
 
 array_read_if1 : tie.Need-bounds-leaves-k invariant-loop decreases-loop
@@ -30,7 +30,7 @@ returns c =
     let start = loop.before in
     λ blank z. some_leaf start.args.t1 blank z loop.loop-k.k (omega arith) c.if-leaves-k-ne0.true
 
-add_k : tie.Need-overflow-add-k invariant-loop decreases-loop
+add_k : tie.Need-overflow_step-k invariant-loop decreases-loop
 add_k c = search rules
 
 loop_less : tie.Need-loop-k-smaller invariant-loop decreases-loop

@@ -21,7 +21,7 @@ returns_2 c =
     let role = if1.before in
     let start = role.before.before in
     says_unread c.unread-in_default.result (fields_say start.args.s.now) c.unread-in_default.ensures
-    (no_path start.args.s.now role.read_role-role.result role.read_role-role.ensures if1.if-role-eq0.false (sym told.enum_told-1.given.1 ∙ read.read.ensures))
+    (no_path start.args.s.now role.read_role-role.result role.read_role-role.ensures if1.if-role-eq0.false (sym told.in_default.is ∙ read.read.ensures))
 
 event_of_requires : tie.Need-event_of-requires
 event_of_requires c κs = zero_blanks c.read_leaves-leaves.result _ c.read_leaves-leaves.ensures
@@ -37,7 +37,7 @@ returns_3 c =
     let role = if1.before in
     let start = role.before.before in
     subst (Says c.event_of.result)
-    (sym (fields_are start.args.s.now role.read_role-role.result role.read_role-role.ensures if1.if-role-eq0.false path.path-1.given.0.0 (sym path.path-1.given.1 ∙ read.read.ensures) number.reading-1.given.0.0 (sym number.reading-1.given.1 ∙ action.read-reading.ensures) leaves.read_leaves-leaves.result leaves.read_leaves-leaves.ensures))
+    (sym (fields_are start.args.s.now role.read_role-role.result role.read_role-role.ensures if1.if-role-eq0.false path.in-Marks.path (sym path.in-Marks.is ∙ read.read.ensures) number.in-Number.action (sym number.in-Number.is ∙ action.read-reading.ensures) leaves.read_leaves-leaves.result leaves.read_leaves-leaves.ensures))
     c.event_of.ensures
 
 returns_4 : tie.Need-returns-in-Blank
@@ -50,7 +50,7 @@ returns_4 c =
     let role = if1.before in
     let start = role.before.before in
     says_unread c.unread-in-Blank.result (fields_say start.args.s.now) c.unread-in-Blank.ensures
-    (blank_action start.args.s.now role.read_role-role.result role.read_role-role.ensures if1.if-role-eq0.false path.path-1.given.0.0 (sym path.path-1.given.1 ∙ read.read.ensures) (sym told.enum_told-in-Blank-1.given.1 ∙ action.read-reading.ensures))
+    (blank_action start.args.s.now role.read_role-role.result role.read_role-role.ensures if1.if-role-eq0.false path.in-Marks.path (sym path.in-Marks.is ∙ read.read.ensures) (sym told.in-Blank.is ∙ action.read-reading.ensures))
 
 returns_5 : tie.Need-returns-in-Unreadable
 returns_5 c =
@@ -62,7 +62,7 @@ returns_5 c =
     let role = if1.before in
     let start = role.before.before in
     says_unread c.unread-in-Unreadable.result (fields_say start.args.s.now) c.unread-in-Unreadable.ensures
-    (no_action start.args.s.now role.read_role-role.result role.read_role-role.ensures if1.if-role-eq0.false path.path-1.given.0.0 (sym path.path-1.given.1 ∙ read.read.ensures) (sym told.enum_told-in-Unreadable-1.given.1 ∙ action.read-reading.ensures))
+    (no_action start.args.s.now role.read_role-role.result role.read_role-role.ensures if1.if-role-eq0.false path.in-Marks.path (sym path.in-Marks.is ∙ read.read.ensures) (sym told.in-Unreadable.is ∙ action.read-reading.ensures))
 
 pub read_fields_spec : {M : Type 1} → statement M
 read_fields_spec = tie.close (tie.spec

@@ -20,7 +20,7 @@ loop_holds' = λ c. (omega arith, no_firsts c.args.rows.now c.args.work.now)
 first_cell_requires' : tie.Need-first_cell-requires invariant-loop decreases-loop
 first_cell_requires' = λ c κs. let l = c.before.loop-i-test.true in let h = c.before.before.before.requires in omega arith
 
-add_i' : tie.Need-overflow-add-i invariant-loop decreases-loop
+add_i' : tie.Need-overflow_step-i invariant-loop decreases-loop
 add_i' = λ c. search rules
 
 loop_less' : tie.Need-loop-i-smaller invariant-loop decreases-loop

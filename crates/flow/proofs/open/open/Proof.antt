@@ -27,7 +27,7 @@ returns c =
     subst (OpenOk start.args.rows.now start.args.state.now start.args.fits q.new.1.0 start.args.words.now) (sym c.not_failed.ensures)
     (open_20 start.args.rows.now start.args.state.now q.new.1.0 start.args.words.now start.args.fits q.result q.ensures.0 if1.if-n-eq0.true)
 
-mul_if2 : tie.Need-overflow-mul-if2
+mul_if2 : tie.Need-overflow_mul-n
 mul_if2 c =
     let if1 = c in
     let rows = if1.before in
@@ -153,7 +153,7 @@ returns_5 c =
     (not_from_true _ if3.if-not-fits.false) if2.if-state-n.false w.ensures.1 w.ensures.0 h.result h.new.1.1.1.0 h.ensures.0 (not_from_false _ if4.if-not-held.true)
     k.result k.ensures if5.if-is_failed.false)
 
-sub_stride : tie.Need-overflow-sub-stride
+sub_stride : tie.Need-overflow_sub-n
 sub_stride c =
     let if1 = c.before.before.before.before.before.before.before.before.before.before.before in
     let start_at = if1.before in

@@ -9,7 +9,7 @@ use Rattle.flow.proofs.start.begin.Tie as tie
 first_cells_requires' : tie.Need-first_cells-requires
 first_cells_requires' = λ c κs. let l = c.before.requires.0.0 in let h = c.before.requires.0.1.low in omega arith
 
-sub_evaluate' : tie.Need-overflow-sub-evaluate
+sub_evaluate' : tie.Need-overflow_sub-n
 sub_evaluate' = λ c. search rules
 
 evaluate_requires' : tie.Need-evaluate-requires
@@ -27,7 +27,7 @@ returns' c =
     begins_failed s.args.rows.now s.args.n s.args.words.now f.first_cells.new.work v.evaluate.new.state c.write_failed.new.words _ v.evaluate.result
     s.requires.1 f.first_cells.ensures v.evaluate.ensures if1.if-evaluate.true c.write_failed.ensures
 
-sub_normalise' : tie.Need-overflow-sub-normalise
+sub_normalise' : tie.Need-overflow_sub-n-2
 sub_normalise' = λ c. search rules
 
 normalise_requires' : tie.Need-normalise-requires

@@ -18,7 +18,7 @@ returns c =
     start_20 start.args.rows.now start.args.state.now c.refused.result n.result n.ensures.0 if1.if-n-eq0.true
     c.refused.ensures
 
-mul_if2 : tie.Need-overflow-mul-if2
+mul_if2 : tie.Need-overflow_mul-n
 mul_if2 c =
     let rows = c.before in
     let start = rows.before.before in

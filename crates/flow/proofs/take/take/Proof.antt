@@ -45,7 +45,7 @@ returns_3 c =
     take_failed start.args.rows.now start.args.state.now o.new.1.1.1.0 o.new.1.1.1.1.0 o.result start.args.e o.ensures if1.if-opening-ne0.false (not_from_true _ if2.if-not-e.false) if3.if-opening.true
     c.take_failed.result c.take_failed.ensures
 
-sub_last : tie.Need-overflow-sub-last
+sub_last : tie.Need-overflow_sub-last
 sub_last c =
     let if3 = c.before in
     let if1 = if3.before.before.before in

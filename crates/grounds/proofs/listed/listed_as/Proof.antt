@@ -24,22 +24,22 @@ listed_as_spec = tie.close (tie.spec
     (λ c. search rules)
     (λ c κs. search rules)
     (λ c. search rules)
-    (λ c. sym (ap (λ q. listed_as (ask_by q) c.before.before.args.w) c.enum_told-1.given.1))
+    (λ c. sym (ap (λ q. listed_as (ask_by q) c.before.before.args.w) c.in-Unused.is))
     (λ c.
     let enum_told2 = c.before in
     let start = enum_told2.before.before in
-    c.is_operator.ensures ∙ sym (ap (λ q. listed_as (ask_by q) start.args.w) enum_told2.enum_told-in-Operator-1.given.1))
-    (λ c. sym (ap (λ q. listed_as (ask_by q) c.before.before.args.w) c.enum_told-in-Truth-1.given.1))
-    (λ c. sym (ap (λ q. listed_as (ask_by q) c.before.before.args.w) c.enum_told-in-AnyWord-1.given.1))
-    (λ c. sym (ap (λ q. listed_as (ask_by q) c.before.before.args.w) c.enum_told-in-AType-1.given.1))
-    (λ c. sym (ap (λ q. listed_as (ask_by q) c.before.before.args.w) c.enum_told-in-ABasic-1.given.1))
-    (λ c. sym (ap (λ q. listed_as (ask_by q) c.before.before.args.w) c.enum_told-in-ACell-1.given.1))
-    (λ c. sym (ap (λ q. listed_as (ask_by q) c.before.before.args.w) c.enum_told-in-APlain-1.given.1))
-    (λ c. sym (ap (λ q. listed_as (ask_by q) c.before.before.args.w) c.enum_told-in-ATask-1.given.1))
-    (λ c. sym (ap (λ q. listed_as (ask_by q) c.before.before.args.w) c.enum_told-in-ABranch-1.given.1))
-    (λ c. sym (ap (λ q. listed_as (ask_by q) c.before.before.args.w) c.enum_told-in-LikeB-1.given.1))
+    c.is_operator.ensures ∙ sym (ap (λ q. listed_as (ask_by q) start.args.w) enum_told2.in-Operator.is))
+    (λ c. sym (ap (λ q. listed_as (ask_by q) c.before.before.args.w) c.in-Truth.is))
+    (λ c. sym (ap (λ q. listed_as (ask_by q) c.before.before.args.w) c.in-AnyWord.is))
+    (λ c. sym (ap (λ q. listed_as (ask_by q) c.before.before.args.w) c.in-AType.is))
+    (λ c. sym (ap (λ q. listed_as (ask_by q) c.before.before.args.w) c.in-ABasic.is))
+    (λ c. sym (ap (λ q. listed_as (ask_by q) c.before.before.args.w) c.in-ACell.is))
+    (λ c. sym (ap (λ q. listed_as (ask_by q) c.before.before.args.w) c.in-APlain.is))
+    (λ c. sym (ap (λ q. listed_as (ask_by q) c.before.before.args.w) c.in-ATask.is))
+    (λ c. sym (ap (λ q. listed_as (ask_by q) c.before.before.args.w) c.in-ABranch.is))
+    (λ c. sym (ap (λ q. listed_as (ask_by q) c.before.before.args.w) c.in-LikeB.is))
     (λ c.
     let enum_told12 = c.before in
     let start = enum_told12.before.before in
-    c.is_role.ensures ∙ sym (ap (λ q. listed_as (ask_by q) start.args.w) enum_told12.enum_told-in-ARole-1.given.1))
-    (λ c. sym (ap (λ q. listed_as (ask_by q) c.before.before.args.w) c.enum_told-in-SomeTouches-1.given.1)))
+    c.is_role.ensures ∙ sym (ap (λ q. listed_as (ask_by q) start.args.w) enum_told12.in-ARole.is))
+    (λ c. sym (ap (λ q. listed_as (ask_by q) c.before.before.args.w) c.in-SomeTouches.is)))

@@ -31,4 +31,4 @@ row_listed_spec = tie.close (tie.spec
     let asks_at = get.before in
     let start = asks_at.before in
     row_cell start.args.rows.now start.args.i asks_at.asks_at-s.result asks_at.asks_at-s.ensures get.get-a.ensures
-    get2.get-b.ensures get3.get-c.ensures operands_listed.operands_listed.ensures (not_from_true _ if1.if-not-operands_listed.false) c.truth_cell_lem.ensures))
+    get2.get-b.ensures get3.get-c.ensures operands_listed.operands_listed.ensures (not_from_true _ if1.if-not-operands_listed.false) c.truth_cell.ensures))

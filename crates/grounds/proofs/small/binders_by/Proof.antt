@@ -11,7 +11,7 @@ unfolding most_binders
 binders_by_spec = tie.close (tie.spec
     (λ c. search rules)
     (λ c. search rules)
-    (λ c. let s = c.before.before in of_unknown (λ z. most_binders z s.args.a s.args.b s.args.c) c.enum_told-1.given.1)
+    (λ c. let s = c.before.before in of_unknown (λ z. most_binders z s.args.a s.args.b s.args.c) c.in_default.is)
     (λ c κs. search rules)
     (λ c κs. search rules)
     (λ c.
@@ -29,5 +29,5 @@ binders_by_spec = tie.close (tie.spec
     let if_named = binder_of.before in
     let s = if_named.before.before in
     let start = s.before.before in
-    binders_are s.s-1.given.1 start.args.a start.args.b start.args.c larger.larger.ensures c.larger-2.ensures
+    binders_are s.in-Known.is start.args.a start.args.b start.args.c larger.larger.ensures c.larger-2.ensures
     binder_of.binder_of.ensures.0 if_named.if_named-u.ensures if_named2.if_named-v.ensures if_named3.if_named-w.ensures))

@@ -11,7 +11,7 @@ unfolding most_marks
 marks_by_spec = tie.close (tie.spec
     (λ c. search rules)
     (λ c. search rules)
-    (λ c. let s = c.before.before in of_unknown (λ z. most_marks z s.args.a s.args.b s.args.c) c.enum_told-1.given.1)
+    (λ c. let s = c.before.before in of_unknown (λ z. most_marks z s.args.a s.args.b s.args.c) c.in_default.is)
     (λ c κs. search rules)
     (λ c.
     let start = c.before.before.before.before in
@@ -33,5 +33,5 @@ marks_by_spec = tie.close (tie.spec
     let mark_of = if_named.before in
     let s = mark_of.before.before in
     let start = s.before.before in
-    marks_are s.s-1.given.1 start.args.a start.args.b start.args.c larger.larger.ensures c.larger-2.ensures
+    marks_are s.in-Known.is start.args.a start.args.b start.args.c larger.larger.ensures c.larger-2.ensures
     mark_of.mark_of-m.ensures.0 if_named.if_named-u.ensures if_named2.if_named-v.ensures if_named3.if_named-w.ensures))

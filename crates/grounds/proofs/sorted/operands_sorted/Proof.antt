@@ -12,21 +12,21 @@ pub operands_sorted_spec : {M : Type 1} → statement M
 operands_sorted_spec = tie.close (tie.spec
     (λ c. search rules)
     (λ c. search rules)
-    (λ c. λ u v w d e f. unsorted u v w c.enum_told-1.given.1)
+    (λ c. λ u v w d e f. unsorted u v w c.in_default.is)
     (λ c κs. search rules)
     (λ c.
     let sorted_as_point = c.before in
     let s = sorted_as_point.before.before in
-    λ u v w d e f. not_first (sorted_as (ask_by s.s-1.given.0.0) u v) (sorted_as (ask_by s.s-1.given.0.1.0) v v)
-    (sorted_as (ask_by s.s-1.given.0.1.1.0) w v) (sorted_is u v w s.s-1.given.1) (sorted_as_point.sorted_as.ensures u v d e) (not_from_false _ c.if-not-sorted_as.true))
+    λ u v w d e f. not_first (sorted_as (ask_by s.in-Known.p) u v) (sorted_as (ask_by s.in-Known.q) v v)
+    (sorted_as (ask_by s.in-Known.t) w v) (sorted_is u v w s.in-Known.is) (sorted_as_point.sorted_as.ensures u v d e) (not_from_false _ c.if-not-sorted_as.true))
     (λ c κs. search rules)
     (λ c.
     let sorted_as2 = c.before in
     let if1 = sorted_as2.before in
     let sorted_as_point = if1.before in
     let s = sorted_as_point.before.before in
-    λ u v w d e f. not_second (sorted_as (ask_by s.s-1.given.0.0) u v) (sorted_as (ask_by s.s-1.given.0.1.0) v v)
-    (sorted_as (ask_by s.s-1.given.0.1.1.0) w v) (sorted_is u v w s.s-1.given.1) (sorted_as_point.sorted_as.ensures u v d e) (not_from_true _ if1.if-not-sorted_as.false)
+    λ u v w d e f. not_second (sorted_as (ask_by s.in-Known.p) u v) (sorted_as (ask_by s.in-Known.q) v v)
+    (sorted_as (ask_by s.in-Known.t) w v) (sorted_is u v w s.in-Known.is) (sorted_as_point.sorted_as.ensures u v d e) (not_from_true _ if1.if-not-sorted_as.false)
     (sorted_as2.sorted_as-2.ensures v v e e) (not_from_false _ c.if-not-sorted_as-2.true))
     (λ c κs. search rules)
     (λ c.
@@ -35,6 +35,6 @@ operands_sorted_spec = tie.close (tie.spec
     let if1 = sorted_as2.before in
     let sorted_as_point = if1.before in
     let s = sorted_as_point.before.before in
-    λ u v w d e f. third (sorted_as (ask_by s.s-1.given.0.0) u v) (sorted_as (ask_by s.s-1.given.0.1.0) v v)
-    (sorted_as (ask_by s.s-1.given.0.1.1.0) w v) (sorted_is u v w s.s-1.given.1) (sorted_as_point.sorted_as.ensures u v d e) (not_from_true _ if1.if-not-sorted_as.false)
+    λ u v w d e f. third (sorted_as (ask_by s.in-Known.p) u v) (sorted_as (ask_by s.in-Known.q) v v)
+    (sorted_as (ask_by s.in-Known.t) w v) (sorted_is u v w s.in-Known.is) (sorted_as_point.sorted_as.ensures u v d e) (not_from_true _ if1.if-not-sorted_as.false)
     (sorted_as2.sorted_as-2.ensures v v e e) (not_from_true _ if2.if-not-sorted_as-2.false) (c.sorted_as-3.ensures w v f e)))

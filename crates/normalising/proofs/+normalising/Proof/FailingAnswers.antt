@@ -59,7 +59,7 @@ failing_tried_requires t c κs =
     let get = match_at.before in
     let start = get.before.before.before in
     call_a start.args.rows.now start.args.row start.args.depth t 0 start.requires 5 (omega arith) get.get-kind.result c.operand-in-48.result
-    get.get-kind.ensures c.operand-in-48.ensures (omega (arith, match_at.in_default-1.keys2)) (omega (arith, match_at.in_default-1.keys2))
+    get.get-kind.ensures c.operand-in-48.ensures (omega (arith, match_at.in-48.is)) (omega (arith, match_at.in-48.is))
 
 pub failing_operand_requires_3 : (t : ℕ) → failing-lts.Need-operand-requires-then-tried (failing_calls t) (failing_at t) failing.Post
 failing_operand_requires_3 t c κs =
@@ -72,7 +72,7 @@ failing_tried_requires_2 t c κs =
     let get = match_at.before in
     let start = get.before.before.before in
     call_b start.args.rows.now start.args.row start.args.depth t 0 start.requires 5 (omega arith) get.get-kind.result c.operand-then-tried.result
-    start.args.depth get.get-kind.ensures c.operand-then-tried.ensures (omega (arith, match_at.in_default-1.keys2)) start.requires.1.room
+    start.args.depth get.get-kind.ensures c.operand-then-tried.ensures (omega (arith, match_at.in-48.is)) start.requires.1.room
 
 pub failing_operand_requires_4 : (t : ℕ) → failing-lts.Need-operand-requires-in-43-to-44 (failing_calls t) (failing_at t) failing.Post
 failing_operand_requires_4 t c κs =
@@ -118,7 +118,7 @@ failing_returns_2 t c =
     let get = c.before in
     let start = get.before.before.before in
     failing_fail start.args.rows.now start.args.state.now start.args.row start.args.env.now start.args.depth
-    (sym get.get-kind.ensures ∙ c.in_default-1.keys1)
+    (sym get.get-kind.ensures ∙ c.in-45.is)
 
 pub failing_returns_3 : (t : ℕ) → failing-lts.Need-returns-then-tried (failing_calls t) (failing_at t) failing.Post
 failing_returns_3 t c =
@@ -133,7 +133,7 @@ failing_returns_3 t c =
     let start = handed_on.before in
     failing_branches start.args.rows.now start.args.state.now start.args.row start.args.env.now start.args.depth
     (handed_on.handed_on-part.ensures.none if1.if-part-ne0.false) operand2.operand-in-48.result operand3.operand-then-tried.result tried.tried.result
-    c.tried-then-tried.result (sym get.get-kind.ensures ∙ match_at.in_default-1.keys2) operand2.operand-in-48.ensures tried.tried.ensures
+    c.tried-then-tried.result (sym get.get-kind.ensures ∙ match_at.in-48.is) operand2.operand-in-48.ensures tried.tried.ensures
     (inl (if2.if-tried.true, (operand3.operand-then-tried.ensures, c.tried-then-tried.ensures)))
 
 pub failing_returns_4 : (t : ℕ) → failing-lts.Need-returns-else-tried (failing_calls t) (failing_at t) failing.Post
@@ -147,7 +147,7 @@ failing_returns_4 t c =
     let start = handed_on.before in
     failing_branches start.args.rows.now start.args.state.now start.args.row start.args.env.now start.args.depth
     (handed_on.handed_on-part.ensures.none if1.if-part-ne0.false) operand2.operand-in-48.result 0 tried.tried.result tried.tried.result
-    (sym get.get-kind.ensures ∙ match_at.in_default-1.keys2) operand2.operand-in-48.ensures tried.tried.ensures (inr (c.if-tried.false, c.if-tried.false))
+    (sym get.get-kind.ensures ∙ match_at.in-48.is) operand2.operand-in-48.ensures tried.tried.ensures (inr (c.if-tried.false, c.if-tried.false))
 
 pub failing_returns_5 : (t : ℕ) → failing-lts.Need-returns-in-43-to-44 (failing_calls t) (failing_at t) failing.Post
 failing_returns_5 t c =

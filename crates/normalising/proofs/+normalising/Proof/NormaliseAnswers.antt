@@ -27,7 +27,7 @@ normalise_loop_holds t c = (omega arith, mid_0 c.args.rows.now c.args.state.now 
 pub normalise_stride_requires : (t : ℕ) → normalise-lts.Need-stride-moved-requires (normalise_calls t) (normalise_at t) normalise.Post normalise_Inv_loop normalise_μ_loop
 normalise_stride_requires t c κs = let s = c.before.before.before in call_same s.args.rows.now s.args.row s.args.depth t 3 s.requires 2 (omega arith)
 
-pub normalise_add_strides : (t : ℕ) → normalise-lts.Need-overflow-add-strides (normalise_calls t) (normalise_at t) normalise.Post normalise_Inv_loop normalise_μ_loop
+pub normalise_add_strides : (t : ℕ) → normalise-lts.Need-overflow_add-strides (normalise_calls t) (normalise_at t) normalise.Post normalise_Inv_loop normalise_μ_loop
 normalise_add_strides t c = search rules
 
 pub normalise_returns : (t : ℕ) → normalise-lts.Need-returns-then-not-moved (normalise_calls t) (normalise_at t) normalise.Post normalise_Inv_loop normalise_μ_loop

@@ -60,7 +60,7 @@ stride_stride_requires_2 t c κs =
     let get = match_at.before in
     let start = get.before.before.before.before in
     call_a start.args.rows.now start.args.row start.args.depth t 2 start.requires 2 (omega arith) get.get-kind.result
-    operand2.operand-a.result get.get-kind.ensures operand2.operand-a.ensures (omega (arith, match_at.in_default.keys1)) (omega (arith, match_at.in_default.keys1))
+    operand2.operand-a.result get.get-kind.ensures operand2.operand-a.ensures (omega (arith, match_at.in-43.is)) (omega (arith, match_at.in-43.is))
 
 pub stride_value_requires : (t : ℕ) → stride-lts.Need-value-found-requires (stride_calls t) (stride_at t) stride.Post
 stride_value_requires t c κs =
@@ -69,7 +69,7 @@ stride_value_requires t c κs =
     let get = match_at.before in
     let start = get.before.before.before.before in
     fine_a start.args.rows.now start.args.row start.args.depth start.requires.1 get.get-kind.result operand2.operand-a.result
-    get.get-kind.ensures operand2.operand-a.ensures (omega (arith, match_at.in_default.keys1)) (omega (arith, match_at.in_default.keys1))
+    get.get-kind.ensures operand2.operand-a.ensures (omega (arith, match_at.in-43.is)) (omega (arith, match_at.in-43.is))
 
 pub stride_returns_2 : (t : ℕ) → stride-lts.Need-returns-then-not-found (stride_calls t) (stride_at t) stride.Post
 stride_returns_2 t c =
@@ -84,7 +84,7 @@ stride_returns_2 t c =
     step_waits start.args.rows.now start.args.state.now stride2.stride-moved.new.state start.args.row start.args.env.now
     start.args.depth (handed_on.handed_on-part.ensures.none if1.if-part-ne0.false) operand2.operand-a.result stride2.stride-moved.result
     operand2.operand-a.ensures stride2.stride-moved.ensures value.value-found.result value.value-found.ensures
-    (sym get.get-kind.ensures ∙ match_at.in_default.keys1) (not_t _ (not_from_false _ c.if-not-found.true))
+    (sym get.get-kind.ensures ∙ match_at.in-43.is) (not_t _ (not_from_false _ c.if-not-found.true))
 
 pub stride_attempt_requires : (t : ℕ) → stride-lts.Need-attempt-requires (stride_calls t) (stride_at t) stride.Post
 stride_attempt_requires t c κs =
@@ -92,7 +92,7 @@ stride_attempt_requires t c κs =
     let get = match_at.before in
     let start = get.before.before.before.before in
     let p = call_same start.args.rows.now start.args.row start.args.depth t 2 start.requires 1 (omega arith) in
-    (p.0, (p.1, omega (arith, get.get-kind.ensures, match_at.in_default.keys1), omega (arith, get.get-kind.ensures, match_at.in_default.keys1)))
+    (p.0, (p.1, omega (arith, get.get-kind.ensures, match_at.in-43.is), omega (arith, get.get-kind.ensures, match_at.in-43.is)))
 
 pub stride_operand_requires_3 : (t : ℕ) → stride-lts.Need-operand-requires-in-44 (stride_calls t) (stride_at t) stride.Post
 stride_operand_requires_3 t c κs =
@@ -105,7 +105,7 @@ stride_stride_requires_3 t c κs =
     let get = match_at.before in
     let start = get.before.before.before.before in
     call_a start.args.rows.now start.args.row start.args.depth t 2 start.requires 2 (omega arith) get.get-kind.result c.operand-in-44.result
-    get.get-kind.ensures c.operand-in-44.ensures (omega (arith, match_at.in_default.keys2)) (omega (arith, match_at.in_default.keys2))
+    get.get-kind.ensures c.operand-in-44.ensures (omega (arith, match_at.in-44.is)) (omega (arith, match_at.in-44.is))
 
 pub stride_operand_requires_4 : (t : ℕ) → stride-lts.Need-operand-requires-in-46 (stride_calls t) (stride_at t) stride.Post
 stride_operand_requires_4 t c κs =
@@ -118,7 +118,7 @@ stride_stride_requires_4 t c κs =
     let get = match_at.before in
     let start = get.before.before.before.before in
     call_a start.args.rows.now start.args.row start.args.depth t 2 start.requires 2 (omega arith) get.get-kind.result c.operand-in-46.result
-    get.get-kind.ensures c.operand-in-46.ensures (omega (arith, match_at.in_default.keys3)) (omega (arith, match_at.in_default.keys3))
+    get.get-kind.ensures c.operand-in-46.ensures (omega (arith, match_at.in-46.is)) (omega (arith, match_at.in-46.is))
 
 pub stride_operand_requires_5 : (t : ℕ) → stride-lts.Need-operand-requires-in-46-2 (stride_calls t) (stride_at t) stride.Post
 stride_operand_requires_5 t c κs =
@@ -131,7 +131,7 @@ stride_stride_requires_5 t c κs =
     let get = match_at.before in
     let start = get.before.before.before.before in
     call_b start.args.rows.now start.args.row start.args.depth t 2 start.requires 2 (omega arith) get.get-kind.result c.operand-in-46-2.result
-    start.args.depth get.get-kind.ensures c.operand-in-46-2.ensures (omega (arith, match_at.in_default.keys3)) start.requires.1.room
+    start.args.depth get.get-kind.ensures c.operand-in-46-2.ensures (omega (arith, match_at.in-46.is)) start.requires.1.room
 
 pub stride_choose_requires : (t : ℕ) → stride-lts.Need-choose-requires (stride_calls t) (stride_at t) stride.Post
 stride_choose_requires t c κs =
@@ -141,7 +141,7 @@ stride_choose_requires t c κs =
     let handed_on = if1.before in
     let start = handed_on.before.before in
     let p = call_same start.args.rows.now start.args.row start.args.depth t 2 start.requires 1 (omega arith) in
-    (p.0, (p.1, sym get.get-kind.ensures ∙ match_at.in_default.keys4, (handed_on.handed_on-part.ensures.none if1.if-part-ne0.false)))
+    (p.0, (p.1, sym get.get-kind.ensures ∙ match_at.in-47.is, (handed_on.handed_on-part.ensures.none if1.if-part-ne0.false)))
 
 pub stride_returns_3 : (t : ℕ) → stride-lts.Need-returns-then-attempt (stride_calls t) (stride_at t) stride.Post
 stride_returns_3 t c =
@@ -158,7 +158,7 @@ stride_returns_3 t c =
     step_tries start.args.rows.now start.args.state.now stride2.stride-moved.new.state start.args.row start.args.env.now
     start.args.depth (handed_on.handed_on-part.ensures.none if1.if-part-ne0.false) operand2.operand-a.result stride2.stride-moved.result
     operand2.operand-a.ensures stride2.stride-moved.ensures value.value-found.result value.value-found.ensures attempt.attempt.new.state
-    attempt.attempt.result attempt.attempt.result (hands_or_left _ c.if-attempt.true) (sym get.get-kind.ensures ∙ match_at.in_default.keys1)
+    attempt.attempt.result attempt.attempt.result (hands_or_left _ c.if-attempt.true) (sym get.get-kind.ensures ∙ match_at.in-43.is)
     (not_f _ (not_from_true _ if2.if-not-found.false)) attempt.attempt.ensures
 
 pub stride_returns_4 : (t : ℕ) → stride-lts.Need-returns-else-attempt (stride_calls t) (stride_at t) stride.Post
@@ -176,7 +176,7 @@ stride_returns_4 t c =
     step_tries start.args.rows.now start.args.state.now stride2.stride-moved.new.state start.args.row start.args.env.now
     start.args.depth (handed_on.handed_on-part.ensures.none if1.if-part-ne0.false) operand2.operand-a.result stride2.stride-moved.result
     operand2.operand-a.ensures stride2.stride-moved.ensures value.value-found.result value.value-found.ensures attempt.attempt.new.state
-    attempt.attempt.result stride2.stride-moved.result (hands_or_right c.if-attempt.false) (sym get.get-kind.ensures ∙ match_at.in_default.keys1)
+    attempt.attempt.result stride2.stride-moved.result (hands_or_right c.if-attempt.false) (sym get.get-kind.ensures ∙ match_at.in-43.is)
     (not_f _ (not_from_true _ if2.if-not-found.false)) attempt.attempt.ensures
 
 pub stride_returns_5 : (t : ℕ) → stride-lts.Need-returns-in-44 (stride_calls t) (stride_at t) stride.Post
@@ -189,7 +189,7 @@ stride_returns_5 t c =
     let start = handed_on.before.before in
     stride_next start.args.rows.now start.args.state.now c.stride-in-44.new.state start.args.row start.args.env.now
     start.args.depth (handed_on.handed_on-part.ensures.none if1.if-part-ne0.false) operand3.operand-in-44.result c.stride-in-44.result
-    operand3.operand-in-44.ensures c.stride-in-44.ensures (sym get.get-kind.ensures ∙ match_at.in_default.keys2)
+    operand3.operand-in-44.ensures c.stride-in-44.ensures (sym get.get-kind.ensures ∙ match_at.in-44.is)
 
 pub stride_returns_6 : (t : ℕ) → stride-lts.Need-returns-then-left (stride_calls t) (stride_at t) stride.Post
 stride_returns_6 t c =
@@ -203,7 +203,7 @@ stride_returns_6 t c =
     stride_both start.args.rows.now start.args.state.now stride4.stride-left.new.state stride5.stride-right.new.state start.args.row
     start.args.env.now start.args.depth operand4.operand-in-46.result operand5.operand-in-46-2.result stride4.stride-left.result
     stride5.stride-right.result operand4.operand-in-46.ensures operand5.operand-in-46-2.ensures stride4.stride-left.ensures stride5.stride-right.ensures
-    stride4.stride-left.result (sym get.get-kind.ensures ∙ match_at.in_default.keys3) (hands_or_left _ c.if-left.true)
+    stride4.stride-left.result (sym get.get-kind.ensures ∙ match_at.in-46.is) (hands_or_left _ c.if-left.true)
 
 pub stride_returns_7 : (t : ℕ) → stride-lts.Need-returns-else-left (stride_calls t) (stride_at t) stride.Post
 stride_returns_7 t c =
@@ -217,7 +217,7 @@ stride_returns_7 t c =
     stride_both start.args.rows.now start.args.state.now stride4.stride-left.new.state stride5.stride-right.new.state start.args.row
     start.args.env.now start.args.depth operand4.operand-in-46.result operand5.operand-in-46-2.result stride4.stride-left.result
     stride5.stride-right.result operand4.operand-in-46.ensures operand5.operand-in-46-2.ensures stride4.stride-left.ensures stride5.stride-right.ensures
-    stride5.stride-right.result (sym get.get-kind.ensures ∙ match_at.in_default.keys3) (hands_or_right c.if-left.false)
+    stride5.stride-right.result (sym get.get-kind.ensures ∙ match_at.in-46.is) (hands_or_right c.if-left.false)
 
 pub stride_returns_8 : (t : ℕ) → stride-lts.Need-returns-in-47 (stride_calls t) (stride_at t) stride.Post
 stride_returns_8 t c = c.choose.ensures

@@ -29,7 +29,7 @@ read_spec = tie.close (tie.spec
     let start = if1.before.before in
     let s = start.args.s.now in
     let q = read.read-reading in
-    let e = count_number s if1.if-s-ne-COUNT_BYTES.false if2.if-s-ne-NEWLINE.false q.result q.ensures reading.reading-1.given.0.0 c.few.result reading.reading-1.given.1 c.few.ensures in
+    let e = count_number s if1.if-s-ne-COUNT_BYTES.false if2.if-s-ne-NEWLINE.false q.result q.ensures reading.in-Number.bits c.few.result reading.in-Number.is c.few.ensures in
     (e, subst (λ n. n ≤ max_rows) (sym e) (count_few s)))
     (λ c.
     let read = c.before.before in
@@ -38,7 +38,7 @@ read_spec = tie.close (tie.spec
     let start = if1.before.before in
     let s = start.args.s.now in
     let q = read.read-reading in
-    (count_blank s if1.if-s-ne-COUNT_BYTES.false if2.if-s-ne-NEWLINE.false q.result q.ensures c.enum_told-1.given.1, omega arith))
+    (count_blank s if1.if-s-ne-COUNT_BYTES.false if2.if-s-ne-NEWLINE.false q.result q.ensures c.in-Blank.is, omega arith))
     (λ c.
     let read = c.before.before in
     let if2 = read.before in
@@ -46,4 +46,4 @@ read_spec = tie.close (tie.spec
     let start = if1.before.before in
     let s = start.args.s.now in
     let q = read.read-reading in
-    (count_unread s if1.if-s-ne-COUNT_BYTES.false if2.if-s-ne-NEWLINE.false q.result q.ensures c.enum_told-in-Unreadable-1.given.1, omega arith)))
+    (count_unread s if1.if-s-ne-COUNT_BYTES.false if2.if-s-ne-NEWLINE.false q.result q.ensures c.in-Unreadable.is, omega arith)))

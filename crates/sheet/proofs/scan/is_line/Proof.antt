@@ -20,7 +20,7 @@ returns_2 c =
     let read = start_at in
     let start = read.before.before.before.before in
     line_row start.args.sheet.now start.args.i (start.args.i * line_bytes + (line_bytes - 1)) (omega arith) read.before.if-sheet-at-ne-NEWLINE.false
-    reading.reading-1.given.0.0 start.requires.0 (sym reading.reading-1.given.1 ∙ read.read-reading.ensures)
+    reading.in-Number.n start.requires.0 (sym reading.in-Number.is ∙ read.read-reading.ensures)
 
 returns_3 : tie.Need-returns-in-Blank
 returns_3 c =
@@ -29,7 +29,7 @@ returns_3 c =
     let start_at = if1.before.before.before in
     let start = start_at in
     line_blank start.args.sheet.now start.args.i (start.args.i * line_bytes + (line_bytes - 1)) (omega arith) if1.if-sheet-at-ne-NEWLINE.false
-    (sym c.enum_told-1.given.1 ∙ read.read-reading.ensures)
+    (sym c.in-Blank.is ∙ read.read-reading.ensures)
 
 returns_4 : tie.Need-returns-in-Unreadable
 returns_4 c =
@@ -37,7 +37,7 @@ returns_4 c =
     let if1 = read.before in
     let start = if1.before.before.before in
     line_unread start.args.sheet.now start.args.i (start.args.i * line_bytes + (line_bytes - 1)) (omega arith) if1.if-sheet-at-ne-NEWLINE.false
-    (sym c.enum_told-in-Unreadable-1.given.1 ∙ read.read-reading.ensures)
+    (sym c.in-Unreadable.is ∙ read.read-reading.ensures)
 
 pub is_line_spec : {M : Type 1} → statement M
 is_line_spec = tie.close (tie.spec

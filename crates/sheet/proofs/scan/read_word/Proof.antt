@@ -6,7 +6,7 @@ use Rattle.sheet.proofs.ScanLaws.{place_in, word_number, word_blank, word_unread
 use Rattle.sheet.proofs.scan.read_word.Statement.{statement}
 use Rattle.sheet.proofs.scan.read_word.Tie as tie
 
-add_read : tie.Need-overflow-add-read
+add_read : tie.Need-overflow_add-i
 add_read c =
     let place = c.before in
     let start = place.before.before in
@@ -22,7 +22,7 @@ returns c =
     let place = columns.before in
     let start = place.before.before in
     word_number start.args.sheet.now start.args.i start.args.k start.args.kind place.place_of-place.result columns.columns_of-columns.result place.place_of-place.ensures columns.columns_of-columns.ensures
-    reading.reading-1.given.0.0 (sym reading.reading-1.given.1 ∙ read.read-reading.ensures)
+    reading.in-Number.n (sym reading.in-Number.is ∙ read.read-reading.ensures)
 
 returns_2 : tie.Need-returns-in-Blank
 returns_2 c =
@@ -32,7 +32,7 @@ returns_2 c =
     let place = columns.before in
     let start = place.before.before in
     word_blank start.args.sheet.now start.args.i start.args.k start.args.kind place.place_of-place.result columns.columns_of-columns.result place.place_of-place.ensures columns.columns_of-columns.ensures
-    c.unused.result (sym told.enum_told-1.given.1 ∙ read.read-reading.ensures) c.unused.ensures
+    c.unused.result (sym told.in-Blank.is ∙ read.read-reading.ensures) c.unused.ensures
 
 returns_3 : tie.Need-returns-in-Unreadable
 returns_3 c =
@@ -41,7 +41,7 @@ returns_3 c =
     let place = columns.before in
     let start = place.before.before in
     word_unread start.args.sheet.now start.args.i start.args.k start.args.kind place.place_of-place.result columns.columns_of-columns.result place.place_of-place.ensures columns.columns_of-columns.ensures
-    (sym c.enum_told-in-Unreadable-1.given.1 ∙ read.read-reading.ensures)
+    (sym c.in-Unreadable.is ∙ read.read-reading.ensures)
 
 pub read_word_spec : {M : Type 1} → statement M
 read_word_spec = tie.close (tie.spec (λ c κs. search rules) (λ c κs. search rules) (λ c. search rules) add_read (λ c κs. search rules)
