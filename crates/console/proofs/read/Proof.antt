@@ -11,18 +11,13 @@ pub read_spec : {M : Type 1} → statement M
 read_spec = tie.close (tie.spec
     (λ c. search rules)
     (λ c.
-    let if1 = c.before in
-    let start = if1.before.before in
-    front start.args.left start.args.to.now (le_of_lt if1.if-left-to.true))
+    front c.args.left c.args.to.now (le_of_lt c.if-left-to.true))
     (λ c κs. search rules)
     (λ c. search rules)
     (λ c.
-    let read_full = c.before.before in
-    let if1 = read_full.before.before in
-    let start = if1.before.before in
-    let a = start.args in
-    let q = read_full.read_full in
-    let k = front a.left a.to-1.now (le_of_lt if1.if-left-to.true) in
+    let a = c.args in
+    let q = c.read_full in
+    let k = front a.left a.to-1.now (le_of_lt c.if-left-to.true) in
     (omega (arith, q.ensures.0, q.auto.0, k), counts_front q.result q.new.0 (drop a.left a.to-1.now) q.ensures))
     (λ c κs. search rules)
     (λ c. search rules)

@@ -51,295 +51,171 @@ entries_shut_requires t c κs = c.before.before.before.requires.1.0.low
 
 entries_returns : (t : ℕ) → entries-lts.Need-returns-then-shut (entries_calls t) (entries_at t) entries.Post
 entries_returns t c =
-    let shut = c.before in
-    let start = shut.before.before.before.before in
-    (omega arith, entries_kept start.args.who start.args.rows.now start.args.state.now start.args.row start.args.env.now start.args.depth (path_of start.args.marks) start.args.list.now shut.shut.result shut.shut.ensures c.if-shut.true)
+    (omega arith, entries_kept c.args.who c.args.rows.now c.args.state.now c.args.row c.args.env.now c.args.depth (path_of c.args.marks) c.args.list.now c.shut.result c.shut.ensures c.if-shut.true)
 
 entries_enclose_requires : (t : ℕ) → entries-lts.Need-enclose-under-requires (entries_calls t) (entries_at t) entries.Post
 entries_enclose_requires t c κs =
-    let start = c.before.before.before.before.before.before.before in
-    (start.requires.1.0.low, start.requires.1.0.room)
+    (c.requires.1.0.low, c.requires.1.0.room)
 
 entries_operand_requires : (t : ℕ) → entries-lts.Need-operand-a-requires (entries_calls t) (entries_at t) entries.Post
 entries_operand_requires t c κs =
-    let handed_on = c.before.before.before.before.before.before in
-    let start = handed_on.before.before in
-    (start.requires.1.0.low, handed_on.handed_on-part.ensures.low)
+    (c.requires.1.0.low, c.handed_on-part.ensures.low)
 
 entries_entries_requires : (t : ℕ) → entries-lts.Need-entries-requires (entries_calls t) (entries_at t) entries.Post
 entries_entries_requires t c κs =
-    let operand = c.before.before in
-    let enclose = operand.before in
-    let if2 = enclose.before.before.before in
-    let shut = if2.before in
-    let if1 = shut.before in
-    let handed_on = if1.before in
-    let start = handed_on.before.before in
-    call_at start.requires operand.operand-a.result enclose.enclose-under.result _ _
-    (low_part start.args.rows.now start.args.row start.requires.1.0 (handed_on.handed_on-part.ensures.on if1.if-part-ne0.true) operand.operand-a.ensures)
-    enclose.enclose-under.ensures.room start.requires.1.1
+    call_at c.requires c.operand-a.result c.enclose-under.result _ _
+    (low_part c.args.rows.now c.args.row c.requires.1.0 (c.handed_on-part.ensures.on c.if-part-ne0.true) c.operand-a.ensures)
+    c.enclose-under.ensures.room c.requires.1.1
 
 entries_same_length : (t : ℕ) → entries-lts.Need-shape_of-list-then-part-ne0 (entries_calls t) (entries_at t) entries.Post
 entries_same_length t c = c.before.before.entries.auto.list
 
 entries_returns_2 : (t : ℕ) → entries-lts.Need-returns-then-part-ne0 (entries_calls t) (entries_at t) entries.Post
 entries_returns_2 t c =
-    let entries = c.before.before in
-    let operand = entries.before.before.before in
-    let enclose = operand.before in
-    let if2 = enclose.before.before.before in
-    let shut = if2.before in
-    let if1 = shut.before in
-    let handed_on = if1.before in
-    let start = handed_on.before.before in
-    (entries.entries.ensures.0, entries_part start.args.who start.args.rows.now start.args.state.now start.args.row start.args.env.now start.args.depth (path_of start.args.marks) start.args.list.now shut.shut.result shut.shut.ensures if2.if-shut.false (handed_on.handed_on-part.ensures.on if1.if-part-ne0.true) operand.operand-a.ensures enclose.enclose-under.new.env enclose.enclose-under.result enclose.enclose-under.ensures entries.entries.new.list entries.entries.result entries.entries.ensures.1)
+    (c.entries.ensures.0, entries_part c.args.who c.args.rows.now c.args.state.now c.args.row c.args.env.now c.args.depth (path_of c.args.marks) c.args.list.now c.shut.result c.shut.ensures c.if-shut.false (c.handed_on-part.ensures.on c.if-part-ne0.true) c.operand-a.ensures c.enclose-under.new.env c.enclose-under.result c.enclose-under.ensures c.entries.new.list c.entries.result c.entries.ensures.1)
 
 entries_get_requires : (t : ℕ) → entries-lts.Need-get-kind-requires (entries_calls t) (entries_at t) entries.Post
 entries_get_requires t c κs = (c.before.before.before.requires.1.0.low, omega arith)
 
 entries_operand_requires_2 : (t : ℕ) → entries-lts.Need-operand-a-requires-2 (entries_calls t) (entries_at t) entries.Post
 entries_operand_requires_2 t c κs =
-    let start = c.before.before.before.before in
-    (start.requires.1.0.low, omega arith)
+    (c.requires.1.0.low, omega arith)
 
 entries_operand_requires_3 : (t : ℕ) → entries-lts.Need-operand-b-requires (entries_calls t) (entries_at t) entries.Post
 entries_operand_requires_3 t c κs =
-    let start = c.before.before.before.before.before in
-    (start.requires.1.0.low, omega arith)
+    (c.requires.1.0.low, omega arith)
 
 entries_entries_requires_2 : (t : ℕ) → entries-lts.Need-entries-requires-in-43 (entries_calls t) (entries_at t) entries.Post
 entries_entries_requires_2 t c κs =
-    let match_at = c.before in
-    let operand2 = match_at.before.before in
-    let get = operand2.before in
-    let start = get.before.before.before.before in
-    call_at start.requires operand2.operand-a-2.result _ _ _
-    (low_a start.requires.1.0 get.get-kind.result operand2.operand-a-2.result get.get-kind.ensures operand2.operand-a-2.ensures (omega (arith, match_at.in-43.is)) (omega (arith, match_at.in-43.is)))
-    start.requires.1.0.room start.requires.1.1
+    call_at c.requires c.operand-a-2.result _ _ _
+    (low_a c.requires.1.0 c.get-kind.result c.operand-a-2.result c.get-kind.ensures c.operand-a-2.ensures (omega (arith, c.in-43.is)) (omega (arith, c.in-43.is)))
+    c.requires.1.0.room c.requires.1.1
 
 entries_entries_requires_3 : (t : ℕ) → entries-lts.Need-entries-n-requires (entries_calls t) (entries_at t) entries.Post
 entries_entries_requires_3 t c κs =
-    let match_at = c.before in
-    let operand2 = match_at.before.before in
-    let get = operand2.before in
-    let start = get.before.before.before.before in
-    call_at start.requires operand2.operand-a-2.result _ _ _
-    (low_a start.requires.1.0 get.get-kind.result operand2.operand-a-2.result get.get-kind.ensures operand2.operand-a-2.ensures (omega (arith, match_at.in-44.is)) (omega (arith, match_at.in-44.is)))
-    start.requires.1.0.room start.requires.1.1
+    call_at c.requires c.operand-a-2.result _ _ _
+    (low_a c.requires.1.0 c.get-kind.result c.operand-a-2.result c.get-kind.ensures c.operand-a-2.ensures (omega (arith, c.in-44.is)) (omega (arith, c.in-44.is)))
+    c.requires.1.0.room c.requires.1.1
 
 entries_goes_on_requires : (t : ℕ) → entries-lts.Need-goes_on-enabled-requires (entries_calls t) (entries_at t) entries.Post
 entries_goes_on_requires t c κs =
-    let match_at = c.before.before.before.before in
-    let get = match_at.before.before.before in
-    let start = get.before.before.before.before in
-    (start.requires.1.0, omega (arith, get.get-kind.ensures, match_at.in-44.is), omega (arith, get.get-kind.ensures, match_at.in-44.is))
+    (c.requires.1.0, omega (arith, c.get-kind.ensures, c.in-44.is), omega (arith, c.get-kind.ensures, c.in-44.is))
 
 entries_choice_requires : (t : ℕ) → entries-lts.Need-choice-requires (entries_calls t) (entries_at t) entries.Post
 entries_choice_requires t c κs =
-    let match_at = c.before in
-    let get = match_at.before.before.before in
-    let if1 = get.before in
-    let handed_on = if1.before in
-    let start = handed_on.before.before in
-    (start.requires.1.0, sym get.get-kind.ensures ∙ match_at.in-48.is, (handed_on.handed_on-part.ensures.none if1.if-part-ne0.false), start.requires.1.1.few)
+    (c.requires.1.0, sym c.get-kind.ensures ∙ c.in-48.is, (c.handed_on-part.ensures.none c.if-part-ne0.false), c.requires.1.1.few)
 
 entries_offer_requires : (t : ℕ) → entries-lts.Need-offer-requires (entries_calls t) (entries_at t) entries.Post
 entries_offer_requires t c κs =
-    let if4 = c.before in
-    let if3 = if4.before in
-    let get = if3.before.before.before.before in
-    let start = get.before.before.before.before in
-    (fine_at start.requires.1.0 start.args.row 0 (omega arith) (omega arith), omega (arith, get.get-kind.ensures, if3.if-kind-lt40.false), omega (arith, get.get-kind.ensures, if4.if-kind-lt43.true), start.requires.1.1.few)
+    (fine_at c.requires.1.0 c.args.row 0 (omega arith) (omega arith), omega (arith, c.get-kind.ensures, c.if-kind-lt40.false), omega (arith, c.get-kind.ensures, c.if-kind-lt43.true), c.requires.1.1.few)
 
 entries_returns_3 : (t : ℕ) → entries-lts.Need-returns-then-unit-eq-MOST_UNIT (entries_calls t) (entries_at t) entries.Post
 entries_returns_3 t c =
-    let if6 = c.before in
-    let if5 = if6.before in
-    let get = if5.before.before.before.before.before.before in
-    let if1 = get.before in
-    let handed_on = if1.before in
-    let start = handed_on.before.before in
-    (omega arith, entries_full (who_of start.args.who) start.args.rows.now start.args.state.now start.args.row start.args.env.now start.args.depth (path_of start.args.marks) start.args.list.now (handed_on.handed_on-part.ensures.none if1.if-part-ne0.false) (omega (arith, get.get-kind.ensures, if5.if-kind-lt46.false)) (omega (arith, get.get-kind.ensures, if6.if-kind-lt48.true)) (path_full start.requires.1.1 c.if-unit-eq-MOST_UNIT.true))
+    (omega arith, entries_full (who_of c.args.who) c.args.rows.now c.args.state.now c.args.row c.args.env.now c.args.depth (path_of c.args.marks) c.args.list.now (c.handed_on-part.ensures.none c.if-part-ne0.false) (omega (arith, c.get-kind.ensures, c.if-kind-lt46.false)) (omega (arith, c.get-kind.ensures, c.if-kind-lt48.true)) (path_full c.requires.1.1 c.if-unit-eq-MOST_UNIT.true))
 
 entries_mul_two : (t : ℕ) → entries-lts.Need-overflow_mul-two (entries_calls t) (entries_at t) entries.Post
 entries_mul_two t c =
-    let start = c.before.before.before.before.before.before.before.before.before.before.before.before in
-    omega (arith, unit_most start.requires.1.1)
+    omega (arith, unit_most c.requires.1.1)
 
 entries_add_entries : (t : ℕ) → entries-lts.Need-overflow_add-marks (entries_calls t) (entries_at t) entries.Post
 entries_add_entries t c =
-    let start = c.before.before.before.before.before.before.before.before.before.before.before.before in
-    omega (arith, unit_most start.requires.1.1, path_most start.requires.1.1)
+    omega (arith, unit_most c.requires.1.1, path_most c.requires.1.1)
 
 entries_entries_requires_4 : (t : ℕ) → entries-lts.Need-entries-n-requires-in-46-to-47 (entries_calls t) (entries_at t) entries.Post
 entries_entries_requires_4 t c κs =
-    let if7 = c.before in
-    let if5 = if7.before.before in
-    let operand2 = if5.before.before.before.before.before in
-    let get = operand2.before in
-    let start = get.before.before.before.before in
-    call_at start.requires operand2.operand-a-2.result _ _ _
-    (low_a start.requires.1.0 get.get-kind.result operand2.operand-a-2.result get.get-kind.ensures operand2.operand-a-2.ensures (omega (arith, if5.if-kind-lt46.false)) (omega (arith, if7.before.if-kind-lt48.true)))
-    start.requires.1.0.room (at_first start.requires.1.1 if7.if-unit-eq-MOST_UNIT.false).1
+    call_at c.requires c.operand-a-2.result _ _ _
+    (low_a c.requires.1.0 c.get-kind.result c.operand-a-2.result c.get-kind.ensures c.operand-a-2.ensures (omega (arith, c.if-kind-lt46.false)) (omega (arith, c.if-kind-lt48.true)))
+    c.requires.1.0.room (at_first c.requires.1.1 c.if-unit-eq-MOST_UNIT.false).1
 
 entries_same_length_2 : (t : ℕ) → entries-lts.Need-shape_of-list-in-43 (entries_calls t) (entries_at t) entries.Post
 entries_same_length_2 t c = c.before.before.entries-in-43.auto.list
 
 entries_returns_4 : (t : ℕ) → entries-lts.Need-returns-in-43 (entries_calls t) (entries_at t) entries.Post
 entries_returns_4 t c =
-    let entries2 = c.before.before in
-    let match_at = entries2.before.before in
-    let operand2 = match_at.before.before in
-    let get = operand2.before in
-    let if1 = get.before in
-    let handed_on = if1.before in
-    let start = handed_on.before.before in
-    (entries2.entries-in-43.ensures.0, entries_then (who_of start.args.who) start.args.rows.now start.args.state.now start.args.row start.args.env.now start.args.depth (path_of start.args.marks) start.args.list.now (handed_on.handed_on-part.ensures.none if1.if-part-ne0.false) entries2.entries-in-43.new.list operand2.operand-a-2.result entries2.entries-in-43.result (sym get.get-kind.ensures ∙ match_at.in-43.is) operand2.operand-a-2.ensures entries2.entries-in-43.ensures.1)
+    (c.entries-in-43.ensures.0, entries_then (who_of c.args.who) c.args.rows.now c.args.state.now c.args.row c.args.env.now c.args.depth (path_of c.args.marks) c.args.list.now (c.handed_on-part.ensures.none c.if-part-ne0.false) c.entries-in-43.new.list c.operand-a-2.result c.entries-in-43.result (sym c.get-kind.ensures ∙ c.in-43.is) c.operand-a-2.ensures c.entries-in-43.ensures.1)
 
 entries_same_length_4 : (t : ℕ) → entries-lts.Need-shape_of-list-in-48 (entries_calls t) (entries_at t) entries.Post
 entries_same_length_4 t c = c.before.before.choice.auto.list
 
 entries_returns_6 : (t : ℕ) → entries-lts.Need-returns-in-48 (entries_calls t) (entries_at t) entries.Post
 entries_returns_6 t c =
-    let choice = c.before.before in
-    let start = choice.before.before.before.before.before.before.before.before.before in
-    (choice.choice.ensures.0, choice.choice.ensures.1 (who_of start.args.who))
+    (c.choice.ensures.0, c.choice.ensures.1 (who_of c.args.who))
 
 entries_same_length_5 : (t : ℕ) → entries-lts.Need-shape_of-list-in-40-to-42 (entries_calls t) (entries_at t) entries.Post
 entries_same_length_5 t c = c.before.before.offer.auto.list
 
 entries_returns_7 : (t : ℕ) → entries-lts.Need-returns-in-40-to-42 (entries_calls t) (entries_at t) entries.Post
 entries_returns_7 t c =
-    let offer = c.before.before in
-    let start = offer.before.before.before.before.before.before.before.before.before.before.before in
-    (offer.offer.ensures.0, offer.offer.ensures.1 start.args.env.now start.args.depth (who_of start.args.who))
+    (c.offer.ensures.0, c.offer.ensures.1 c.args.env.now c.args.depth (who_of c.args.who))
 
 entries_returns_9 : (t : ℕ) → entries-lts.Need-returns-in_default (entries_calls t) (entries_at t) entries.Post
 entries_returns_9 t c =
-    let get = c.before.before.before.before in
-    let if1 = get.before in
-    let handed_on = if1.before in
-    let start = handed_on.before.before in
-    (omega arith, entries_none (who_of start.args.who) start.args.rows.now start.args.state.now start.args.row start.args.env.now start.args.depth (path_of start.args.marks) start.args.list.now (handed_on.handed_on-part.ensures.none if1.if-part-ne0.false) (λ h g. omega (arith, get.get-kind.ensures, c.if-kind-lt40.true, h)) (λ h g. omega (arith, get.get-kind.ensures, c.if-kind-lt40.true, h)))
+    (omega arith, entries_none (who_of c.args.who) c.args.rows.now c.args.state.now c.args.row c.args.env.now c.args.depth (path_of c.args.marks) c.args.list.now (c.handed_on-part.ensures.none c.if-part-ne0.false) (λ h g. omega (arith, c.get-kind.ensures, c.if-kind-lt40.true, h)) (λ h g. omega (arith, c.get-kind.ensures, c.if-kind-lt40.true, h)))
 
 entries_returns_10 : (t : ℕ) → entries-lts.Need-returns-in_default-2 (entries_calls t) (entries_at t) entries.Post
 entries_returns_10 t c =
-    let if4 = c.before in
-    let match_at = if4.before.before in
-    let get = match_at.before.before.before in
-    let if1 = get.before in
-    let handed_on = if1.before in
-    let start = handed_on.before.before in
-    (omega arith, entries_none (who_of start.args.who) start.args.rows.now start.args.state.now start.args.row start.args.env.now start.args.depth (path_of start.args.marks) start.args.list.now (handed_on.handed_on-part.ensures.none if1.if-part-ne0.false) (λ h g. none_mid (omega (arith, if4.if-kind-lt43.false)) match_at.in_default-1.rest.0.0.1 match_at.in_default-1.rest.0.1 (omega (arith, get.get-kind.ensures, g))) (λ h g. omega (arith, get.get-kind.ensures, c.if-kind-lt46.true, h)))
+    (omega arith, entries_none (who_of c.args.who) c.args.rows.now c.args.state.now c.args.row c.args.env.now c.args.depth (path_of c.args.marks) c.args.list.now (c.handed_on-part.ensures.none c.if-part-ne0.false) (λ h g. none_mid (omega (arith, c.if-kind-lt43.false)) c.in_default-1.in_default-own.rest.0.0.1 c.in_default-1.in_default-own.rest.0.1 (omega (arith, c.get-kind.ensures, g))) (λ h g. omega (arith, c.get-kind.ensures, c.if-kind-lt46.true, h)))
 
 entries_returns_11 : (t : ℕ) → entries-lts.Need-returns-in_default-3 (entries_calls t) (entries_at t) entries.Post
 entries_returns_11 t c =
-    let match_at = c.before.before.before.before in
-    let get = match_at.before.before.before in
-    let if1 = get.before in
-    let handed_on = if1.before in
-    let start = handed_on.before.before in
-    (omega arith, entries_none (who_of start.args.who) start.args.rows.now start.args.state.now start.args.row start.args.env.now start.args.depth (path_of start.args.marks) start.args.list.now (handed_on.handed_on-part.ensures.none if1.if-part-ne0.false) (λ h g. omega (arith, get.get-kind.ensures, c.if-kind-lt48.false, g)) (λ h g. none_high (omega (arith, c.if-kind-lt48.false)) match_at.in_default-1.rest.1 (omega (arith, get.get-kind.ensures, g))))
+    (omega arith, entries_none (who_of c.args.who) c.args.rows.now c.args.state.now c.args.row c.args.env.now c.args.depth (path_of c.args.marks) c.args.list.now (c.handed_on-part.ensures.none c.if-part-ne0.false) (λ h g. omega (arith, c.get-kind.ensures, c.if-kind-lt48.false, g)) (λ h g. none_high (omega (arith, c.if-kind-lt48.false)) c.in_default-1.in_default-own.rest.1 (omega (arith, c.get-kind.ensures, g))))
 
 -- ---- 44: Continue, after the left side's entries
 
 -- what is known where Continue's entry was asked for
-entries_next_after : (t : ℕ) (c : entries-lts.After-least (entries_calls t) (entries_at t) entries.Post) → let button = c.before.before.before in let least = button.before.before in let entries3 = least.before.before.before.before in
-    After entries3.before.before.before.before.before.before.before.before.before.args.list.now entries3.entries-n.new.list entries3.entries-n.result button.button-m.result least.least-at.result c.least.result
+entries_next_after : (t : ℕ) (c : entries-lts.After-least (entries_calls t) (entries_at t) entries.Post) →
+    After c.args.list.now c.entries-n.new.list c.entries-n.result c.button-m.result c.least-at.result c.least.result
 entries_next_after t c =
-    let button = c.before.before.before in
-    let least = button.before.before in
-    let entries3 = least.before.before.before.before in
-    record { kept = entries3.entries-n.auto.list; place = least.least-at.ensures; sum = c.least.ensures }
+    record { kept = c.entries-n.auto.list; place = c.least-at.ensures; sum = c.least.ensures }
 
 entries_button_requires : (t : ℕ) → entries-lts.Need-button-m-requires (entries_calls t) (entries_at t) entries.Post
 entries_button_requires t c κs =
-    let start = c.before.before.before.before.before.before.before.before.before.before.before.before.before.before in
-    (start.requires.1.1.few, omega arith)
+    (c.requires.1.1.few, omega arith)
 
 entries_add_least : (t : ℕ) → entries-lts.Need-overflow_add-n (entries_calls t) (entries_at t) entries.Post
 entries_add_least t c =
-    let button = c.before.before in
-    let entries3 = button.before.before.before.before.before.before in
-    omega (arith, entries3.entries-n.ensures.0, button.button-m.ensures.most)
+    omega (arith, c.entries-n.ensures.0, c.button-m.ensures.most)
 
 entries_same_length_3 : (t : ℕ) → entries-lts.Need-shape_of-list-in-44 (entries_calls t) (entries_at t) entries.Post
 entries_same_length_3 t c =
-    let button = c.before.before.before in
-    let least = button.before.before in
-    let entries3 = least.before.before.before.before in
-    same_len_mid least.least-at.result (length entries3.entries-n.new.list - least.least-at.result)
-    entries3.entries-n.new.list button.button-m.new.list button.button-m.auto.list ∙ entries3.entries-n.auto.list
+    same_len_mid c.least-at.result (length c.entries-n.new.list - c.least-at.result)
+    c.entries-n.new.list c.button-m.new.list c.button-m.auto.list ∙ c.entries-n.auto.list
 
 entries_returns_5 : (t : ℕ) → entries-lts.Need-returns-in-44 (entries_calls t) (entries_at t) entries.Post
 entries_returns_5 t c =
-    let button = c.before.before.before in
-    let goes_on = button.before.before.before in
-    let entries3 = goes_on.before.before.before in
-    let match_at = entries3.before.before in
-    let operand2 = match_at.before.before in
-    let get = operand2.before in
-    let if1 = get.before in
-    let handed_on = if1.before in
-    let start = handed_on.before.before in
-    (c.least.ensures.at_most, entries_next (who_of start.args.who) start.args.rows.now start.args.state.now start.args.row start.args.env.now start.args.depth (path_of start.args.marks) start.args.list.now (handed_on.handed_on-part.ensures.none if1.if-part-ne0.false) operand2.operand-a-2.result goes_on.goes_on-enabled.result (sym get.get-kind.ensures ∙ match_at.in-44.is) operand2.operand-a-2.ensures (entries_next_after t c) entries3.entries-n.ensures.1 goes_on.goes_on-enabled.ensures button.button-m.ensures)
+    (c.least.ensures.at_most, entries_next (who_of c.args.who) c.args.rows.now c.args.state.now c.args.row c.args.env.now c.args.depth (path_of c.args.marks) c.args.list.now (c.handed_on-part.ensures.none c.if-part-ne0.false) c.operand-a-2.result c.goes_on-enabled.result (sym c.get-kind.ensures ∙ c.in-44.is) c.operand-a-2.ensures (entries_next_after t c) c.entries-n.ensures.1 c.goes_on-enabled.ensures c.button-m.ensures)
 
 -- ---- 46 and 47: the right part's entries, after the left part's
 
 -- what is known where the right part's entries were asked for
-entries_both_after : (t : ℕ) (c : entries-lts.After-least-in-46-to-47 (entries_calls t) (entries_at t) entries.Post) → let entries5 = c.before.before.before in let least3 = entries5.before.before in let entries4 = least3.before.before.before in
-    After entries4.before.before.before.before.before.before.before.before.before.before.before.before.before.before.args.list.now entries4.entries-n-in-46-to-47.new.list entries4.entries-n-in-46-to-47.result entries5.entries-m.result least3.least-at-in-46-to-47.result c.least-in-46-to-47.result
+entries_both_after : (t : ℕ) (c : entries-lts.After-least-in-46-to-47 (entries_calls t) (entries_at t) entries.Post) →
+    After c.args.list.now c.entries-n-in-46-to-47.new.list c.entries-n-in-46-to-47.result c.entries-m.result c.least-at-in-46-to-47.result c.least-in-46-to-47.result
 entries_both_after t c =
-    let entries5 = c.before.before.before in
-    let least3 = entries5.before.before in
-    let entries4 = least3.before.before.before in
-    record { kept = entries4.entries-n-in-46-to-47.auto.list; place = least3.least-at-in-46-to-47.ensures; sum = c.least-in-46-to-47.ensures }
+    record { kept = c.entries-n-in-46-to-47.auto.list; place = c.least-at-in-46-to-47.ensures; sum = c.least-in-46-to-47.ensures }
 
 entries_add_entries_2 : (t : ℕ) → entries-lts.Need-overflow_add-marks-in-46-to-47 (entries_calls t) (entries_at t) entries.Post
 entries_add_entries_2 t c =
-    let start = c.before.before.before.before.before.before.before.before.before.before.before.before.before.before.before.before.before in
-    omega (arith, unit_most start.requires.1.1, path_most start.requires.1.1)
+    omega (arith, unit_most c.requires.1.1, path_most c.requires.1.1)
 
 entries_entries_requires_5 : (t : ℕ) → entries-lts.Need-entries-m-requires (entries_calls t) (entries_at t) entries.Post
 entries_entries_requires_5 t c κs =
-    let if7 = c.before.before.before.before.before.before in
-    let if5 = if7.before.before in
-    let operand3 = if5.before.before.before.before in
-    let get = operand3.before.before in
-    let start = get.before.before.before.before in
-    call_at start.requires operand3.operand-b.result _ _ _
-    (low_b start.requires.1.0 get.get-kind.result operand3.operand-b.result get.get-kind.ensures operand3.operand-b.ensures (omega (arith, if5.if-kind-lt46.false)))
-    start.requires.1.0.room (at_second start.requires.1.1 if7.if-unit-eq-MOST_UNIT.false).1
+    call_at c.requires c.operand-b.result _ _ _
+    (low_b c.requires.1.0 c.get-kind.result c.operand-b.result c.get-kind.ensures c.operand-b.ensures (omega (arith, c.if-kind-lt46.false)))
+    c.requires.1.0.room (at_second c.requires.1.1 c.if-unit-eq-MOST_UNIT.false).1
 
 entries_add_least_2 : (t : ℕ) → entries-lts.Need-overflow_add-n-in-46-to-47 (entries_calls t) (entries_at t) entries.Post
 entries_add_least_2 t c =
-    let entries5 = c.before.before in
-    let entries4 = entries5.before.before.before.before.before in
-    omega (arith, entries4.entries-n-in-46-to-47.ensures.0, entries5.entries-m.ensures.0)
+    omega (arith, c.entries-n-in-46-to-47.ensures.0, c.entries-m.ensures.0)
 
 entries_same_length_6 : (t : ℕ) → entries-lts.Need-shape_of-list-else-unit-eq-MOST_UNIT (entries_calls t) (entries_at t) entries.Post
 entries_same_length_6 t c =
-    let entries5 = c.before.before.before in
-    let least3 = entries5.before.before in
-    let entries4 = least3.before.before.before in
-    same_len_mid least3.least-at-in-46-to-47.result (length entries4.entries-n-in-46-to-47.new.list - least3.least-at-in-46-to-47.result)
-    entries4.entries-n-in-46-to-47.new.list entries5.entries-m.new.list
-    entries5.entries-m.auto.list ∙ entries4.entries-n-in-46-to-47.auto.list
+    same_len_mid c.least-at-in-46-to-47.result (length c.entries-n-in-46-to-47.new.list - c.least-at-in-46-to-47.result)
+    c.entries-n-in-46-to-47.new.list c.entries-m.new.list
+    c.entries-m.auto.list ∙ c.entries-n-in-46-to-47.auto.list
 
 entries_returns_8 : (t : ℕ) → entries-lts.Need-returns-else-unit-eq-MOST_UNIT (entries_calls t) (entries_at t) entries.Post
 entries_returns_8 t c =
-    let entries5 = c.before.before.before in
-    let entries4 = entries5.before.before.before.before.before in
-    let if7 = entries4.before.before in
-    let if6 = if7.before in
-    let if5 = if6.before in
-    let operand3 = if5.before.before.before.before in
-    let operand2 = operand3.before in
-    let get = operand2.before in
-    let if1 = get.before in
-    let handed_on = if1.before in
-    let start = handed_on.before.before in
-    (c.least-in-46-to-47.ensures.at_most, entries_marked (who_of start.args.who) start.args.rows.now start.args.state.now start.args.row start.args.env.now start.args.depth start.args.marks start.args.unit start.args.list.now operand2.operand-a-2.result operand3.operand-b.result start.requires.1.1 if7.if-unit-eq-MOST_UNIT.false (handed_on.handed_on-part.ensures.none if1.if-part-ne0.false) (entries_both_after t c) (omega (arith, get.get-kind.ensures, if5.if-kind-lt46.false)) (omega (arith, get.get-kind.ensures, if6.if-kind-lt48.true)) operand2.operand-a-2.ensures operand3.operand-b.ensures entries4.entries-n-in-46-to-47.ensures.1 entries5.entries-m.ensures.1)
+    (c.least-in-46-to-47.ensures.at_most, entries_marked (who_of c.args.who) c.args.rows.now c.args.state.now c.args.row c.args.env.now c.args.depth c.args.marks c.args.unit c.args.list.now c.operand-a-2.result c.operand-b.result c.requires.1.1 c.if-unit-eq-MOST_UNIT.false (c.handed_on-part.ensures.none c.if-part-ne0.false) (entries_both_after t c) (omega (arith, c.get-kind.ensures, c.if-kind-lt46.false)) (omega (arith, c.get-kind.ensures, c.if-kind-lt48.true)) c.operand-a-2.ensures c.operand-b.ensures c.entries-n-in-46-to-47.ensures.1 c.entries-m.ensures.1)
 
 pub +entries_spec : {M : Type 1} → statement M
 +entries_spec = close μ_entries λ t. entries-lts.spec (entries_calls t) (entries_at t)

@@ -13,37 +13,20 @@ content_spec = tie.close (tie.spec
     (λ c κs. search rules)
     (λ c κs. search rules)
     (λ c κs.
-    let operand = c.before in
-    let get = operand.before in
-    let start = get.before in
-    let l = low_a start.requires.0 get.get-kind.result operand.operand-a.result get.get-kind.ensures operand.operand-a.ensures (omega (arith, start.requires.1, get.get-kind.ensures)) (omega (arith, start.requires.2, get.get-kind.ensures)) in
-    let f = start.requires.0.low in
+    let l = low_a c.requires.0 c.get-kind.result c.operand-a.result c.get-kind.ensures c.operand-a.ensures (omega (arith, c.requires.1, c.get-kind.ensures)) (omega (arith, c.requires.2, c.get-kind.ensures)) in
+    let f = c.requires.0.low in
     omega arith)
     (λ c κs.
-    let operand = c.before in
-    let get = operand.before in
-    let start = get.before in
-    let l = low_a start.requires.0 get.get-kind.result operand.operand-a.result get.get-kind.ensures operand.operand-a.ensures (omega (arith, start.requires.1, get.get-kind.ensures)) (omega (arith, start.requires.2, get.get-kind.ensures)) in
-    let f = start.requires.0.low in
+    let l = low_a c.requires.0 c.get-kind.result c.operand-a.result c.get-kind.ensures c.operand-a.ensures (omega (arith, c.requires.1, c.get-kind.ensures)) (omega (arith, c.requires.2, c.get-kind.ensures)) in
+    let f = c.requires.0.low in
     (omega arith, omega arith))
     (λ c.
-    let match_at = c.before in
-    let get = match_at.before.before in
-    let start = get.before in
-    content_filled start.args.rows.now start.args.state.now start.args.row c.read.result
-    (sym get.get-kind.ensures ∙ match_at.in-40.is) c.read.ensures)
+    content_filled c.args.rows.now c.args.state.now c.args.row c.read.result
+    (sym c.get-kind.ensures ∙ c.in-40.is) c.read.ensures)
     (λ c.
-    let match_at = c.before in
-    let operand = match_at.before in
-    let get = operand.before in
-    let start = get.before in
-    content_entered start.args.rows.now start.args.state.now start.args.row operand.operand-a.result c.row_type.result _ _
-    (sym get.get-kind.ensures ∙ match_at.in-41.is) operand.operand-a.ensures c.row_type.ensures)
+    content_entered c.args.rows.now c.args.state.now c.args.row c.operand-a.result c.row_type.result _ _
+    (sym c.get-kind.ensures ∙ c.in-41.is) c.operand-a.ensures c.row_type.ensures)
     (λ c.
-    let match_at = c.before in
-    let operand = match_at.before in
-    let get = operand.before in
-    let start = get.before in
-    content_shared start.args.rows.now start.args.state.now start.args.row operand.operand-a.result c.read-in_default.result
-    (shared_kind start.requires.1 start.requires.2 (λ e. match_at.in_default.rest.0.1 (get.get-kind.ensures ∙ e)) (λ e. match_at.in_default.rest.1 (get.get-kind.ensures ∙ e)))
-    operand.operand-a.ensures c.read-in_default.ensures))
+    content_shared c.args.rows.now c.args.state.now c.args.row c.operand-a.result c.read-in_default.result
+    (shared_kind c.requires.1 c.requires.2 (λ e. c.in_default.in_default-own.rest.0.1 (c.get-kind.ensures ∙ e)) (λ e. c.in_default.in_default-own.rest.1 (c.get-kind.ensures ∙ e)))
+    c.operand-a.ensures c.read-in_default.ensures))

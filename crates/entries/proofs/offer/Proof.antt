@@ -16,13 +16,7 @@ offer_spec = tie.close (tie.spec
     (λ c κs. search rules)
     (λ c κs. search rules)
     (λ c κs.
-    let content = c.before.before in
-    let start = content.before.before in
-    (start.requires.3, omega arith, kinds_digit c.leaf_kinds.result content.content-shape.result c.leaf_kinds.ensures))
+    (c.requires.3, omega arith, kinds_digit c.leaf_kinds.result c.content-shape.result c.leaf_kinds.ensures))
     (λ c. search rules)
     (λ c.
-    let write_entry = c.before.before in
-    let leaf_kinds = write_entry.before in
-    let content = leaf_kinds.before.before in
-    let start = content.before.before in
-    (omega (arith, write_entry.write_entry.ensures.most), λ env d v. entries_offer v start.args.rows.now start.args.state.now start.args.row env d (path_of start.args.marks) start.args.list.now write_entry.write_entry.new.list write_entry.write_entry.result content.content-shape.result content.content-shape.ensures (subst (λ ks. Wrote start.args.list.now write_entry.write_entry.new.list write_entry.write_entry.result (numbers_entry (path_of start.args.marks) (act_number giving) ks)) leaf_kinds.leaf_kinds.ensures write_entry.write_entry.ensures))))
+    (omega (arith, c.write_entry.ensures.most), λ env d v. entries_offer v c.args.rows.now c.args.state.now c.args.row env d (path_of c.args.marks) c.args.list.now c.write_entry.new.list c.write_entry.result c.content-shape.result c.content-shape.ensures (subst (λ ks. Wrote c.args.list.now c.write_entry.new.list c.write_entry.result (numbers_entry (path_of c.args.marks) (act_number giving) ks)) c.leaf_kinds.ensures c.write_entry.ensures))))

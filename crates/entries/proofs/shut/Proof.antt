@@ -8,22 +8,13 @@ use Rattle.entries.proofs.shut.Tie as tie
 pub shut_spec : {M : Type 1} → statement M
 shut_spec = tie.close (tie.spec
     (λ c κs. (c.requires, omega arith))
-    (λ c. let get = c.before in let s = get.before.args in shut_other s.rows.now s.state.now s.row s.who (λ e. c.if-get-ne-GATE.true (get.get.ensures ∙ e)))
+    (λ c. let s = c.args in shut_other s.rows.now s.state.now s.row s.who (λ e. c.if-get-ne-GATE.true (c.get.ensures ∙ e)))
     (λ c. let s = c.before.before.before.args in shut_anyone s.rows.now s.state.now s.row s.who c.if-who-eq0.true)
     (λ c κs. (c.before.before.before.requires, omega arith))
     (λ c.
-    let get2 = c.before in
-    let if2 = get2.before in
-    let if1 = if2.before in
-    let get = if1.before in
-    let s = get.before.args in
-    shut_role s.rows.now s.state.now s.row s.who (sym get.get.ensures ∙ if1.if-get-ne-GATE.false) if2.if-who-eq0.false (λ e. c.if-get-who.true (get2.get-2.ensures ∙ e)))
+    let s = c.args in
+    shut_role s.rows.now s.state.now s.row s.who (sym c.get.ensures ∙ c.if-get-ne-GATE.false) c.if-who-eq0.false (λ e. c.if-get-who.true (c.get-2.ensures ∙ e)))
     (λ c κs. c.before.before.before.before.before.requires)
     (λ c.
-    let if3 = c.before in
-    let get2 = if3.before in
-    let if2 = get2.before in
-    let if1 = if2.before in
-    let get = if1.before in
-    let s = get.before.args in
-    shut_spent s.rows.now s.state.now s.row s.who (sym get.get.ensures ∙ if1.if-get-ne-GATE.false) if2.if-who-eq0.false c.read_touches.result (sym get2.get-2.ensures ∙ if3.if-get-who.false) c.read_touches.ensures))
+    let s = c.args in
+    shut_spent s.rows.now s.state.now s.row s.who (sym c.get.ensures ∙ c.if-get-ne-GATE.false) c.if-who-eq0.false c.read_touches.result (sym c.get-2.ensures ∙ c.if-get-who.false) c.read_touches.ensures))

@@ -19,24 +19,19 @@ returns c =
 
 same_length : tie.Need-shape_of-list
 same_length c =
-    let write_numbers = c.before.before in
-    let start = write_numbers.before.before.before.before in
+    let start = c.before.before.before.before.before.before in
     let action = start in
     let path = action.before.before.before.before in
-    length-set write_numbers.write_numbers.new.s (entry_bytes - 1) newline ∙ write_numbers.write_numbers.auto.s ∙ action.write-2.auto.s ∙
+    length-set c.write_numbers.new.s (entry_bytes - 1) newline ∙ c.write_numbers.auto.s ∙ action.write-2.auto.s ∙
     path.write.auto.s
 
 returns_2 : tie.Need-returns
 returns_2 c =
-    let numbers = c.before.before in
-    let action = numbers.before.before.before.before in
-    let path = action.before.before.before.before in
-    let room = path.before.before in
-    let start = room.before.before in
+    let start = c.before.before.before.before.before.before.before.before.before.before.before.before.before.before in
     let kinds : length start.args.kinds ≡ max_leaves = let g = start.well_formed in search rules in
     wrote_entry (path_of start.args.marks) start.requires.0 start.args.action start.requires.1 start.args.kinds kinds start.requires.2
-    start.args.list.now path.write.new.s action.write-2.new.s numbers.write_numbers.new.s
-    room.if-list-lt-ENTRY_BYTES.false path.write.ensures.1 action.write-2.ensures.1 numbers.write_numbers.ensures.0
+    start.args.list.now c.write.new.s c.write-2.new.s c.write_numbers.new.s
+    c.if-list-lt-ENTRY_BYTES.false c.write.ensures.1 c.write-2.ensures.1 c.write_numbers.ensures.0
 
 pub write_entry_spec : {M : Type 1} → statement M
 write_entry_spec = tie.close (tie.spec returns (λ c κs. search rules) (λ c κs. search rules) (λ c κs. search rules) (λ c. search rules) same_length returns_2)

@@ -73,261 +73,128 @@ pub +eval_spec : {M : Type 1} → statement M
     eval.Post
     (λ c κs. (c.requires.1.low, omega arith)) (λ c κs. (c.before.before.before.requires.1.low, omega arith))
     (λ c κs.
-    let match_at = c.before.before in
-    let get = match_at.before in
-    let start = get.before in
-    call_b start.requires get.get-kind.result c.operand.result get.get-kind.ensures c.operand.ensures (omega (arith, match_at.in-24.is)))
+    call_b c.requires c.get-kind.result c.operand.result c.get-kind.ensures c.operand.ensures (omega (arith, c.in-24.is)))
     (λ c κs.
-    let start = c.before.before.before.before.before.before in
-    (start.requires.1.low, omega arith))
+    (c.requires.1.low, omega arith))
     (λ c κs.
-    let match_at = c.before.before.before.before.before in
-    let get = match_at.before in
-    let start = get.before in
-    call_c start.requires get.get-kind.result c.operand-in-24.result get.get-kind.ensures c.operand-in-24.ensures (omega (arith, match_at.in-24.is)) (omega (arith, match_at.in-24.is)))
+    call_c c.requires c.get-kind.result c.operand-in-24.result c.get-kind.ensures c.operand-in-24.ensures (omega (arith, c.in-24.is)) (omega (arith, c.in-24.is)))
     (λ c κs.
-    let start = c.before.before.before.before.before.before.before.before in
     (start.requires.1.low, omega arith)) (λ c κs. search rules) (λ c κs. search rules) (λ c κs. search rules)
     (λ c κs. (c.before.before.before.requires.1.low, omega arith))
     (λ c κs.
-    let match_at = c.before.before in
-    let get = match_at.before in
-    let start = get.before in
-    call_a start.requires get.get-kind.result c.operand-in-25.result get.get-kind.ensures c.operand-in-25.ensures (omega (arith, match_at.in-25.is)) (omega (arith, match_at.in-25.is)))
+    call_a c.requires c.get-kind.result c.operand-in-25.result c.get-kind.ensures c.operand-in-25.ensures (omega (arith, c.in-25.is)) (omega (arith, c.in-25.is)))
     (λ c κs. search rules)
     (λ c κs.
-    let start = c.before.before.before.before.before.before.before.before in
-    (start.requires.1.low, omega arith))
+    (c.requires.1.low, omega arith))
     (λ c κs.
-    let match_at = c.before.before.before.before.before.before.before in
-    let get = match_at.before in
-    let start = get.before in
-    call_b start.requires get.get-kind.result c.operand-then-is_true.result get.get-kind.ensures c.operand-then-is_true.ensures (omega (arith, match_at.in-25.is)))
+    call_b c.requires c.get-kind.result c.operand-then-is_true.result c.get-kind.ensures c.operand-then-is_true.ensures (omega (arith, c.in-25.is)))
     (λ c κs. search rules)
     (λ c.
-    let eval4 = c.before in
-    let operand4 = eval4.before in
-    let if1 = operand4.before.before in
-    let is_true = if1.before in
-    let eval3 = is_true.before in
-    let operand3 = eval3.before in
-    let match_at = operand3.before.before in
-    let get = match_at.before in
-    let start = get.before in
-    eval_if_true start.args.rows.now start.args.row start.args.env.now start.args.depth start.args.state.now
-    eval3.eval-test.new.state eval4.eval-taken.new.state eval3.eval-test.result eval4.eval-taken.result c.after-then-is_true.result c.after-then-is_true.ensures
-    is_true.is_true.result is_true.is_true.ensures operand3.operand-in-25.result operand4.operand-then-is_true.result
-    (sym get.get-kind.ensures ∙ match_at.in-25.is) operand3.operand-in-25.ensures eval3.eval-test.ensures eval4.eval-taken.ensures
-    if1.if-is_true.true operand4.operand-then-is_true.ensures)
+    eval_if_true c.args.rows.now c.args.row c.args.env.now c.args.depth c.args.state.now
+    c.eval-test.new.state c.eval-taken.new.state c.eval-test.result c.eval-taken.result c.after-then-is_true.result c.after-then-is_true.ensures
+    c.is_true.result c.is_true.ensures c.operand-in-25.result c.operand-then-is_true.result
+    (sym c.get-kind.ensures ∙ c.in-25.is) c.operand-in-25.ensures c.eval-test.ensures c.eval-taken.ensures
+    c.if-is_true.true c.operand-then-is_true.ensures)
     (λ c κs.
-    let start = c.before.before.before.before.before.before.before.before in
-    (start.requires.1.low, omega arith))
+    (c.requires.1.low, omega arith))
     (λ c κs.
-    let match_at = c.before.before.before.before.before.before.before in
-    let get = match_at.before in
-    let start = get.before in
-    call_c start.requires get.get-kind.result c.operand-in-25-2.result get.get-kind.ensures c.operand-in-25-2.ensures (omega (arith, match_at.in-25.is)) (omega (arith, match_at.in-25.is)))
+    call_c c.requires c.get-kind.result c.operand-in-25-2.result c.get-kind.ensures c.operand-in-25-2.ensures (omega (arith, c.in-25.is)) (omega (arith, c.in-25.is)))
     (λ c κs. search rules)
     (λ c κs. (c.before.before.before.requires.1.low, omega arith))
     (λ c κs.
-    let match_at = c.before.before in
-    let get = match_at.before in
-    let start = get.before in
-    call_a start.requires get.get-kind.result c.operand-in-26.result get.get-kind.ensures c.operand-in-26.ensures (omega (arith, match_at.in-26.is)) (omega (arith, match_at.in-26.is)))
+    call_a c.requires c.get-kind.result c.operand-in-26.result c.get-kind.ensures c.operand-in-26.ensures (omega (arith, c.in-26.is)) (omega (arith, c.in-26.is)))
     (λ c κs.
-    let start = c.before.before.before.before.before.before in
-    (start.requires.1.low, omega arith))
+    (c.requires.1.low, omega arith))
     (λ c κs.
-    let match_at = c.before.before.before.before.before in
-    let get = match_at.before in
-    let start = get.before in
-    call_b start.requires get.get-kind.result c.operand-in-26-2.result get.get-kind.ensures c.operand-in-26-2.ensures (omega (arith, match_at.in-26.is)))
+    call_b c.requires c.get-kind.result c.operand-in-26-2.result c.get-kind.ensures c.operand-in-26-2.ensures (omega (arith, c.in-26.is)))
     (λ c κs. search rules) (λ c κs. search rules) (λ c κs. search rules) (λ c κs. search rules) (λ c κs. (c.before.before.before.requires.1.low, omega arith))
     (λ c κs.
-    let match_at = c.before.before in
-    let get = match_at.before in
-    let start = get.before in
-    let h = low_a start.requires.1 get.get-kind.result c.operand-in-29.result get.get-kind.ensures c.operand-in-29.ensures (omega (arith, match_at.in-29.is)) (omega (arith, match_at.in-29.is)) in
-    omega (arith, start.requires.1.low))
+    let h = low_a c.requires.1 c.get-kind.result c.operand-in-29.result c.get-kind.ensures c.operand-in-29.ensures (omega (arith, c.in-29.is)) (omega (arith, c.in-29.is)) in
+    omega (arith, c.requires.1.low))
     (λ c κs. search rules)
     (λ c κs. (c.before.before.before.requires.1.low, omega arith))
     (λ c κs.
-    let match_at = c.before.before in
-    let get = match_at.before in
-    let start = get.before in
-    call_b start.requires get.get-kind.result c.operand-in-30.result get.get-kind.ensures c.operand-in-30.ensures (omega (arith, match_at.in-30.is)))
+    call_b c.requires c.get-kind.result c.operand-in-30.result c.get-kind.ensures c.operand-in-30.ensures (omega (arith, c.in-30.is)))
     (λ c κs.
-    let start = c.before.before.before.before.before.before in
-    (start.requires.1.low, omega arith))
+    (c.requires.1.low, omega arith))
     (λ c κs.
-    let match_at = c.before.before.before.before.before in
-    let get = match_at.before in
-    let start = get.before in
-    let h = low_a start.requires.1 get.get-kind.result c.operand-in-30-2.result get.get-kind.ensures c.operand-in-30-2.ensures (omega (arith, match_at.in-30.is)) (omega (arith, match_at.in-30.is)) in
-    omega (arith, start.requires.1.low))
+    let h = low_a c.requires.1 c.get-kind.result c.operand-in-30-2.result c.get-kind.ensures c.operand-in-30-2.ensures (omega (arith, c.in-30.is)) (omega (arith, c.in-30.is)) in
+    omega (arith, c.requires.1.low))
     (λ c κs. search rules) (λ c κs. search rules)
     (λ c κs. search rules) (λ c κs. (c.before.before.before.requires.1.low, omega arith))
     (λ c κs.
-    let match_at = c.before.before in
-    let get = match_at.before in
-    let start = get.before in
-    call_a start.requires get.get-kind.result c.operand-in-31.result get.get-kind.ensures c.operand-in-31.ensures (omega (arith, match_at.in-31.is)) (omega (arith, match_at.in-31.is)))
+    call_a c.requires c.get-kind.result c.operand-in-31.result c.get-kind.ensures c.operand-in-31.ensures (omega (arith, c.in-31.is)) (omega (arith, c.in-31.is)))
     (λ c κs. search rules) (λ c κs. search rules)
     (λ c.
-    let if2 = c.before.before in
-    let eval9 = if2.before in
-    let match_at = eval9.before.before.before in
-    let get = match_at.before in
-    let start = get.before in
-    eval_deep start.args.rows.now start.args.row start.args.env.now start.args.depth start.args.state.now
-    eval9.eval-bound.new.state c.sure-then-depth-ge-MAX_BINDERS.result (sym get.get-kind.ensures ∙ match_at.in-31.is) if2.if-depth-ge-MAX_BINDERS.true)
+    eval_deep c.args.rows.now c.args.row c.args.env.now c.args.depth c.args.state.now
+    c.eval-bound.new.state c.sure-then-depth-ge-MAX_BINDERS.result (sym c.get-kind.ensures ∙ c.in-31.is) c.if-depth-ge-MAX_BINDERS.true)
     (λ c κs. c.if-depth-ge-MAX_BINDERS.false)
     (λ c κs.
-    let start = c.before.before.before.before.before.before.before.before in
     (start.requires.1.low, omega arith)) (λ c. search rules)
     (λ c κs.
-    let operand12 = c.before in
-    let if2 = operand12.before.before.before in
-    let match_at = if2.before.before.before.before in
-    let get = match_at.before in
-    let start = get.before in
-    let h = low_b start.requires.1 get.get-kind.result operand12.operand-in-31-2.result get.get-kind.ensures operand12.operand-in-31-2.ensures (omega (arith, match_at.in-31.is)) in
-    (omega (arith, start.requires.0), fine_at start.requires.1 _ _ (omega arith) (omega (arith, if2.if-depth-ge-MAX_BINDERS.false))))
+    let h = low_b c.requires.1 c.get-kind.result c.operand-in-31-2.result c.get-kind.ensures c.operand-in-31-2.ensures (omega (arith, c.in-31.is)) in
+    (omega (arith, c.requires.0), fine_at c.requires.1 _ _ (omega arith) (omega (arith, c.if-depth-ge-MAX_BINDERS.false))))
     (λ c κs. search rules)
     (λ c κs.
-    let if3 = c.before in
-    let get = if3.before.before in
-    let start = get.before in
-    (start.requires.1.low, start.requires.1.room, get.get-kind.ensures, if3.in_default.left, omega (arith, c.if-kind-lt24.true)))
+    (c.requires.1.low, c.requires.1.room, c.get-kind.ensures, c.in_default.left, omega (arith, c.if-kind-lt24.true)))
     (λ c κs. search rules)
     (λ c κs.
-    let start = c.before.before.before.before.before.before in
-    (start.requires.1.low, omega arith))
+    (c.requires.1.low, omega arith))
     (λ c κs.
-    let if4 = c.before.before.before in
-    let match_at = if4.before.before in
-    let get = match_at.before in
-    let start = get.before in
-    call_a start.requires get.get-kind.result c.operand-in-27-to-28.result get.get-kind.ensures c.operand-in-27-to-28.ensures
-    (omega (arith, if4.if-kind-lt24.false, match_at.in_default-1.rest.0.0.0.0.0.1)) (omega (arith, c.before.before.if-kind-lt29.true)))
+    call_a c.requires c.get-kind.result c.operand-in-27-to-28.result c.get-kind.ensures c.operand-in-27-to-28.ensures
+    (omega (arith, c.if-kind-lt24.false, c.in_default-1.in_default-own.rest.0.0.0.0.0.1)) (omega (arith, c.if-kind-lt29.true)))
     (λ c κs. search rules) (λ c κs. search rules) (λ c κs. search rules) (λ c κs. search rules) (λ c κs. search rules)
     (λ c.
-    let after = c.before in
-    let apply = after.before in
-    let get2 = apply.before in
-    let eval2 = get2.before in
-    let operand2 = eval2.before in
-    let eval = operand2.before.before in
-    let operand = eval.before in
-    let match_at = operand.before.before in
-    let get = match_at.before in
-    let start = get.before in
-    let x = eval.eval-x.result in
-    let y = eval2.eval-y.result in
-    eval_op start.args.rows.now start.args.row start.args.env.now start.args.depth start.args.state.now
-    eval.eval-x.new.state eval2.eval-y.new.state x y c.after-in-24.result operand.operand.result
-    operand2.operand-in-24.result get2.get.result (sym get.get-kind.ensures ∙ match_at.in-24.is) operand.operand.ensures
-    operand2.operand-in-24.ensures get2.get.ensures eval.eval-x.ensures eval2.eval-y.ensures
-    (c.after-in-24.ensures ∙ ap (after_over x.over) (after.after.ensures ∙ ap (after_over y.over) apply.apply-z.ensures)))
+    let x = c.eval-x.result in
+    let y = c.eval-y.result in
+    eval_op c.args.rows.now c.args.row c.args.env.now c.args.depth c.args.state.now
+    c.eval-x.new.state c.eval-y.new.state x y c.after-in-24.result c.operand.result
+    c.operand-in-24.result c.get.result (sym c.get-kind.ensures ∙ c.in-24.is) c.operand.ensures
+    c.operand-in-24.ensures c.get.ensures c.eval-x.ensures c.eval-y.ensures
+    (c.after-in-24.ensures ∙ ap (after_over x.over) (c.after.ensures ∙ ap (after_over y.over) c.apply-z.ensures)))
     (λ c.
-    let eval5 = c.before in
-    let operand5 = eval5.before in
-    let if1 = operand5.before.before in
-    let is_true = if1.before in
-    let eval3 = is_true.before in
-    let operand3 = eval3.before in
-    let match_at = operand3.before.before in
-    let get = match_at.before in
-    let start = get.before in
-    eval_if_false start.args.rows.now start.args.row start.args.env.now start.args.depth start.args.state.now
-    eval3.eval-test.new.state eval5.eval-other.new.state eval3.eval-test.result eval5.eval-other.result c.after-in-25.result c.after-in-25.ensures
-    is_true.is_true.result is_true.is_true.ensures operand3.operand-in-25.result operand5.operand-in-25-2.result
-    (sym get.get-kind.ensures ∙ match_at.in-25.is) operand3.operand-in-25.ensures eval3.eval-test.ensures eval5.eval-other.ensures
-    if1.if-is_true.false operand5.operand-in-25-2.ensures)
+    eval_if_false c.args.rows.now c.args.row c.args.env.now c.args.depth c.args.state.now
+    c.eval-test.new.state c.eval-other.new.state c.eval-test.result c.eval-other.result c.after-in-25.result c.after-in-25.ensures
+    c.is_true.result c.is_true.ensures c.operand-in-25.result c.operand-in-25-2.result
+    (sym c.get-kind.ensures ∙ c.in-25.is) c.operand-in-25.ensures c.eval-test.ensures c.eval-other.ensures
+    c.if-is_true.false c.operand-in-25-2.ensures)
     (λ c.
-    let after5 = c.before in
-    let sure = after5.before in
-    let pair = sure.before in
-    let eval7 = pair.before in
-    let operand7 = eval7.before in
-    let eval6 = operand7.before.before in
-    let operand6 = eval6.before in
-    let match_at = operand6.before.before in
-    let get = match_at.before in
-    let start = get.before in
-    let x = eval6.eval-a.result in
-    let y = eval7.eval-b.result in
-    eval_pair start.args.rows.now start.args.row start.args.env.now start.args.depth start.args.state.now
-    eval6.eval-a.new.state eval7.eval-b.new.state x y c.after-in-26-2.result
-    operand6.operand-in-26.result operand7.operand-in-26-2.result (sym get.get-kind.ensures ∙ match_at.in-26.is) operand6.operand-in-26.ensures
-    operand7.operand-in-26-2.ensures eval6.eval-a.ensures eval7.eval-b.ensures
-    (c.after-in-26-2.ensures ∙ ap (after_over x.over) (after5.after-in-26.ensures ∙ ap (after_over y.over) (sure.sure.ensures ∙ ap sure_of pair.pair-both.ensures))))
+    let x = c.eval-a.result in
+    let y = c.eval-b.result in
+    eval_pair c.args.rows.now c.args.row c.args.env.now c.args.depth c.args.state.now
+    c.eval-a.new.state c.eval-b.new.state x y c.after-in-26-2.result
+    c.operand-in-26.result c.operand-in-26-2.result (sym c.get-kind.ensures ∙ c.in-26.is) c.operand-in-26.ensures
+    c.operand-in-26-2.ensures c.eval-a.ensures c.eval-b.ensures
+    (c.after-in-26-2.ensures ∙ ap (after_over x.over) (c.after-in-26.ensures ∙ ap (after_over y.over) (c.sure.ensures ∙ ap sure_of c.pair-both.ensures))))
     (λ c.
-    let read_value = c.before in
-    let operand8 = read_value.before in
-    let match_at = operand8.before.before in
-    let get = match_at.before in
-    let start = get.before in
-    subst (EvalOk start.args.rows.now start.args.state.now start.args.state.now start.args.row start.args.env.now start.args.depth) (sym c.sure-in-29.ensures)
-    (eval_content start.args.rows.now start.args.row start.args.env.now start.args.depth start.args.state.now
-    read_value.read_value.result operand8.operand-in-29.result (sym get.get-kind.ensures ∙ match_at.in-29.is) operand8.operand-in-29.ensures
-    read_value.read_value.ensures))
+    subst (EvalOk c.args.rows.now c.args.state.now c.args.state.now c.args.row c.args.env.now c.args.depth) (sym c.sure-in-29.ensures)
+    (eval_content c.args.rows.now c.args.row c.args.env.now c.args.depth c.args.state.now
+    c.read_value.result c.operand-in-29.result (sym c.get-kind.ensures ∙ c.in-29.is) c.operand-in-29.ensures
+    c.read_value.ensures))
     (λ c.
-    let sure3 = c.before in
-    let unit = sure3.before in
-    let put_value = unit.before in
-    let operand10 = put_value.before in
-    let eval8 = operand10.before.before in
-    let operand9 = eval8.before in
-    let match_at = operand9.before.before in
-    let get = match_at.before in
-    let start = get.before in
-    let x = eval8.eval-content.result in
-    eval_assign start.args.rows.now start.args.row start.args.env.now start.args.depth start.args.state.now
-    eval8.eval-content.new.state put_value.put_value.new.state x c.after-in-30.result operand10.operand-in-30-2.result
-    operand9.operand-in-30.result (sym get.get-kind.ensures ∙ match_at.in-30.is) operand10.operand-in-30-2.ensures operand9.operand-in-30.ensures
-    eval8.eval-content.ensures put_value.put_value.ensures
-    (c.after-in-30.ensures ∙ ap (after_over x.over) (sure3.sure-in-30.ensures ∙ ap sure_of unit.unit.ensures)))
+    let x = c.eval-content.result in
+    eval_assign c.args.rows.now c.args.row c.args.env.now c.args.depth c.args.state.now
+    c.eval-content.new.state c.put_value.new.state x c.after-in-30.result c.operand-in-30-2.result
+    c.operand-in-30.result (sym c.get-kind.ensures ∙ c.in-30.is) c.operand-in-30-2.ensures c.operand-in-30.ensures
+    c.eval-content.ensures c.put_value.ensures
+    (c.after-in-30.ensures ∙ ap (after_over x.over) (c.sure-in-30.ensures ∙ ap sure_of c.unit.ensures)))
     (λ c.
-    let eval10 = c.before in
-    let operand12 = eval10.before.before in
-    let pushed = operand12.before.before in
-    let eval9 = pushed.before.before in
-    let operand11 = eval9.before in
-    let match_at = operand11.before.before in
-    let get = match_at.before in
-    let start = get.before in
-    eval_let start.args.rows.now start.args.row start.args.env.now start.args.depth start.args.state.now
-    eval9.eval-bound.new.state eval10.eval-body.new.state pushed.pushed-inner.result eval9.eval-bound.result eval10.eval-body.result
-    c.after-in-31.result c.after-in-31.ensures operand11.operand-in-31.result operand12.operand-in-31-2.result
-    (sym get.get-kind.ensures ∙ match_at.in-31.is) operand11.operand-in-31.ensures operand12.operand-in-31-2.ensures
-    eval9.eval-bound.ensures pushed.pushed-inner.ensures eval10.eval-body.ensures)
+    eval_let c.args.rows.now c.args.row c.args.env.now c.args.depth c.args.state.now
+    c.eval-bound.new.state c.eval-body.new.state c.pushed-inner.result c.eval-bound.result c.eval-body.result
+    c.after-in-31.result c.after-in-31.ensures c.operand-in-31.result c.operand-in-31-2.result
+    (sym c.get-kind.ensures ∙ c.in-31.is) c.operand-in-31.ensures c.operand-in-31-2.ensures
+    c.eval-bound.ensures c.pushed-inner.ensures c.eval-body.ensures)
     (λ c.
-    let constant = c.before in
-    let start = constant.before.before.before.before.before in
-    subst (EvalOk start.args.rows.now start.args.state.now start.args.state.now start.args.row start.args.env.now start.args.depth) (sym c.sure-in-20-to-23.ensures)
-    (constant.constant.ensures start.args.state.now))
+    subst (EvalOk c.args.rows.now c.args.state.now c.args.state.now c.args.row c.args.env.now c.args.depth) (sym c.sure-in-20-to-23.ensures)
+    (c.constant.ensures c.args.state.now))
     (λ c.
-    let sure6 = c.before in
-    let part = sure6.before in
-    let eval11 = part.before in
-    let operand13 = eval11.before in
-    let if5 = operand13.before.before in
-    let if4 = if5.before in
-    let match_at = if4.before.before in
-    let get = match_at.before in
-    let start = get.before in
-    let x = eval11.eval-whole.result in
-    eval_part start.args.rows.now start.args.row start.args.env.now start.args.depth start.args.state.now
-    eval11.eval-whole.new.state x part.part.result c.after-in-27-to-28.result (c.after-in-27-to-28.ensures ∙ ap (after_over x.over) sure6.sure-in-27-to-28.ensures)
-    operand13.operand-in-27-to-28.result get.get-kind.result get.get-kind.ensures
-    (omega (arith, if4.if-kind-lt24.false, match_at.in_default-1.rest.0.0.0.0.0.1, match_at.in_default-1.rest.0.0.0.0.1, match_at.in_default-1.rest.0.0.0.1))
-    if5.if-kind-lt29.true operand13.operand-in-27-to-28.ensures eval11.eval-whole.ensures part.part.ensures)
+    let x = c.eval-whole.result in
+    eval_part c.args.rows.now c.args.row c.args.env.now c.args.depth c.args.state.now
+    c.eval-whole.new.state x c.part.result c.after-in-27-to-28.result (c.after-in-27-to-28.ensures ∙ ap (after_over x.over) c.sure-in-27-to-28.ensures)
+    c.operand-in-27-to-28.result c.get-kind.result c.get-kind.ensures
+    (omega (arith, c.if-kind-lt24.false, c.in_default-1.in_default-own.rest.0.0.0.0.0.1, c.in_default-1.in_default-own.rest.0.0.0.0.1, c.in_default-1.in_default-own.rest.0.0.0.1))
+    c.if-kind-lt29.true c.operand-in-27-to-28.ensures c.eval-whole.ensures c.part.ensures)
     (λ c.
-    let if3 = c.before.before in
-    let match_at = if3.before in
-    let get = match_at.before in
-    let start = get.before in
-    let g = get.get-kind.ensures in
-    eval_none start.args.rows.now start.args.row start.args.env.now start.args.depth start.args.state.now c.sure-in_default.result
-    (λ p q. ⊎_elim (λ z. let y = z.taken in omega arith) (λ z. let y = z.2.left in omega (arith, match_at.in_default-1.rest.1, match_at.in_default-1.rest.0.1, match_at.in_default-1.rest.0.0.1)) if3.in_default.branch))
+    let g = c.get-kind.ensures in
+    eval_none c.args.rows.now c.args.row c.args.env.now c.args.depth c.args.state.now c.sure-in_default.result
+    (λ p q. ⊎_elim (λ z. let y = z.taken in omega arith) (λ z. let y = z.2.left in omega (arith, c.in_default-1.in_default-own.rest.1, c.in_default-1.in_default-own.rest.0.1, c.in_default-1.in_default-own.rest.0.0.1)) c.in_default.branch))

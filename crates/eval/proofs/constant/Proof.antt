@@ -10,24 +10,15 @@ pub constant_spec : {M : Type 1} → statement M
 constant_spec = tie.close (tie.spec
     (λ c κs. search rules) (λ c κs. search rules) (λ c κs. search rules) (λ c κs. search rules)
     (λ c κs. search rules) (λ c κs. search rules) (λ c κs. search rules)
-    (λ c. let s = c.before.before in eval_unit s.args.rows.now s.args.row s.args.env.now s.args.depth c.unit.result (sym s.requires.2 ∙ c.before.in-20.is) c.unit.ensures)
+    (λ c. eval_unit c.args.rows.now c.args.row c.args.env.now c.args.depth c.unit.result (sym c.requires.2 ∙ c.in-20.is) c.unit.ensures)
     (λ c.
-    let get = c.before in
-    let match_at = get.before in
-    let start = match_at.before in
-    eval_truth start.args.rows.now start.args.row start.args.env.now start.args.depth c.truth.result get.get.result
-    (sym start.requires.2 ∙ match_at.in-21.is) get.get.ensures c.truth.ensures)
+    eval_truth c.args.rows.now c.args.row c.args.env.now c.args.depth c.truth.result c.get.result
+    (sym c.requires.2 ∙ c.in-21.is) c.get.ensures c.truth.ensures)
     (λ c.
-    let get2 = c.before in
-    let match_at = get2.before in
-    let start = match_at.before in
-    eval_number start.args.rows.now start.args.row start.args.env.now start.args.depth c.number.result get2.get-in-22.result
-    (sym start.requires.2 ∙ match_at.in-22.is) get2.get-in-22.ensures c.number.ensures)
+    eval_number c.args.rows.now c.args.row c.args.env.now c.args.depth c.number.result c.get-in-22.result
+    (sym c.requires.2 ∙ c.in-22.is) c.get-in-22.ensures c.number.ensures)
     (λ c.
-    let operand = c.before in
-    let match_at = operand.before in
-    let start = match_at.before in
-    eval_binder start.args.rows.now start.args.row start.args.env.now start.args.depth c.env_get.result
-    operand.operand.result
-    (let p = start.requires in let x = p.2 in let y = p.3 in let z = p.4 in omega (arith, match_at.in_default.rest.0.0.1, match_at.in_default.rest.0.1, match_at.in_default.rest.1))
-    operand.operand.ensures c.env_get.ensures))
+    eval_binder c.args.rows.now c.args.row c.args.env.now c.args.depth c.env_get.result
+    c.operand.result
+    (let p = c.requires in let x = p.2 in let y = p.3 in let z = p.4 in omega (arith, c.in_default.in_default-own.rest.0.0.1, c.in_default.in_default-own.rest.0.1, c.in_default.in_default-own.rest.1))
+    c.operand.ensures c.env_get.ensures))

@@ -19,46 +19,33 @@ abbrev decreases-loop : tie.decreases-loop-k
 decreases-loop s at width words₀ blank₀ k₀ words blank k = max_leaves - k
 
 loop_holds : tie.Need-loop-k-init invariant-loop decreases-loop
-loop_holds c = let start = c.before in (search rules, refl, refl, read_first start.args.s.now start.args.at start.args.width)
+loop_holds c = (search rules, refl, refl, read_first c.args.s.now c.args.at c.args.width)
 
 mul_read_leaf : tie.Need-overflow_mul-k invariant-loop decreases-loop
 mul_read_leaf c =
-    let loop = c.before in
-    let start = loop.before.before in
-    omega (arith, mul-le-mul_right start.args.width loop.loop-k.invariant.0)
+    omega (arith, mul-le-mul_right c.args.width c.loop-k.invariant.0)
 
 add_read_leaf : tie.Need-overflow_add-at invariant-loop decreases-loop
 add_read_leaf c =
-    let loop = c.before in
-    let start = loop.before.before in
-    omega (arith, mul-le-mul_right start.args.width loop.loop-k.invariant.0)
+    omega (arith, mul-le-mul_right c.args.width c.loop-k.invariant.0)
 
 returns : tie.Need-returns-then-not-leaf invariant-loop decreases-loop
 returns c =
-    let leaf = c.before.before in
-    let test = leaf.before in
-    let loop = test.before in
-    let start = loop.before.before in
-    read_none start.args.s.now start.args.at start.args.width loop.loop-k.k (omega arith) leaf.read_leaf-leaf.result leaf.read_leaf-leaf.ensures (not-true _ c.if-not-leaf.true)
+    read_none c.args.s.now c.args.at c.args.width c.loop-k.k (omega arith) c.read_leaf-leaf.result c.read_leaf-leaf.ensures (not-true _ c.if-not-leaf.true)
 
 loop_again : tie.Need-loop-k-preserved invariant-loop decreases-loop
 loop_again c =
-    let leaf = c.before.before in
-    let test = leaf.before in
-    let loop = test.before in
-    let start = loop.before.before in (
+    (
       omega arith,
-      length-set loop.loop-k.words loop.loop-k.k leaf.read_leaf-leaf.result.bits ∙ loop.loop-k.invariant.1,
-      length-set loop.loop-k.blank loop.loop-k.k leaf.read_leaf-leaf.result.blank ∙ loop.loop-k.invariant.2,
-      read_more start.args.s.now start.args.at start.args.width loop.loop-k.k (omega arith) leaf.read_leaf-leaf.result leaf.read_leaf-leaf.ensures
-          loop.loop-k.words loop.loop-k.blank loop.loop-k.invariant.3 (not-false _ c.if-not-leaf.false),
+      length-set c.loop-k.words c.loop-k.k c.read_leaf-leaf.result.bits ∙ c.loop-k.invariant.1,
+      length-set c.loop-k.blank c.loop-k.k c.read_leaf-leaf.result.blank ∙ c.loop-k.invariant.2,
+      read_more c.args.s.now c.args.at c.args.width c.loop-k.k (omega arith) c.read_leaf-leaf.result c.read_leaf-leaf.ensures
+          c.loop-k.words c.loop-k.blank c.loop-k.invariant.3 (not-false _ c.if-not-leaf.false),
     )
 
 returns_2 : tie.Need-returns invariant-loop decreases-loop
 returns_2 c =
-    let loop = c.before in
-    let start = loop.before.before in
-    read_all start.args.s.now start.args.at start.args.width loop.loop-k.words loop.loop-k.blank loop.loop-k.k (omega arith) loop.loop-k.invariant.3
+    read_all c.args.s.now c.args.at c.args.width c.loop-k.words c.loop-k.blank c.loop-k.k (omega arith) c.loop-k.invariant.3
 
 pub read_leaves_spec : {M : Type 1} → statement M
 read_leaves_spec = tie.close (tie.spec invariant-loop decreases-loop loop_holds mul_read_leaf add_read_leaf

@@ -23,31 +23,25 @@ loop_holds c = (search rules, refl, refl)
 
 mul_write : tie.Need-overflow_mul-i invariant-loop decreases-loop
 mul_write c =
-    let loop = c.before.before in
-    let start = loop.before.before in
-    omega (arith, mul-le-mul_right start.args.width loop.loop-i.invariant.0)
+    omega (arith, mul-le-mul_right c.args.width c.loop-i.invariant.0)
 
 add_write : tie.Need-overflow_add-at invariant-loop decreases-loop
 add_write c =
-    let loop = c.before.before in
-    let start = loop.before.before in
-    omega (arith, mul-le-mul_right start.args.width loop.loop-i.invariant.0)
+    omega (arith, mul-le-mul_right c.args.width c.loop-i.invariant.0)
 
 loop_again : tie.Need-loop-i-preserved invariant-loop decreases-loop
 loop_again c =
-    let write = c.before.before in
-    let start_at = write.before.before.before in
+    let start_at = c.before.before.before.before.before in
     let loop = start_at in
     let start = loop.before.before in
     let long : length start.args.numbers ≡ max_leaves = let g = start.well_formed in search rules in
-    (omega arith, write.write.auto.s ∙ loop.loop-i.invariant.1, write_more start.args.s.now start.args.at start.args.width start.args.numbers loop.loop-i.i loop.loop-i.s write.write.new.s (omega (arith, long)) loop.loop-i.invariant.2 write.write.ensures.1)
+    (omega arith, c.write.auto.s ∙ loop.loop-i.invariant.1, write_more start.args.s.now start.args.at start.args.width start.args.numbers loop.loop-i.i loop.loop-i.s c.write.new.s (omega (arith, long)) loop.loop-i.invariant.2 c.write.ensures.1)
 
 returns : tie.Need-returns invariant-loop decreases-loop
 returns c =
-    let loop = c.before in
-    let start = loop.before.before in
+    let start = c.before.before.before in
     let long : length start.args.numbers ≡ max_leaves = let g = start.well_formed in search rules in
-    (write_all start.args.s.now start.args.at start.args.width start.args.numbers loop.loop-i.i loop.loop-i.s (omega (arith, long)) loop.loop-i.invariant.2, long)
+    (write_all start.args.s.now start.args.at start.args.width start.args.numbers c.loop-i.i c.loop-i.s (omega (arith, long)) c.loop-i.invariant.2, long)
 
 pub write_numbers_spec : {M : Type 1} → statement M
 write_numbers_spec = tie.close (tie.spec invariant-loop decreases-loop loop_holds mul_write add_write

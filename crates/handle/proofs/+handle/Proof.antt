@@ -51,226 +51,108 @@ pub +handle_spec : {M : Type 1} → statement M
     handle.Post
     (λ c κs. c.before.requires.1.0.low)
     (λ c κs.
-    let start = c.before.before.before.before.before.before in
-    (start.requires.1.0.low, start.requires.1.0.room))
+    (c.requires.1.0.low, c.requires.1.0.room))
     (λ c κs.
-    let handed_on = c.before.before.before.before.before.before in
-    let start = handed_on.before.before in
-    (start.requires.1.0.low, handed_on.handed_on-part.ensures.low))
+    (c.requires.1.0.low, c.handed_on-part.ensures.low))
     (λ c κs.
-    let operand = c.before in
-    let enclose = operand.before.before in
-    let if1 = enclose.before.before.before.before in
-    let handed_on = if1.before in
-    let start = handed_on.before.before in
-    let l = low_part start.args.rows.now start.args.row start.requires.1.0 (handed_on.handed_on-part.ensures.on if1.if-part-ne0.true) operand.operand.ensures in
-    (omega (arith, start.requires.0), (fine_part start.args.rows.now start.args.row start.requires.1.0 (handed_on.handed_on-part.ensures.on if1.if-part-ne0.true) operand.operand.ensures enclose.enclose-under.ensures.room, start.requires.1.1)))
+    let l = low_part c.args.rows.now c.args.row c.requires.1.0 (c.handed_on-part.ensures.on c.if-part-ne0.true) c.operand.ensures in
+    (omega (arith, c.requires.0), (fine_part c.args.rows.now c.args.row c.requires.1.0 (c.handed_on-part.ensures.on c.if-part-ne0.true) c.operand.ensures c.enclose-under.ensures.room, c.requires.1.1)))
     (λ c κs.
-    let start = c.before.before.before.before.before.before.before.before.before.before.before.before in
-    start.requires.1.0.low)
+    c.requires.1.0.low)
     (λ c.
-    let handle = c.before.before in
-    let operand = handle.before.before in
-    let enclose = operand.before.before in
-    let if1 = enclose.before.before.before.before in
-    let handed_on = if1.before in
-    let start = handed_on.before.before in
-    handle_part start.args.rows.now start.args.state.now handle.handle-told.new.state c.pass.new.state start.args.row start.args.env.now
-    start.args.depth start.args.e.role (event_path start.args.e) (event_action start.args.e) handle.handle-told.result c.pass.result c.pass.ensures
-    (handed_on.handed_on-part.ensures.on if1.if-part-ne0.true) operand.operand.ensures enclose.enclose-under.new.env enclose.enclose-under.result
-    enclose.enclose-under.ensures handle.handle-told.ensures)
+    handle_part c.args.rows.now c.args.state.now c.handle-told.new.state c.pass.new.state c.args.row c.args.env.now
+    c.args.depth c.args.e.role (event_path c.args.e) (event_action c.args.e) c.handle-told.result c.pass.result c.pass.ensures
+    (c.handed_on-part.ensures.on c.if-part-ne0.true) c.operand.ensures c.enclose-under.new.env c.enclose-under.result
+    c.enclose-under.ensures c.handle-told.ensures)
     (λ c κs. (c.before.before.before.requires.1.0.low, omega arith))
     (λ c κs.
-    let start = c.before.before.before.before in
-    (start.requires.1.0.low, omega arith))
+    (c.requires.1.0.low, omega arith))
     (λ c κs.
-    let match_at = c.before in
-    let operand2 = match_at.before in
-    let get = operand2.before in
-    let start = get.before.before.before.before in
-    let q = call_a (start.requires.0, start.requires.1.0) get.get-kind.result operand2.operand-a.result get.get-kind.ensures operand2.operand-a.ensures (omega (arith, match_at.in-43.is)) (omega (arith, match_at.in-43.is)) in
-    (q.0, (q.1, start.requires.1.1)))
+    let q = call_a (c.requires.0, c.requires.1.0) c.get-kind.result c.operand-a.result c.get-kind.ensures c.operand-a.ensures (omega (arith, c.in-43.is)) (omega (arith, c.in-43.is)) in
+    (q.0, (q.1, c.requires.1.1)))
     (λ c κs.
-    let match_at = c.before in
-    let operand2 = match_at.before in
-    let get = operand2.before in
-    let start = get.before.before.before.before in
-    let h = low_a start.requires.1.0 get.get-kind.result operand2.operand-a.result get.get-kind.ensures operand2.operand-a.ensures (omega (arith, match_at.in-44.is)) (omega (arith, match_at.in-44.is)) in
-    fine_at start.requires.1.0 operand2.operand-a.result 0 (omega arith) (omega arith))
+    let h = low_a c.requires.1.0 c.get-kind.result c.operand-a.result c.get-kind.ensures c.operand-a.ensures (omega (arith, c.in-44.is)) (omega (arith, c.in-44.is)) in
+    fine_at c.requires.1.0 c.operand-a.result 0 (omega arith) (omega arith))
     (λ c κs.
-    let match_at = c.before.before.before.before in
-    let get = match_at.before.before in
-    let start = get.before.before.before.before in
-    (start.requires.1.0, omega (arith, get.get-kind.ensures, match_at.in-44.is), omega (arith, get.get-kind.ensures, match_at.in-44.is)))
+    (c.requires.1.0, omega (arith, c.get-kind.ensures, c.in-44.is), omega (arith, c.get-kind.ensures, c.in-44.is)))
     (λ c κs. search rules)
     (λ c.
-    let attempt = c.before in
-    let if2 = attempt.before.before in
-    let Going-on = if2.before in
-    let match_at = Going-on.before.before in
-    let operand2 = match_at.before in
-    let get = operand2.before in
-    let if1 = get.before in
-    let handed_on = if1.before in
-    let start = handed_on.before.before in
-    handle_continue start.args.rows.now start.args.state.now attempt.attempt.new.state start.args.row start.args.env.now
-    start.args.depth c.answer.result start.args.e operand2.operand-a.result Going-on.going_on-found.result
-    (handed_on.handed_on-part.ensures.none if1.if-part-ne0.false) (sym get.get-kind.ensures ∙ match_at.in-44.is) operand2.operand-a.ensures
-    Going-on.going_on-found.ensures attempt.attempt.result c.answer.ensures if2.if-found.true attempt.attempt.ensures)
+    handle_continue c.args.rows.now c.args.state.now c.attempt.new.state c.args.row c.args.env.now
+    c.args.depth c.answer.result c.args.e c.operand-a.result c.going_on-found.result
+    (c.handed_on-part.ensures.none c.if-part-ne0.false) (sym c.get-kind.ensures ∙ c.in-44.is) c.operand-a.ensures
+    c.going_on-found.ensures c.attempt.result c.answer.ensures c.if-found.true c.attempt.ensures)
     (λ c κs.
-    let match_at = c.before.before.before.before in
-    let operand2 = match_at.before in
-    let get = operand2.before in
-    let start = get.before.before.before.before in
-    let q = call_a (start.requires.0, start.requires.1.0) get.get-kind.result operand2.operand-a.result get.get-kind.ensures operand2.operand-a.ensures (omega (arith, match_at.in-44.is)) (omega (arith, match_at.in-44.is)) in
-    (q.0, (q.1, start.requires.1.1)))
+    let q = call_a (c.requires.0, c.requires.1.0) c.get-kind.result c.operand-a.result c.get-kind.ensures c.operand-a.ensures (omega (arith, c.in-44.is)) (omega (arith, c.in-44.is)) in
+    (q.0, (q.1, c.requires.1.1)))
     (λ c κs.
-    let match_at = c.before in
-    let get = match_at.before.before in
-    let if1 = get.before in
-    let handed_on = if1.before in
-    let start = handed_on.before.before in
-    (start.requires.1.0, sym get.get-kind.ensures ∙ match_at.in-48.is, (handed_on.handed_on-part.ensures.none if1.if-part-ne0.false), start.requires.1.1))
+    (c.requires.1.0, sym c.get-kind.ensures ∙ c.in-48.is, (c.handed_on-part.ensures.none c.if-part-ne0.false), c.requires.1.1))
     (λ c κs. search rules)
     (λ c κs.
-    let if4 = c.before in
-    let if3 = if4.before in
-    let get = if3.before.before.before in
-    let start = get.before.before.before.before in
-    (fine_at start.requires.1.0 start.args.row 0 (omega arith) (omega arith), omega (arith, get.get-kind.ensures, if3.if-kind-lt40.false), omega (arith, get.get-kind.ensures, if4.if-kind-lt43.true), start.requires.1.1.2))
+    (fine_at c.requires.1.0 c.args.row 0 (omega arith) (omega arith), omega (arith, c.get-kind.ensures, c.if-kind-lt40.false), omega (arith, c.get-kind.ensures, c.if-kind-lt43.true), c.requires.1.1.2))
     (λ c κs. search rules)
     (λ c κs.
-    let start = c.before.before.before.before.before.before.before.before.before.before in
-    (start.requires.1.0.low, omega arith))
+    (c.requires.1.0.low, omega arith))
     (λ c κs. search rules)
     (λ c. search rules)
     (λ c. search rules)
     (λ c κs. search rules)
     (λ c κs.
-    let if5 = c.before.before.before.before.before.before.before.before in
-    let operand2 = if5.before.before.before.before in
-    let get = operand2.before in
-    let start = get.before.before.before.before in
-    let q = call_a (start.requires.0, start.requires.1.0) get.get-kind.result operand2.operand-a.result get.get-kind.ensures operand2.operand-a.ensures (omega (arith, if5.if-kind-lt46.false))
-    (omega (arith, c.before.before.before.before.before.before.before.if-kind-lt48.true)) in
-    (q.0, (q.1, subst KnownEvent (sym c.inside.ensures) start.requires.1.1)))
+    let q = call_a (c.requires.0, c.requires.1.0) c.get-kind.result c.operand-a.result c.get-kind.ensures c.operand-a.ensures (omega (arith, c.if-kind-lt46.false))
+    (omega (arith, c.if-kind-lt48.true)) in
+    (q.0, (q.1, subst KnownEvent (sym c.inside.ensures) c.requires.1.1)))
     (λ c. search rules)
     (λ c κs. search rules)
     (λ c κs.
-    let operand3 = c.before.before.before.before.before.before in
-    let if5 = operand3.before.before in
-    let get = if5.before.before.before.before.before in
-    let start = get.before.before.before.before in
-    let q = call_b (start.requires.0, start.requires.1.0) get.get-kind.result operand3.operand-b.result get.get-kind.ensures operand3.operand-b.ensures (omega (arith, if5.if-kind-lt46.false)) in
-    (q.0, (q.1, subst KnownEvent (sym c.inside-in-Second.ensures) start.requires.1.1)))
+    let q = call_b (c.requires.0, c.requires.1.0) c.get-kind.result c.operand-b.result c.get-kind.ensures c.operand-b.ensures (omega (arith, c.if-kind-lt46.false)) in
+    (q.0, (q.1, subst KnownEvent (sym c.inside-in-Second.ensures) c.requires.1.1)))
     (λ c.
-    let match_at = c.before.before in
-    let operand2 = match_at.before in
-    let get = operand2.before in
-    let if1 = get.before in
-    let handed_on = if1.before in
-    let start = handed_on.before.before in
-    handle_then start.args.rows.now start.args.state.now c.handle.new.state start.args.row start.args.env.now
-    start.args.depth c.handle.result start.args.e.role operand2.operand-a.result (event_path start.args.e) (event_action start.args.e)
-    (handed_on.handed_on-part.ensures.none if1.if-part-ne0.false) (sym get.get-kind.ensures ∙ match_at.in-43.is) operand2.operand-a.ensures
+    handle_then c.args.rows.now c.args.state.now c.handle.new.state c.args.row c.args.env.now
+    c.args.depth c.handle.result c.args.e.role c.operand-a.result (event_path c.args.e) (event_action c.args.e)
+    (c.handed_on-part.ensures.none c.if-part-ne0.false) (sym c.get-kind.ensures ∙ c.in-43.is) c.operand-a.ensures
     c.handle.ensures)
     (λ c.
-    let if2 = c.before.before in
-    let Going-on = if2.before in
-    let match_at = Going-on.before.before in
-    let operand2 = match_at.before in
-    let get = operand2.before in
-    let if1 = get.before in
-    let handed_on = if1.before in
-    let start = handed_on.before.before in
-    handle_next start.args.rows.now start.args.state.now c.handle-in-44.new.state start.args.row start.args.env.now
-    start.args.depth c.handle-in-44.result start.args.e operand2.operand-a.result Going-on.going_on-found.result
-    (handed_on.handed_on-part.ensures.none if1.if-part-ne0.false) (sym get.get-kind.ensures ∙ match_at.in-44.is) operand2.operand-a.ensures
-    Going-on.going_on-found.ensures if2.if-found.false c.handle-in-44.ensures)
+    handle_next c.args.rows.now c.args.state.now c.handle-in-44.new.state c.args.row c.args.env.now
+    c.args.depth c.handle-in-44.result c.args.e c.operand-a.result c.going_on-found.result
+    (c.handed_on-part.ensures.none c.if-part-ne0.false) (sym c.get-kind.ensures ∙ c.in-44.is) c.operand-a.ensures
+    c.going_on-found.ensures c.if-found.false c.handle-in-44.ensures)
     (λ c.
-    let pick = c.before in
-    let start = pick.before.before.before.before.before.before.before.before in
-    subst (HandleOk start.args.rows.now start.args.state.now pick.pick.new.state start.args.row start.args.env.now start.args.depth start.args.e.role (event_path start.args.e) (event_action start.args.e))
-    (sym c.answer-in-48.ensures) pick.pick.ensures)
+    subst (HandleOk c.args.rows.now c.args.state.now c.pick.new.state c.args.row c.args.env.now c.args.depth c.args.e.role (event_path c.args.e) (event_action c.args.e))
+    (sym c.answer-in-48.ensures) c.pick.ensures)
     (λ c.
-    let edit = c.before in
-    let start = edit.before.before.before.before.before.before.before.before.before.before in
-    subst (HandleOk start.args.rows.now start.args.state.now edit.edit.new.state start.args.row start.args.env.now start.args.depth start.args.e.role (event_path start.args.e) (event_action start.args.e))
-    (sym c.answer-in-40-to-42.ensures) (edit.edit.ensures start.args.env.now start.args.depth))
+    subst (HandleOk c.args.rows.now c.args.state.now c.edit.new.state c.args.row c.args.env.now c.args.depth c.args.e.role (event_path c.args.e) (event_action c.args.e))
+    (sym c.answer-in-40-to-42.ensures) (c.edit.ensures c.args.env.now c.args.depth))
     (λ c.
-    let front_mark = c.before.before in
-    let if6 = front_mark.before.before in
-    let if5 = if6.before in
-    let get = if5.before.before.before.before.before in
-    let if1 = get.before in
-    let handed_on = if1.before in
-    let start = handed_on.before.before in
-    handle_unmarked start.args.rows.now start.args.state.now start.args.row start.args.env.now start.args.depth start.args.e.role
-    (event_path start.args.e) (event_action start.args.e) (handed_on.handed_on-part.ensures.none if1.if-part-ne0.false)
-    (omega (arith, get.get-kind.ensures, if5.if-kind-lt46.false)) (omega (arith, get.get-kind.ensures, if6.if-kind-lt48.true))
-    (front_empty (event_path start.args.e) (sym c.in-Empty.is ∙ front_mark.front_mark-front.ensures)))
+    handle_unmarked c.args.rows.now c.args.state.now c.args.row c.args.env.now c.args.depth c.args.e.role
+    (event_path c.args.e) (event_action c.args.e) (c.handed_on-part.ensures.none c.if-part-ne0.false)
+    (omega (arith, c.get-kind.ensures, c.if-kind-lt46.false)) (omega (arith, c.get-kind.ensures, c.if-kind-lt48.true))
+    (front_empty (event_path c.args.e) (sym c.in-Empty.is ∙ c.front_mark-front.ensures)))
     (λ c.
-    let inside = c.before in
-    let front = inside.before.before.before in
-    let front_mark = front.before.before in
-    let if6 = front_mark.before.before in
-    let if5 = if6.before in
-    let operand2 = if5.before.before.before.before in
-    let get = operand2.before in
-    let if1 = get.before in
-    let handed_on = if1.before in
-    let start = handed_on.before.before in
-    handle_first start.args.rows.now start.args.state.now c.handle-in-First.new.state start.args.row start.args.env.now
-    start.args.depth c.handle-in-First.result start.args.e.role (event_path start.args.e) (event_action start.args.e)
-    (handed_on.handed_on-part.ensures.none if1.if-part-ne0.false) (omega (arith, get.get-kind.ensures, if5.if-kind-lt46.false))
-    (omega (arith, get.get-kind.ensures, if6.if-kind-lt48.true)) operand2.operand-a.result (path_of front.in-First.rest)
-    operand2.operand-a.ensures
-    (front_one (event_path start.args.e) front.in-First.rest (sym front.in-First.is ∙ front_mark.front_mark-front.ensures))
-    (subst (λ f. HandleOk start.args.rows.now start.args.state.now c.handle-in-First.new.state operand2.operand-a.result start.args.env.now start.args.depth f.role (event_path f) (event_action f) c.handle-in-First.result) inside.inside.ensures c.handle-in-First.ensures))
+    handle_first c.args.rows.now c.args.state.now c.handle-in-First.new.state c.args.row c.args.env.now
+    c.args.depth c.handle-in-First.result c.args.e.role (event_path c.args.e) (event_action c.args.e)
+    (c.handed_on-part.ensures.none c.if-part-ne0.false) (omega (arith, c.get-kind.ensures, c.if-kind-lt46.false))
+    (omega (arith, c.get-kind.ensures, c.if-kind-lt48.true)) c.operand-a.result (path_of c.in-First.rest)
+    c.operand-a.ensures
+    (front_one (event_path c.args.e) c.in-First.rest (sym c.in-First.is ∙ c.front_mark-front.ensures))
+    (subst (λ f. HandleOk c.args.rows.now c.args.state.now c.handle-in-First.new.state c.operand-a.result c.args.env.now c.args.depth f.role (event_path f) (event_action f) c.handle-in-First.result) c.inside.ensures c.handle-in-First.ensures))
     (λ c.
-    let inside2 = c.before in
-    let front2 = inside2.before.before.before in
-    let front_mark = front2.before.before in
-    let operand3 = front_mark.before in
-    let if6 = operand3.before in
-    let if5 = if6.before in
-    let get = if5.before.before.before.before.before in
-    let if1 = get.before in
-    let handed_on = if1.before in
-    let start = handed_on.before.before in
-    handle_second start.args.rows.now start.args.state.now c.handle-in-Second.new.state start.args.row start.args.env.now
-    start.args.depth c.handle-in-Second.result start.args.e.role (event_path start.args.e) (event_action start.args.e)
-    (handed_on.handed_on-part.ensures.none if1.if-part-ne0.false) (omega (arith, get.get-kind.ensures, if5.if-kind-lt46.false))
-    (omega (arith, get.get-kind.ensures, if6.if-kind-lt48.true)) operand3.operand-b.result (path_of front2.in-Second.rest)
-    operand3.operand-b.ensures
-    (front_two (event_path start.args.e) front2.in-Second.rest (sym front2.in-Second.is ∙ front_mark.front_mark-front.ensures))
-    (subst (λ f. HandleOk start.args.rows.now start.args.state.now c.handle-in-Second.new.state operand3.operand-b.result start.args.env.now start.args.depth f.role (event_path f) (event_action f) c.handle-in-Second.result) inside2.inside-in-Second.ensures c.handle-in-Second.ensures))
+    handle_second c.args.rows.now c.args.state.now c.handle-in-Second.new.state c.args.row c.args.env.now
+    c.args.depth c.handle-in-Second.result c.args.e.role (event_path c.args.e) (event_action c.args.e)
+    (c.handed_on-part.ensures.none c.if-part-ne0.false) (omega (arith, c.get-kind.ensures, c.if-kind-lt46.false))
+    (omega (arith, c.get-kind.ensures, c.if-kind-lt48.true)) c.operand-b.result (path_of c.in-Second.rest)
+    c.operand-b.ensures
+    (front_two (event_path c.args.e) c.in-Second.rest (sym c.in-Second.is ∙ c.front_mark-front.ensures))
+    (subst (λ f. HandleOk c.args.rows.now c.args.state.now c.handle-in-Second.new.state c.operand-b.result c.args.env.now c.args.depth f.role (event_path f) (event_action f) c.handle-in-Second.result) c.inside-in-Second.ensures c.handle-in-Second.ensures))
     (λ c.
-    let get = c.before.before.before in
-    let if1 = get.before in
-    let handed_on = if1.before in
-    let start = handed_on.before.before in
-    handle_none start.args.rows.now start.args.state.now start.args.row start.args.env.now start.args.depth start.args.e.role
-    (event_path start.args.e) (event_action start.args.e) (handed_on.handed_on-part.ensures.none if1.if-part-ne0.false)
-    (λ l h. omega (arith, get.get-kind.ensures, c.if-kind-lt40.true)) (λ l h. omega (arith, get.get-kind.ensures, c.if-kind-lt40.true)))
+    handle_none c.args.rows.now c.args.state.now c.args.row c.args.env.now c.args.depth c.args.e.role
+    (event_path c.args.e) (event_action c.args.e) (c.handed_on-part.ensures.none c.if-part-ne0.false)
+    (λ l h. omega (arith, c.get-kind.ensures, c.if-kind-lt40.true)) (λ l h. omega (arith, c.get-kind.ensures, c.if-kind-lt40.true)))
     (λ c.
-    let if4 = c.before in
-    let match_at = if4.before.before in
-    let get = match_at.before.before in
-    let if1 = get.before in
-    let handed_on = if1.before in
-    let start = handed_on.before.before in
-    handle_none start.args.rows.now start.args.state.now start.args.row start.args.env.now start.args.depth start.args.e.role
-    (event_path start.args.e) (event_action start.args.e) (handed_on.handed_on-part.ensures.none if1.if-part-ne0.false)
-    (λ l h. let k = get.get-kind.ensures in let x = if4.if-kind-lt43.false in let m = match_at.in_default-1.rest.0.0.1 in let n = match_at.in_default-1.rest.0.1 in omega arith)
-    (λ l h. omega (arith, get.get-kind.ensures, c.if-kind-lt46.true)))
+    handle_none c.args.rows.now c.args.state.now c.args.row c.args.env.now c.args.depth c.args.e.role
+    (event_path c.args.e) (event_action c.args.e) (c.handed_on-part.ensures.none c.if-part-ne0.false)
+    (λ l h. let k = c.get-kind.ensures in let x = c.if-kind-lt43.false in let m = c.in_default-1.in_default-own.rest.0.0.1 in let n = c.in_default-1.in_default-own.rest.0.1 in omega arith)
+    (λ l h. omega (arith, c.get-kind.ensures, c.if-kind-lt46.true)))
     (λ c.
-    let match_at = c.before.before.before.before in
-    let get = match_at.before.before in
-    let if1 = get.before in
-    let handed_on = if1.before in
-    let start = handed_on.before.before in
-    handle_none start.args.rows.now start.args.state.now start.args.row start.args.env.now start.args.depth start.args.e.role
-    (event_path start.args.e) (event_action start.args.e) (handed_on.handed_on-part.ensures.none if1.if-part-ne0.false)
-    (λ l h. omega (arith, get.get-kind.ensures, c.if-kind-lt48.false))
-    (λ l h. let k = get.get-kind.ensures in let x = c.if-kind-lt48.false in let m = match_at.in_default-1.rest.1 in omega arith))
+    handle_none c.args.rows.now c.args.state.now c.args.row c.args.env.now c.args.depth c.args.e.role
+    (event_path c.args.e) (event_action c.args.e) (c.handed_on-part.ensures.none c.if-part-ne0.false)
+    (λ l h. omega (arith, c.get-kind.ensures, c.if-kind-lt48.false))
+    (λ l h. let k = c.get-kind.ensures in let x = c.if-kind-lt48.false in let m = c.in_default-1.in_default-own.rest.1 in omega arith))

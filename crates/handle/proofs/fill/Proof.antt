@@ -9,41 +9,21 @@ use Rattle.handle.proofs.fill.Tie as tie
 pub fill_spec : {M : Type 1} → statement M
 fill_spec = tie.close (tie.spec
     (λ c κs. search rules)
-    (λ c. let s = c.before.before in fill_not_given s.args.state.now s.args.row s.args.tag s.args.shape s.args.e (c.before.ends.ensures.no (not-true _ (not_from_false _ c.if-not-ends.true))))
+    (λ c. fill_not_given c.args.state.now c.args.row c.args.tag c.args.shape c.args.e (c.ends.ensures.no (not-true _ (not_from_false _ c.if-not-ends.true))))
     (λ c κs. search rules)
     (λ c κs. c.leaves_of.ensures.1)
     (λ c.
-    let none_blank = c.before in
-    let Leaves-of = none_blank.before in
-    let if1 = Leaves-of.before.before in
-    let ends = if1.before in
-    let start = ends.before in
-    fill_blank start.args.state.now start.args.row start.args.tag start.args.shape start.args.e
-    (ends.ends.ensures.yes (not-false _ (not_from_true _ if1.if-not-ends.false))) Leaves-of.leaves_of.result Leaves-of.leaves_of.ensures.0 none_blank.none_blank.result none_blank.none_blank.ensures
+    fill_blank c.args.state.now c.args.row c.args.tag c.args.shape c.args.e
+    (c.ends.ensures.yes (not-false _ (not_from_true _ c.if-not-ends.false))) c.leaves_of.result c.leaves_of.ensures.0 c.none_blank.result c.none_blank.ensures
     (not-true _ (not_from_false _ c.if-not-none_blank.true)))
     (λ c κs. search rules)
     (λ c κs. search rules)
     (λ c.
-    let if3 = c.before.before in
-    let fits2 = if3.before in
-    let if2 = fits2.before.before in
-    let none_blank = if2.before in
-    let Leaves-of = none_blank.before in
-    let if1 = Leaves-of.before.before in
-    let ends = if1.before in
-    let start = ends.before in
-    fill_fits start.args.state.now start.args.row start.args.tag start.args.shape start.args.e
-    (ends.ends.ensures.yes (not-false _ (not_from_true _ if1.if-not-ends.false))) Leaves-of.leaves_of.result Leaves-of.leaves_of.ensures.0 none_blank.none_blank.result none_blank.none_blank.ensures
-    start.requires.1 (not-false _ (not_from_true _ if2.if-not-none_blank.false)) fits2.fits2.result fits2.fits2.ensures.1 fits2.fits2.ensures.0 c.put_value.new.state
-    if3.if-fits.true c.put_value.ensures)
+    fill_fits c.args.state.now c.args.row c.args.tag c.args.shape c.args.e
+    (c.ends.ensures.yes (not-false _ (not_from_true _ c.if-not-ends.false))) c.leaves_of.result c.leaves_of.ensures.0 c.none_blank.result c.none_blank.ensures
+    c.requires.1 (not-false _ (not_from_true _ c.if-not-none_blank.false)) c.fits2.result c.fits2.ensures.1 c.fits2.ensures.0 c.put_value.new.state
+    c.if-fits.true c.put_value.ensures)
     (λ c.
-    let fits2 = c.before in
-    let if2 = fits2.before.before in
-    let none_blank = if2.before in
-    let Leaves-of = none_blank.before in
-    let if1 = Leaves-of.before.before in
-    let ends = if1.before in
-    let start = ends.before in
-    fill_unfit start.args.state.now start.args.row start.args.tag start.args.shape start.args.e
-    (ends.ends.ensures.yes (not-false _ (not_from_true _ if1.if-not-ends.false))) Leaves-of.leaves_of.result Leaves-of.leaves_of.ensures.0 none_blank.none_blank.result none_blank.none_blank.ensures
-    start.requires.1 (not-false _ (not_from_true _ if2.if-not-none_blank.false)) fits2.fits2.result fits2.fits2.ensures.1 fits2.fits2.ensures.0 c.if-fits.false))
+    fill_unfit c.args.state.now c.args.row c.args.tag c.args.shape c.args.e
+    (c.ends.ensures.yes (not-false _ (not_from_true _ c.if-not-ends.false))) c.leaves_of.result c.leaves_of.ensures.0 c.none_blank.result c.none_blank.ensures
+    c.requires.1 (not-false _ (not_from_true _ c.if-not-none_blank.false)) c.fits2.result c.fits2.ensures.1 c.fits2.ensures.0 c.if-fits.false))

@@ -6,14 +6,10 @@ use Rattle.handle.proofs.gate_verdict.Tie as tie
 pub gate_verdict_spec : {M : Type 1} → statement M
 gate_verdict_spec = tie.close (tie.spec
     (λ c. let s = c.before.args in verdict_other s.role s.own s.touches s.verdict c.if-role-own.true)
-    (λ c. let if1 = c.before in let s = if1.before.args in verdict_below s.role s.own s.touches s.verdict if1.if-role-own.false c.if-verdict-eq-OTHER_ROLE.true)
+    (λ c. let s = c.args in verdict_below s.role s.own s.touches s.verdict c.if-role-own.false c.if-verdict-eq-OTHER_ROLE.true)
     (λ c.
-    let if2 = c.before in
-    let if1 = if2.before in
-    let s = if1.before.args in
-    verdict_spent s.role s.own s.touches s.verdict if1.if-role-own.false if2.if-verdict-eq-OTHER_ROLE.false c.if-touches-eq0.true)
+    let s = c.args in
+    verdict_spent s.role s.own s.touches s.verdict c.if-role-own.false c.if-verdict-eq-OTHER_ROLE.false c.if-touches-eq0.true)
     (λ c.
-    let if2 = c.before in
-    let if1 = if2.before in
-    let s = if1.before.args in
-    verdict_open s.role s.own s.touches s.verdict if1.if-role-own.false if2.if-verdict-eq-OTHER_ROLE.false c.if-touches-eq0.false))
+    let s = c.args in
+    verdict_open s.role s.own s.touches s.verdict c.if-role-own.false c.if-verdict-eq-OTHER_ROLE.false c.if-touches-eq0.false))

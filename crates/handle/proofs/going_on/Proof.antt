@@ -13,15 +13,9 @@ going_on_spec = tie.close (tie.spec
     (λ c κs. search rules)
     (λ c κs. search rules)
     (λ c.
-    let if1 = c.before in
-    let ends = if1.before in
-    let start = ends.before in
-    subst (GoingOk start.args.rows.now start.args.state.now start.args.row start.args.e) (sym c.none.ensures)
-    (going_none start.args.rows.now start.args.state.now start.args.row start.args.e (ends.ends.ensures.no (not-true _ (not_from_false _ if1.if-not-ends.true)))))
+    subst (GoingOk c.args.rows.now c.args.state.now c.args.row c.args.e) (sym c.none.ensures)
+    (going_none c.args.rows.now c.args.state.now c.args.row c.args.e (c.ends.ensures.no (not-true _ (not_from_false _ c.if-not-ends.true)))))
     (λ c κs. c.before.before.requires)
     (λ c.
-    let if1 = c.before in
-    let ends = if1.before in
-    let start = ends.before in
-    going_value start.args.rows.now start.args.state.now start.args.row start.args.e c.value.result
-    (ends.ends.ensures.yes (not-false _ (not_from_true _ if1.if-not-ends.false))) c.value.ensures))
+    going_value c.args.rows.now c.args.state.now c.args.row c.args.e c.value.result
+    (c.ends.ensures.yes (not-false _ (not_from_true _ c.if-not-ends.false))) c.value.ensures))

@@ -23,14 +23,9 @@ none_blank_spec = tie.close (tie.spec
     (λ c. (omega arith, (λ j l. absurd (omega arith))))
     (λ c. search rules)
     (λ c.
-    let test = c.before in
-    let loop = test.before in
-    let start = loop.before in
-    some_blank start.args.t1 start.args.n loop.loop-k.k test.loop-k-test.true c.if-blank-k.true)
+    some_blank c.args.t1 c.args.n c.loop-k.k c.loop-k-test.true c.if-blank-k.true)
     (λ c. search rules)
     (λ c. search rules)
-    (λ c. let loop = c.before.before in (omega arith, below_more _ _ loop.loop-k.invariant.1 c.if-blank-k.false))
+    (λ c. (omega arith, below_more _ _ c.loop-k.invariant.1 c.if-blank-k.false))
     (λ c.
-    let loop = c.before in
-    let start = loop.before in
-    none_blank start.args.t1 start.args.n loop.loop-k.k (omega arith) loop.loop-k.invariant.1))
+    none_blank c.args.t1 c.args.n c.loop-k.k (omega arith) c.loop-k.invariant.1))

@@ -10,4 +10,4 @@ kind_spec = tie.close (tie.spec
     (λ c. search rules)
     (λ c. search rules)
     (λ c. let s = c.before.before.args in first_word s.rows.now s.row)
-    (λ c. let s = c.before in word_past s.args.rows.now s.args.row 0 s.requires c.if-row-lt-MAX_ROWS.false))
+    (λ c. word_past c.args.rows.now c.args.row 0 c.requires c.if-row-lt-MAX_ROWS.false))

@@ -44,217 +44,108 @@ pub +evaluate_spec : {M : Type 1} → statement M
     (λ c κs. (c.requires.1.low, omega arith))
     (λ c κs. (c.before.before.before.requires.1.low, omega arith))
     (λ c κs.
-    let match_at = c.before.before in
-    let get = match_at.before in
-    let start = get.before in
-    (call_a start.requires get.get-kind.result c.operand.result get.get-kind.ensures c.operand.ensures (omega (arith, match_at.in-25.is)) (omega (arith, match_at.in-25.is))).1)
+    (call_a c.requires c.get-kind.result c.operand.result c.get-kind.ensures c.operand.ensures (omega (arith, c.in-25.is)) (omega (arith, c.in-25.is))).1)
     (λ c κs. search rules)
     (λ c κs.
-    let start = c.before.before.before.before.before.before.before.before in
-    (start.requires.1.low, omega arith))
+    (c.requires.1.low, omega arith))
     (λ c κs.
-    let match_at = c.before.before.before.before.before.before.before in
-    let get = match_at.before in
-    let start = get.before in
-    call_b start.requires get.get-kind.result c.operand-then-is_true.result get.get-kind.ensures c.operand-then-is_true.ensures (omega (arith, match_at.in-25.is)))
+    call_b c.requires c.get-kind.result c.operand-then-is_true.result c.get-kind.ensures c.operand-then-is_true.ensures (omega (arith, c.in-25.is)))
     (λ c κs.
-    let start = c.before.before.before.before.before.before.before.before.before.before.before in
-    start.requires.1.low)
+    c.requires.1.low)
     (λ c.
-    let put_tag = c.before in
-    let evaluate = put_tag.before.before in
-    let operand2 = evaluate.before in
-    let if1 = operand2.before.before in
-    let is_true = if1.before in
-    let eval = is_true.before in
-    let operand = eval.before in
-    let match_at = operand.before.before in
-    let get = match_at.before in
-    let start = get.before in
-    evaluate_true start.args.rows.now start.args.row start.args.env.now start.args.depth start.args.state.now
-    eval.eval-x.new.state evaluate.evaluate-over.new.state put_tag.put_tag.new.state eval.eval-x.result evaluate.evaluate-over.result is_true.is_true.result
-    is_true.is_true.ensures operand.operand.result operand2.operand-then-is_true.result (sym get.get-kind.ensures ∙ match_at.in-25.is)
-    operand.operand.ensures eval.eval-x.ensures evaluate.evaluate-over.ensures if1.if-is_true.true operand2.operand-then-is_true.ensures
-    put_tag.put_tag.ensures)
+    evaluate_true c.args.rows.now c.args.row c.args.env.now c.args.depth c.args.state.now
+    c.eval-x.new.state c.evaluate-over.new.state c.put_tag.new.state c.eval-x.result c.evaluate-over.result c.is_true.result
+    c.is_true.ensures c.operand.result c.operand-then-is_true.result (sym c.get-kind.ensures ∙ c.in-25.is)
+    c.operand.ensures c.eval-x.ensures c.evaluate-over.ensures c.if-is_true.true c.operand-then-is_true.ensures
+    c.put_tag.ensures)
     (λ c κs.
-    let start = c.before.before.before.before.before.before.before.before in
-    (start.requires.1.low, omega arith))
+    (c.requires.1.low, omega arith))
     (λ c κs.
-    let match_at = c.before.before.before.before.before.before.before in
-    let get = match_at.before in
-    let start = get.before in
-    call_c start.requires get.get-kind.result c.operand-in-25.result get.get-kind.ensures c.operand-in-25.ensures (omega (arith, match_at.in-25.is)) (omega (arith, match_at.in-25.is)))
+    call_c c.requires c.get-kind.result c.operand-in-25.result c.get-kind.ensures c.operand-in-25.ensures (omega (arith, c.in-25.is)) (omega (arith, c.in-25.is)))
     (λ c κs.
-    let start = c.before.before.before.before.before.before.before.before.before.before.before in
-    start.requires.1.low)
+    c.requires.1.low)
     (λ c κs. (c.before.before.before.requires.1.low, omega arith))
     (λ c κs.
-    let match_at = c.before.before in
-    let get = match_at.before in
-    let start = get.before in
-    (call_a start.requires get.get-kind.result c.operand-in-31.result get.get-kind.ensures c.operand-in-31.ensures (omega (arith, match_at.in-31.is)) (omega (arith, match_at.in-31.is))
+    (call_a c.requires c.get-kind.result c.operand-in-31.result c.get-kind.ensures c.operand-in-31.ensures (omega (arith, c.in-31.is)) (omega (arith, c.in-31.is))
     ).1)
     (λ c κs.
-    let start = c.before.before.before.before.before.before in
-    start.requires.1.low)
+    c.requires.1.low)
     (λ c κs.
-    let start = c.before.before.before.before.before.before.before.before.before.before in
-    (start.requires.1.low, start.requires.1.room))
+    (c.requires.1.low, c.requires.1.room))
     (λ c κs.
-    let start = c.before.before.before.before.before.before.before.before.before.before.before.before in
-    (start.requires.1.low, omega arith))
+    (c.requires.1.low, omega arith))
     (λ c κs.
-    let operand5 = c.before in
-    let bind = operand5.before.before in
-    let match_at = bind.before.before.before.before.before.before.before.before.before in
-    let get = match_at.before in
-    let start = get.before in
-    let h = low_b start.requires.1 get.get-kind.result operand5.operand-in-31-2.result get.get-kind.ensures operand5.operand-in-31-2.ensures (omega (arith, match_at.in-31.is)) in
-    (omega (arith, start.requires.0), fine_at start.requires.1 operand5.operand-in-31-2.result bind.bind-deeper.result (omega arith) bind.bind-deeper.ensures.room))
+    let h = low_b c.requires.1 c.get-kind.result c.operand-in-31-2.result c.get-kind.ensures c.operand-in-31-2.ensures (omega (arith, c.in-31.is)) in
+    (omega (arith, c.requires.0), fine_at c.requires.1 c.operand-in-31-2.result c.bind-deeper.result (omega arith) c.bind-deeper.ensures.room))
     (λ c κs. (c.before.before.before.requires.1.low, omega arith))
     (λ c κs.
-    let match_at = c.before.before in
-    let get = match_at.before in
-    let start = get.before in
-    (call_a start.requires get.get-kind.result c.operand-in-40.result get.get-kind.ensures c.operand-in-40.ensures (⊎_elim (λ e. omega (arith, e)) (λ e. omega (arith, e)) match_at.in-40.is)
-    (⊎_elim (λ e. omega (arith, e)) (λ e. omega (arith, e)) match_at.in-40.is)).1)
+    (call_a c.requires c.get-kind.result c.operand-in-40.result c.get-kind.ensures c.operand-in-40.ensures (⊎_elim (λ e. omega (arith, e)) (λ e. omega (arith, e)) c.in-40.is)
+    (⊎_elim (λ e. omega (arith, e)) (λ e. omega (arith, e)) c.in-40.is)).1)
     (λ c κs.
-    let start = c.before.before.before.before.before.before in
-    start.requires.1.low)
+    c.requires.1.low)
     (λ c κs.
-    let start = c.before.before.before in
-    (start.requires.1.low, omega arith))
+    (c.requires.1.low, omega arith))
     (λ c κs.
-    let start = c.before.before.before.before in
-    start.requires.1.low)
+    c.requires.1.low)
     (λ c κs.
-    let start = c.before.before.before.before.before.before in
-    (start.requires.1.low, omega arith))
+    (c.requires.1.low, omega arith))
     (λ c κs.
-    let match_at = c.before.before.before.before.before in
-    let get = match_at.before in
-    let start = get.before in
-    call_b start.requires get.get-kind.result c.operand-in-50.result get.get-kind.ensures c.operand-in-50.ensures (omega (arith, match_at.in-50.is)))
+    call_b c.requires c.get-kind.result c.operand-in-50.result c.get-kind.ensures c.operand-in-50.ensures (omega (arith, c.in-50.is)))
     (λ c κs.
-    let start = c.before.before.before.before.before in
-    (start.requires.1.low, omega arith))
+    (c.requires.1.low, omega arith))
     (λ c κs.
-    let if2 = c.before.before.before in
-    let get = if2.before.before in
-    let start = get.before in
-    call_a start.requires get.get-kind.result c.operand-in-43-to-44.result get.get-kind.ensures c.operand-in-43-to-44.ensures (omega (arith, if2.in_default.left)) (omega (arith, c.before.before.if-kind-lt45.true)))
+    call_a c.requires c.get-kind.result c.operand-in-43-to-44.result c.get-kind.ensures c.operand-in-43-to-44.ensures (omega (arith, c.in_default.left)) (omega (arith, c.if-kind-lt45.true)))
     (λ c κs.
-    let start = c.before.before.before.before.before.before.before.before in
-    start.requires.1.low)
+    c.requires.1.low)
     (λ c κs.
-    let start = c.before.before.before.before.before.before in
-    (start.requires.1.low, omega arith))
+    (c.requires.1.low, omega arith))
     (λ c κs.
-    let start = c.before.before.before.before.before.before.before in
-    (start.requires.1.low, omega arith))
+    (c.requires.1.low, omega arith))
     (λ c κs.
-    let operand9 = c.before.before in
-    let if2 = operand9.before.before.before.before in
-    let get = if2.before.before in
-    let start = get.before in
-    call_a start.requires get.get-kind.result operand9.operand-a.result get.get-kind.ensures operand9.operand-a.ensures
-    (omega (arith, if2.in_default.left)) (omega (arith, operand9.before.if-kind-lt48.true)))
+    call_a c.requires c.get-kind.result c.operand-a.result c.get-kind.ensures c.operand-a.ensures
+    (omega (arith, c.in_default.left)) (omega (arith, c.if-kind-lt48.true)))
     (λ c κs.
-    let operand10 = c.before.before.before in
-    let if2 = operand10.before.before.before.before.before in
-    let get = if2.before.before in
-    let start = get.before in
-    call_b start.requires get.get-kind.result operand10.operand-b.result get.get-kind.ensures operand10.operand-b.ensures
-    (omega (arith, if2.in_default.left)))
+    call_b c.requires c.get-kind.result c.operand-b.result c.get-kind.ensures c.operand-b.ensures
+    (omega (arith, c.in_default.left)))
     (λ c κs.
-    let start = c.before.before.before.before.before.before.before.before.before.before.before.before.before in
-    start.requires.1.low)
+    c.requires.1.low)
     (λ c κs.
-    let start = c.before.before.before.before in
-    start.requires.1.low)
+    c.requires.1.low)
     (λ c.
-    let put_tag2 = c.before in
-    let evaluate2 = put_tag2.before.before in
-    let operand3 = evaluate2.before in
-    let if1 = operand3.before.before in
-    let is_true = if1.before in
-    let eval = is_true.before in
-    let operand = eval.before in
-    let match_at = operand.before.before in
-    let get = match_at.before in
-    let start = get.before in
-    evaluate_false start.args.rows.now start.args.row start.args.env.now start.args.depth start.args.state.now
-    eval.eval-x.new.state evaluate2.evaluate-over-in-25.new.state put_tag2.put_tag-in-25.new.state eval.eval-x.result evaluate2.evaluate-over-in-25.result is_true.is_true.result
-    is_true.is_true.ensures operand.operand.result operand3.operand-in-25.result (sym get.get-kind.ensures ∙ match_at.in-25.is)
-    operand.operand.ensures eval.eval-x.ensures evaluate2.evaluate-over-in-25.ensures if1.if-is_true.false operand3.operand-in-25.ensures
-    put_tag2.put_tag-in-25.ensures)
+    evaluate_false c.args.rows.now c.args.row c.args.env.now c.args.depth c.args.state.now
+    c.eval-x.new.state c.evaluate-over-in-25.new.state c.put_tag-in-25.new.state c.eval-x.result c.evaluate-over-in-25.result c.is_true.result
+    c.is_true.ensures c.operand.result c.operand-in-25.result (sym c.get-kind.ensures ∙ c.in-25.is)
+    c.operand.ensures c.eval-x.ensures c.evaluate-over-in-25.ensures c.if-is_true.false c.operand-in-25.ensures
+    c.put_tag-in-25.ensures)
     (λ c.
-    let evaluate3 = c.before in
-    let operand5 = evaluate3.before.before in
-    let bind = operand5.before.before in
-    let put_value = bind.before.before.before.before in
-    let eval2 = put_value.before.before in
-    let operand4 = eval2.before in
-    let match_at = operand4.before.before in
-    let get = match_at.before in
-    let start = get.before in
-    evaluate_let start.args.rows.now start.args.row start.args.env.now start.args.depth start.args.state.now
-    eval2.eval-x-in-31.new.state put_value.put_value.new.state evaluate3.evaluate-over-in-31.new.state bind.bind-deeper.new.env bind.bind-deeper.result
-    eval2.eval-x-in-31.result evaluate3.evaluate-over-in-31.result operand4.operand-in-31.result operand5.operand-in-31-2.result operand4.operand-in-31.ensures
-    operand5.operand-in-31-2.ensures eval2.eval-x-in-31.ensures put_value.put_value.ensures bind.bind-deeper.ensures evaluate3.evaluate-over-in-31.ensures
-    (sym get.get-kind.ensures ∙ match_at.in-31.is))
+    evaluate_let c.args.rows.now c.args.row c.args.env.now c.args.depth c.args.state.now
+    c.eval-x-in-31.new.state c.put_value.new.state c.evaluate-over-in-31.new.state c.bind-deeper.new.env c.bind-deeper.result
+    c.eval-x-in-31.result c.evaluate-over-in-31.result c.operand-in-31.result c.operand-in-31-2.result c.operand-in-31.ensures
+    c.operand-in-31-2.ensures c.eval-x-in-31.ensures c.put_value.ensures c.bind-deeper.ensures c.evaluate-over-in-31.ensures
+    (sym c.get-kind.ensures ∙ c.in-31.is))
     (λ c.
-    let eval3 = c.before.before in
-    let operand6 = eval3.before in
-    let match_at = operand6.before.before in
-    let get = match_at.before in
-    let start = get.before in
-    evaluate_content start.args.rows.now start.args.row start.args.env.now start.args.depth start.args.state.now
-    eval3.eval-x-in-40.new.state c.put_value-in-40.new.state operand6.operand-in-40.result eval3.eval-x-in-40.result operand6.operand-in-40.ensures
-    eval3.eval-x-in-40.ensures c.put_value-in-40.ensures (subst (OneOf content_kinds) get.get-kind.ensures match_at.in-40.is))
+    evaluate_content c.args.rows.now c.args.row c.args.env.now c.args.depth c.args.state.now
+    c.eval-x-in-40.new.state c.put_value-in-40.new.state c.operand-in-40.result c.eval-x-in-40.result c.operand-in-40.ensures
+    c.eval-x-in-40.ensures c.put_value-in-40.ensures (subst (OneOf content_kinds) c.get-kind.ensures c.in-40.is))
     (λ c.
-    let operand7 = c.before in
-    let put_touches = operand7.before.before in
-    let get2 = put_touches.before in
-    let match_at = get2.before.before in
-    let get = match_at.before in
-    let start = get.before in
-    evaluate_gate start.args.rows.now start.args.row start.args.env.now start.args.depth start.args.state.now
-    put_touches.put_touches.new.state c.evaluate.new.state operand7.operand-in-50.result get2.get.result c.evaluate.result operand7.operand-in-50.ensures
-    get2.get.ensures put_touches.put_touches.ensures c.evaluate.ensures (sym get.get-kind.ensures ∙ match_at.in-50.is))
+    evaluate_gate c.args.rows.now c.args.row c.args.env.now c.args.depth c.args.state.now
+    c.put_touches.new.state c.evaluate.new.state c.operand-in-50.result c.get.result c.evaluate.result c.operand-in-50.ensures
+    c.get.ensures c.put_touches.ensures c.evaluate.ensures (sym c.get-kind.ensures ∙ c.in-50.is))
     (λ c.
-    let evaluate5 = c.before.before in
-    let operand8 = evaluate5.before in
-    let if3 = operand8.before.before in
-    let if2 = if3.before in
-    let get = if2.before.before in
-    let start = get.before in
-    evaluate_step start.args.rows.now start.args.row start.args.env.now start.args.depth start.args.state.now
-    evaluate5.evaluate-over-in-43-to-44.new.state c.put_tag-in-43-to-44.new.state operand8.operand-in-43-to-44.result evaluate5.evaluate-over-in-43-to-44.result operand8.operand-in-43-to-44.ensures
-    evaluate5.evaluate-over-in-43-to-44.ensures c.put_tag-in-43-to-44.ensures (omega (arith, get.get-kind.ensures, if2.in_default.left))
-    (omega (arith, get.get-kind.ensures, if3.if-kind-lt45.true)))
+    evaluate_step c.args.rows.now c.args.row c.args.env.now c.args.depth c.args.state.now
+    c.evaluate-over-in-43-to-44.new.state c.put_tag-in-43-to-44.new.state c.operand-in-43-to-44.result c.evaluate-over-in-43-to-44.result c.operand-in-43-to-44.ensures
+    c.evaluate-over-in-43-to-44.ensures c.put_tag-in-43-to-44.ensures (omega (arith, c.get-kind.ensures, c.in_default.left))
+    (omega (arith, c.get-kind.ensures, c.if-kind-lt45.true)))
     (λ c.
-    let evaluate7 = c.before.before in
-    let evaluate6 = evaluate7.before.before in
-    let operand10 = evaluate6.before.before in
-    let operand9 = operand10.before in
-    let if5 = operand9.before in
-    let if4 = if5.before in
-    let get = if4.before.before.before.before in
-    let start = get.before in
-    evaluate_two start.args.rows.now start.args.row start.args.env.now start.args.depth start.args.state.now
-    evaluate6.evaluate-left.new.state evaluate7.evaluate-right.new.state c.put_tag-in-46-to-47.new.state operand9.operand-a.result
-    operand10.operand-b.result evaluate6.evaluate-left.result evaluate7.evaluate-right.result operand9.operand-a.ensures operand10.operand-b.ensures evaluate6.evaluate-left.ensures
-    evaluate7.evaluate-right.ensures c.put_tag-in-46-to-47.ensures (omega (arith, get.get-kind.ensures, if4.if-kind-lt46.false))
-    (omega (arith, get.get-kind.ensures, if5.if-kind-lt48.true)))
+    evaluate_two c.args.rows.now c.args.row c.args.env.now c.args.depth c.args.state.now
+    c.evaluate-left.new.state c.evaluate-right.new.state c.put_tag-in-46-to-47.new.state c.operand-a.result
+    c.operand-b.result c.evaluate-left.result c.evaluate-right.result c.operand-a.ensures c.operand-b.ensures c.evaluate-left.ensures
+    c.evaluate-right.ensures c.put_tag-in-46-to-47.ensures (omega (arith, c.get-kind.ensures, c.if-kind-lt46.false))
+    (omega (arith, c.get-kind.ensures, c.if-kind-lt48.true)))
     (λ c.
-    let if2 = c.before.before in
-    let match_at = if2.before in
-    let get = match_at.before in
-    let start = get.before in
-    let k = get.get-kind.ensures in
-    evaluate_tag start.args.rows.now start.args.row start.args.env.now start.args.depth start.args.state.now
-    c.put_tag-in_default.new.state c.put_tag-in_default.ensures (λ e. match_at.in_default-1.rest.0.0.0.1 (k ∙ e)) (λ e. match_at.in_default-1.rest.0.0.1 (k ∙ e))
-    (λ e. match_at.in_default-1.rest.0.1 (subst (OneOf content_kinds) (sym k) e)) (λ e. match_at.in_default-1.rest.1 (k ∙ e))
-    (λ p q. ⊎_elim (λ z. omega (arith, k, z.taken)) (⊎_elim (λ z. omega (arith, k, z.1.left)) (λ z. omega (arith, k, z.1.left))) if2.in_default.branch)
-    (λ p q. ⊎_elim (λ z. omega (arith, k, z.taken)) (⊎_elim (λ z. omega (arith, k, z.2.taken)) (λ z. omega (arith, k, z.3.left))) if2.in_default.branch))
+    let k = c.get-kind.ensures in
+    evaluate_tag c.args.rows.now c.args.row c.args.env.now c.args.depth c.args.state.now
+    c.put_tag-in_default.new.state c.put_tag-in_default.ensures (λ e. c.in_default-1.in_default-own.rest.0.0.0.1 (k ∙ e)) (λ e. c.in_default-1.in_default-own.rest.0.0.1 (k ∙ e))
+    (λ e. c.in_default-1.in_default-own.rest.0.1 (subst (OneOf content_kinds) (sym k) e)) (λ e. c.in_default-1.in_default-own.rest.1 (k ∙ e))
+    (λ p q. ⊎_elim (λ z. omega (arith, k, z.taken)) (⊎_elim (λ z. omega (arith, k, z.1.left)) (λ z. omega (arith, k, z.1.left))) c.in_default.branch)
+    (λ p q. ⊎_elim (λ z. omega (arith, k, z.taken)) (⊎_elim (λ z. omega (arith, k, z.2.taken)) (λ z. omega (arith, k, z.3.left))) c.in_default.branch))

@@ -45,149 +45,71 @@ pub +value_spec : {M : Type 1} → statement M
     (λ c κs. c.requires.1.low)
     (λ c κs. (c.before.before.requires.1.low, c.before.handed_on-k.ensures.low))
     (λ c κs.
-    let if1 = c.before in
-    let handed_on = if1.before in
-    let start = handed_on.before in
-    let l = low_part start.args.rows.now start.args.row start.requires.1 (handed_on.handed_on-k.ensures.on if1.if-k-ne0.true) c.operand.ensures in
-    (omega (arith, start.requires.0), fine_part start.args.rows.now start.args.row start.requires.1 (handed_on.handed_on-k.ensures.on if1.if-k-ne0.true) c.operand.ensures start.requires.1.room))
+    let l = low_part c.args.rows.now c.args.row c.requires.1 (c.handed_on-k.ensures.on c.if-k-ne0.true) c.operand.ensures in
+    (omega (arith, c.requires.0), fine_part c.args.rows.now c.args.row c.requires.1 (c.handed_on-k.ensures.on c.if-k-ne0.true) c.operand.ensures c.requires.1.room))
     (λ c.
-    let operand = c.before in
-    let if1 = operand.before in
-    let handed_on = if1.before in
-    let start = handed_on.before in
-    value_hands start.args.rows.now start.args.state.now start.args.row (handed_on.handed_on-k.ensures.on if1.if-k-ne0.true)
-    operand.operand.ensures c.value.result c.value.ensures)
+    value_hands c.args.rows.now c.args.state.now c.args.row (c.handed_on-k.ensures.on c.if-k-ne0.true)
+    c.operand.ensures c.value.result c.value.ensures)
     (λ c κs. (c.before.before.requires.1.low, omega arith))
     (λ c κs.
-    let start = c.before.before.before.before in
-    start.requires.1.low)
+    c.requires.1.low)
     (λ c κs. search rules)
     (λ c κs.
-    let start = c.before.before.before.before in
-    (start.requires.1.low, omega arith))
+    (c.requires.1.low, omega arith))
     (λ c κs.
-    let start = c.before.before.before.before.before.before in
-    start.requires.1.low)
+    c.requires.1.low)
     (λ c κs. search rules)
     (λ c.
-    let read_value2 = c.before in
-    let if2 = read_value2.before in
-    let read = if2.before in
-    let match_at = read.before in
-    let get = match_at.before in
-    let start = get.before.before.before in
-    subst (ValueOk start.args.rows.now start.args.state.now start.args.row) (sym c.some-then-read-eq-ONE.ensures)
-    (value_entered start.args.rows.now start.args.state.now start.args.row read_value2.read_value-then-read-eq-ONE.result (sym get.get-kind.ensures ∙ match_at.in-41.is) (sym read.read.ensures ∙ if2.if-read-eq-ONE.true) read_value2.read_value-then-read-eq-ONE.ensures))
+    subst (ValueOk c.args.rows.now c.args.state.now c.args.row) (sym c.some-then-read-eq-ONE.ensures)
+    (value_entered c.args.rows.now c.args.state.now c.args.row c.read_value-then-read-eq-ONE.result (sym c.get-kind.ensures ∙ c.in-41.is) (sym c.read.ensures ∙ c.if-read-eq-ONE.true) c.read_value-then-read-eq-ONE.ensures))
     (λ c κs. search rules)
     (λ c κs.
-    let start = c.before.before.before.before in
-    (start.requires.1.low, omega arith))
+    (c.requires.1.low, omega arith))
     (λ c κs.
-    let match_at = c.before in
-    let get = match_at.before in
-    let start = get.before.before.before in
-    let h = low_a start.requires.1 get.get-kind.result c.operand-cell.result get.get-kind.ensures c.operand-cell.ensures (omega (arith, match_at.in-42.is)) (omega (arith, match_at.in-42.is)) in
-    let l = start.requires.1.low in
+    let h = low_a c.requires.1 c.get-kind.result c.operand-cell.result c.get-kind.ensures c.operand-cell.ensures (omega (arith, c.in-42.is)) (omega (arith, c.in-42.is)) in
+    let l = c.requires.1.low in
     omega arith)
     (λ c κs. search rules)
     (λ c κs.
-    let start = c.before.before.before.before in
-    (start.requires.1.low, omega arith))
+    (c.requires.1.low, omega arith))
     (λ c κs.
-    let match_at = c.before in
-    let get = match_at.before in
-    let start = get.before.before.before in
-    call_a start.requires get.get-kind.result c.operand-in-46.result get.get-kind.ensures c.operand-in-46.ensures (omega (arith, match_at.in-46.is)) (omega (arith, match_at.in-46.is)))
+    call_a c.requires c.get-kind.result c.operand-in-46.result c.get-kind.ensures c.operand-in-46.ensures (omega (arith, c.in-46.is)) (omega (arith, c.in-46.is)))
     (λ c κs.
-    let start = c.before.before.before.before.before.before in
-    (start.requires.1.low, omega arith))
+    (c.requires.1.low, omega arith))
     (λ c κs.
-    let match_at = c.before.before.before in
-    let get = match_at.before in
-    let start = get.before.before.before in
-    call_b start.requires get.get-kind.result c.operand-in-46-2.result get.get-kind.ensures c.operand-in-46-2.ensures (omega (arith, match_at.in-46.is)))
+    call_b c.requires c.get-kind.result c.operand-in-46-2.result c.get-kind.ensures c.operand-in-46-2.ensures (omega (arith, c.in-46.is)))
     (λ c κs. search rules)
     (λ c κs.
-    let start = c.before.before.before.before in
-    (start.requires.1.low, omega arith))
+    (c.requires.1.low, omega arith))
     (λ c κs.
-    let match_at = c.before in
-    let get = match_at.before in
-    let start = get.before.before.before in
-    call_a start.requires get.get-kind.result c.operand-in-47.result get.get-kind.ensures c.operand-in-47.ensures (omega (arith, match_at.in-47.is)) (omega (arith, match_at.in-47.is)))
+    call_a c.requires c.get-kind.result c.operand-in-47.result c.get-kind.ensures c.operand-in-47.ensures (omega (arith, c.in-47.is)) (omega (arith, c.in-47.is)))
     (λ c.
-    let value4 = c.before in
-    let operand5 = value4.before in
-    let match_at = operand5.before in
-    let get = match_at.before in
-    let if1 = get.before in
-    let handed_on = if1.before in
-    let start = handed_on.before in
-    value_first start.args.rows.now start.args.state.now start.args.row operand5.operand-in-47.result operand5.operand-in-47.ensures
-    (handed_on.handed_on-k.ensures.none if1.if-k-ne0.false) (sym get.get-kind.ensures ∙ match_at.in-47.is) value4.value-left.result
-    value4.value-left.ensures c.if-left.true)
+    value_first c.args.rows.now c.args.state.now c.args.row c.operand-in-47.result c.operand-in-47.ensures
+    (c.handed_on-k.ensures.none c.if-k-ne0.false) (sym c.get-kind.ensures ∙ c.in-47.is) c.value-left.result
+    c.value-left.ensures c.if-left.true)
     (λ c κs.
-    let start = c.before.before.before.before.before.before.before in
-    (start.requires.1.low, omega arith))
+    (c.requires.1.low, omega arith))
     (λ c κs.
-    let match_at = c.before.before.before.before in
-    let get = match_at.before in
-    let start = get.before.before.before in
-    call_b start.requires get.get-kind.result c.operand-in-47-2.result get.get-kind.ensures c.operand-in-47-2.ensures (omega (arith, match_at.in-47.is)))
+    call_b c.requires c.get-kind.result c.operand-in-47-2.result c.get-kind.ensures c.operand-in-47-2.ensures (omega (arith, c.in-47.is)))
     (λ c κs. search rules)
     (λ c.
-    let read_value = c.before in
-    let match_at = read_value.before in
-    let get = match_at.before in
-    let start = get.before.before.before in
-    subst (ValueOk start.args.rows.now start.args.state.now start.args.row) (sym c.some.ensures)
-    (value_content start.args.rows.now start.args.state.now start.args.row read_value.read_value.result (subst (OneOf content_kinds) get.get-kind.ensures match_at.in-40.is) read_value.read_value.ensures))
+    subst (ValueOk c.args.rows.now c.args.state.now c.args.row) (sym c.some.ensures)
+    (value_content c.args.rows.now c.args.state.now c.args.row c.read_value.result (subst (OneOf content_kinds) c.get-kind.ensures c.in-40.is) c.read_value.ensures))
     (λ c.
-    let if2 = c.before in
-    let read = if2.before in
-    let match_at = read.before in
-    let get = match_at.before in
-    let start = get.before.before.before in
-    subst (ValueOk start.args.rows.now start.args.state.now start.args.row) (sym c.none.ensures)
-    (value_blank start.args.rows.now start.args.state.now start.args.row (sym get.get-kind.ensures ∙ match_at.in-41.is) (λ e. if2.if-read-eq-ONE.false (read.read.ensures ∙ e))))
+    subst (ValueOk c.args.rows.now c.args.state.now c.args.row) (sym c.none.ensures)
+    (value_blank c.args.rows.now c.args.state.now c.args.row (sym c.get-kind.ensures ∙ c.in-41.is) (λ e. c.if-read-eq-ONE.false (c.read.ensures ∙ e))))
     (λ c.
-    let read_value3 = c.before in
-    let operand2 = read_value3.before in
-    let match_at = operand2.before in
-    let get = match_at.before in
-    let start = get.before.before.before in
-    subst (ValueOk start.args.rows.now start.args.state.now start.args.row) (sym c.some-in-42.ensures)
-    (value_shared start.args.rows.now start.args.state.now start.args.row operand2.operand-cell.result read_value3.read_value-in-42.result (sym get.get-kind.ensures ∙ match_at.in-42.is) operand2.operand-cell.ensures read_value3.read_value-in-42.ensures))
+    subst (ValueOk c.args.rows.now c.args.state.now c.args.row) (sym c.some-in-42.ensures)
+    (value_shared c.args.rows.now c.args.state.now c.args.row c.operand-cell.result c.read_value-in-42.result (sym c.get-kind.ensures ∙ c.in-42.is) c.operand-cell.ensures c.read_value-in-42.ensures))
     (λ c.
-    let value3 = c.before in
-    let operand4 = value3.before in
-    let value2 = operand4.before in
-    let operand3 = value2.before in
-    let match_at = operand3.before in
-    let get = match_at.before in
-    let start = get.before.before.before in
-    value_both start.args.rows.now start.args.state.now start.args.row operand3.operand-in-46.result operand3.operand-in-46.ensures
-    operand4.operand-in-46-2.result value2.value-x.result value3.value-y.result c.both.result
-    (sym get.get-kind.ensures ∙ match_at.in-46.is) operand4.operand-in-46-2.ensures value2.value-x.ensures value3.value-y.ensures
+    value_both c.args.rows.now c.args.state.now c.args.row c.operand-in-46.result c.operand-in-46.ensures
+    c.operand-in-46-2.result c.value-x.result c.value-y.result c.both.result
+    (sym c.get-kind.ensures ∙ c.in-46.is) c.operand-in-46-2.ensures c.value-x.ensures c.value-y.ensures
     c.both.ensures)
     (λ c.
-    let operand6 = c.before in
-    let if3 = operand6.before in
-    let value4 = if3.before in
-    let operand5 = value4.before in
-    let match_at = operand5.before in
-    let get = match_at.before in
-    let if1 = get.before in
-    let handed_on = if1.before in
-    let start = handed_on.before in
-    value_else start.args.rows.now start.args.state.now start.args.row operand5.operand-in-47.result operand5.operand-in-47.ensures
-    (handed_on.handed_on-k.ensures.none if1.if-k-ne0.false) (sym get.get-kind.ensures ∙ match_at.in-47.is) value4.value-left.result
-    value4.value-left.ensures operand6.operand-in-47-2.result c.value-in-47.result operand6.operand-in-47-2.ensures if3.if-left.false c.value-in-47.ensures)
+    value_else c.args.rows.now c.args.state.now c.args.row c.operand-in-47.result c.operand-in-47.ensures
+    (c.handed_on-k.ensures.none c.if-k-ne0.false) (sym c.get-kind.ensures ∙ c.in-47.is) c.value-left.result
+    c.value-left.ensures c.operand-in-47-2.result c.value-in-47.result c.operand-in-47-2.ensures c.if-left.false c.value-in-47.ensures)
     (λ c.
-    let match_at = c.before in
-    let get = match_at.before in
-    let if1 = get.before in
-    let handed_on = if1.before in
-    let start = handed_on.before in
-    subst (ValueOk start.args.rows.now start.args.state.now start.args.row) (sym c.none-in_default.ensures)
-    (value_none start.args.rows.now start.args.state.now start.args.row (handed_on.handed_on-k.ensures.none if1.if-k-ne0.false) (λ e. match_at.in_default.rest.0.0.0.0.1 (subst (OneOf content_kinds) (sym get.get-kind.ensures) e)) (λ e. match_at.in_default.rest.0.0.0.1 (get.get-kind.ensures ∙ e)) (λ e. match_at.in_default.rest.0.0.1 (get.get-kind.ensures ∙ e)) (λ e. match_at.in_default.rest.0.1 (get.get-kind.ensures ∙ e)) (λ e. match_at.in_default.rest.1 (get.get-kind.ensures ∙ e))))
+    subst (ValueOk c.args.rows.now c.args.state.now c.args.row) (sym c.none-in_default.ensures)
+    (value_none c.args.rows.now c.args.state.now c.args.row (c.handed_on-k.ensures.none c.if-k-ne0.false) (λ e. c.in_default.in_default-own.rest.0.0.0.0.1 (subst (OneOf content_kinds) (sym c.get-kind.ensures) e)) (λ e. c.in_default.in_default-own.rest.0.0.0.1 (c.get-kind.ensures ∙ e)) (λ e. c.in_default.in_default-own.rest.0.0.1 (c.get-kind.ensures ∙ e)) (λ e. c.in_default.in_default-own.rest.0.1 (c.get-kind.ensures ∙ e)) (λ e. c.in_default.in_default-own.rest.1 (c.get-kind.ensures ∙ e))))

@@ -11,6 +11,4 @@ bind_spec = tie.close (tie.spec
     (λ c κs. search rules)
     (λ c. search rules)
     (λ c.
-    let read_value = c.before in
-    let if1 = read_value.before.before in
-    bound_push if1.if-depth-ge-MAX_BINDERS.false read_value.read_value.ensures c.push.ensures))
+    bound_push c.if-depth-ge-MAX_BINDERS.false c.read_value.ensures c.push.ensures))

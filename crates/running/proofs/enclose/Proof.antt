@@ -12,21 +12,13 @@ enclose_spec = tie.close (tie.spec
     (λ c κs. search rules)
     (λ c κs. search rules)
     (λ c.
-    let match_at = c.before.before in
-    let get = match_at.before in
-    under_let (sym get.get-kind.ensures ∙ match_at.in-31.is) c.bind.ensures)
+    under_let (sym c.get-kind.ensures ∙ c.in-31.is) c.bind.ensures)
     (λ c.
-    let get = c.before.before.before.before.before in
-    let g = get.get-kind.ensures in
+    let g = c.get-kind.ensures in
     under_step (omega arith) (omega arith) c.bind-in-43-to-44.ensures)
     (λ c.
-    let match_at = c.before in
-    let get = match_at.before in
-    let start = get.before in
-    let g = get.get-kind.ensures in
-    under_none start.requires.1 (λ z. match_at.in_default-1.rest.1 (g ∙ z)) (λ z y. omega arith))
+    let g = c.get-kind.ensures in
+    under_none c.requires.1 (λ z. c.in_default-1.in_default-own.rest.1 (g ∙ z)) (λ z y. omega arith))
     (λ c.
-    let get = c.before.before.before in
-    let start = get.before in
-    let g = get.get-kind.ensures in
-    under_none start.requires.1 (λ z. omega arith) (λ z y. omega arith)))
+    let g = c.get-kind.ensures in
+    under_none c.requires.1 (λ z. omega arith) (λ z y. omega arith)))

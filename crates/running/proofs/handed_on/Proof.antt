@@ -13,88 +13,49 @@ handed_on_spec = tie.close (tie.spec
     (λ c κs. search rules)
     (λ c. handed_gate (sym c.before.before.get-kind.ensures ∙ c.if-kind-eq-GATE.true))
     (λ c.
-    let match_at = c.before.before.before.before.before in
-    let if1 = match_at.before in
-    let read = if1.before in
-    let get = read.before in
-    let g = get.get-kind.ensures in
-    let t = read.read-tag.ensures in
-    handed_left (omega arith) (omega arith) (sym t ∙ match_at.in-2.is))
+    let g = c.get-kind.ensures in
+    let t = c.read-tag.ensures in
+    handed_left (omega arith) (omega arith) (sym t ∙ c.in-2.is))
     (λ c.
-    let match2 = c.before in
-    let if1 = match2.before.before in
-    let read = if1.before in
-    let get = read.before in
-    let g = get.get-kind.ensures in
-    let t = read.read-tag.ensures in
-    handed_none (λ e z. match2.in_default-1.rest.1 (inl (g ∙ z))) (λ e z. match2.in_default-1.rest.1 (inr (g ∙ z))) (λ e z y. omega arith)
-    (λ e z y. omega arith) (λ e z. omega arith) (λ e z y. omega arith) (λ z. if1.if-kind-eq-GATE.false (g ∙ z)))
+    let g = c.get-kind.ensures in
+    let t = c.read-tag.ensures in
+    handed_none (λ e z. c.in_default-1.in_default-own.rest.1 (inl (g ∙ z))) (λ e z. c.in_default-1.in_default-own.rest.1 (inr (g ∙ z))) (λ e z y. omega arith)
+    (λ e z y. omega arith) (λ e z. omega arith) (λ e z y. omega arith) (λ z. c.if-kind-eq-GATE.false (g ∙ z)))
     (λ c.
-    let if1 = c.before.before.before.before.before in
-    let read = if1.before in
-    let get = read.before in
-    let g = get.get-kind.ensures in
-    let t = read.read-tag.ensures in
-    handed_none (λ e z. omega arith) (λ e z. omega arith) (λ e z y. omega arith) (λ e z y. omega arith) (λ e z. omega arith) (λ e z y. omega arith) (λ z. if1.if-kind-eq-GATE.false (g ∙ z)))
+    let g = c.get-kind.ensures in
+    let t = c.read-tag.ensures in
+    handed_none (λ e z. omega arith) (λ e z. omega arith) (λ e z y. omega arith) (λ e z y. omega arith) (λ e z. omega arith) (λ e z y. omega arith) (λ z. c.if-kind-eq-GATE.false (g ∙ z)))
     (λ c.
-    let if1 = c.before.before.before.before.before.before in
-    let read = if1.before in
-    let get = read.before in
-    let g = get.get-kind.ensures in
-    let t = read.read-tag.ensures in
-    handed_none (λ e z. omega arith) (λ e z. omega arith) (λ e z y. omega arith) (λ e z y. omega arith) (λ e z. omega arith) (λ e z y. omega arith) (λ z. if1.if-kind-eq-GATE.false (g ∙ z)))
+    let g = c.get-kind.ensures in
+    let t = c.read-tag.ensures in
+    handed_none (λ e z. omega arith) (λ e z. omega arith) (λ e z y. omega arith) (λ e z y. omega arith) (λ e z. omega arith) (λ e z y. omega arith) (λ z. c.if-kind-eq-GATE.false (g ∙ z)))
     (λ c.
-    let match_at = c.before in
-    let if1 = match_at.before in
-    let read = if1.before in
-    let get = read.before in
-    let g = get.get-kind.ensures in
-    let t = read.read-tag.ensures in
-    let x = sym t ∙ match_at.in-2.is in
+    let g = c.get-kind.ensures in
+    let t = c.read-tag.ensures in
+    let x = sym t ∙ c.in-2.is in
     ⊎_elim (λ e. handed_true (sym g ∙ e) x) (λ e. handed_let (sym g ∙ e) x) c.in-2.is)
     (λ c.
-    let match_at = c.before.before.before in
-    let if1 = match_at.before in
-    let read = if1.before in
-    let get = read.before in
-    let g = get.get-kind.ensures in
-    let t = read.read-tag.ensures in
-    handed_step (omega arith) (omega arith) (sym t ∙ match_at.in-2.is))
+    let g = c.get-kind.ensures in
+    let t = c.read-tag.ensures in
+    handed_step (omega arith) (omega arith) (sym t ∙ c.in-2.is))
     (λ c.
-    let match_at = c.before in
-    let if1 = match_at.before in
-    let read = if1.before in
-    let get = read.before in
-    let g = get.get-kind.ensures in
-    let t = read.read-tag.ensures in
-    handed_false (sym g ∙ c.in-2.is) (sym t ∙ match_at.in-3.is))
+    let g = c.get-kind.ensures in
+    let t = c.read-tag.ensures in
+    handed_false (sym g ∙ c.in-2.is) (sym t ∙ c.in-3.is))
     (λ c.
-    let match_at = c.before.before.before in
-    let if1 = match_at.before in
-    let read = if1.before in
-    let get = read.before in
-    let g = get.get-kind.ensures in
-    let t = read.read-tag.ensures in
-    handed_right (omega arith) (omega arith) (sym t ∙ match_at.in-3.is))
+    let g = c.get-kind.ensures in
+    let t = c.read-tag.ensures in
+    handed_right (omega arith) (omega arith) (sym t ∙ c.in-3.is))
     (λ c.
-    let match3 = c.before in
-    let if1 = match3.before.before in
-    let read = if1.before in
-    let get = read.before in
-    let g = get.get-kind.ensures in
-    let t = read.read-tag.ensures in
-    handed_none (λ e z. omega arith) (λ e z. omega arith) (λ e z y. omega arith) (λ e z y. omega arith) (λ e z. match3.in_default-1.rest.1 (g ∙ z))
-    (λ e z y. omega arith) (λ z. if1.if-kind-eq-GATE.false (g ∙ z)))
+    let g = c.get-kind.ensures in
+    let t = c.read-tag.ensures in
+    handed_none (λ e z. omega arith) (λ e z. omega arith) (λ e z y. omega arith) (λ e z y. omega arith) (λ e z. c.in_default-1.in_default-own.rest.1 (g ∙ z))
+    (λ e z y. omega arith) (λ z. c.if-kind-eq-GATE.false (g ∙ z)))
     (λ c.
-    let if1 = c.before.before.before.before in
-    let read = if1.before in
-    let get = read.before in
-    let g = get.get-kind.ensures in
-    let t = read.read-tag.ensures in
-    handed_none (λ e z. omega arith) (λ e z. omega arith) (λ e z y. omega arith) (λ e z y. omega arith) (λ e z. omega arith) (λ e z y. omega arith) (λ z. if1.if-kind-eq-GATE.false (g ∙ z)))
+    let g = c.get-kind.ensures in
+    let t = c.read-tag.ensures in
+    handed_none (λ e z. omega arith) (λ e z. omega arith) (λ e z y. omega arith) (λ e z y. omega arith) (λ e z. omega arith) (λ e z y. omega arith) (λ z. c.if-kind-eq-GATE.false (g ∙ z)))
     (λ c.
-    let if1 = c.before in
-    let read = if1.before in
-    let g = read.before.get-kind.ensures in
-    let t = read.read-tag.ensures in
-    handed_none (λ e z. omega arith) (λ e z. omega arith) (λ e z y. omega arith) (λ e z y. omega arith) (λ e z. omega arith) (λ e z y. omega arith) (λ z. if1.if-kind-eq-GATE.false (g ∙ z))))
+    let g = c.get-kind.ensures in
+    let t = c.read-tag.ensures in
+    handed_none (λ e z. omega arith) (λ e z. omega arith) (λ e z y. omega arith) (λ e z y. omega arith) (λ e z. omega arith) (λ e z y. omega arith) (λ z. c.if-kind-eq-GATE.false (g ∙ z))))

@@ -32,25 +32,17 @@ pub +count_leaves_spec : {M : Type 1} → statement M
 )
     (count_leaves_at t)
     count_leaves.Post
-    (λ c. let s = c.before in (count_none s.args.d s.args.k s.args.c c.if-k-eq0.true, omega arith))
+    (λ c. (count_none c.args.d c.args.k c.args.c c.if-k-eq0.true, omega arith))
     (λ c. search rules)
-    (λ c. let s = c.before.before in (count_short s.args.d s.args.k s.args.c c.before.if-k-eq0.false c.if-d-eq0.true, omega arith))
+    (λ c. (count_short c.args.d c.args.k c.args.c c.if-k-eq0.false c.if-d-eq0.true, omega arith))
     (λ c. search rules)
     (λ c. search rules)
     (λ c κs. search rules)
     (λ c.
-    let if3 = c.before in
-    let if2 = if3.before in
-    let if1 = if2.before in
-    let start = if1.before in
-    (count_pair start.args.d start.args.k start.args.c c.count_leaves.result if1.if-k-eq0.false if2.if-d-eq0.false if3.if-c-eq0.true c.count_leaves.ensures.0, omega (arith, c.count_leaves.ensures.1, if2.if-d-eq0.false)))
+    (count_pair c.args.d c.args.k c.args.c c.count_leaves.result c.if-k-eq0.false c.if-d-eq0.false c.if-c-eq0.true c.count_leaves.ensures.0, omega (arith, c.count_leaves.ensures.1, c.if-d-eq0.false)))
     (λ c. search rules)
     (λ c. search rules)
     (λ c κs. search rules)
     (λ c. search rules)
     (λ c.
-    let if3 = c.before in
-    let if2 = if3.before in
-    let if1 = if2.before in
-    let start = if1.before in
-    (count_leaf start.args.d start.args.k start.args.c c.count_leaves-2.result if1.if-k-eq0.false if2.if-d-eq0.false if3.if-c-eq0.false c.count_leaves-2.ensures.0, omega (arith, c.count_leaves-2.ensures.1, if2.if-d-eq0.false)))
+    (count_leaf c.args.d c.args.k c.args.c c.count_leaves-2.result c.if-k-eq0.false c.if-d-eq0.false c.if-c-eq0.false c.count_leaves-2.ensures.0, omega (arith, c.count_leaves-2.ensures.1, c.if-d-eq0.false)))

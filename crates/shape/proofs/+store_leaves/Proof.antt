@@ -36,34 +36,22 @@ pub +store_leaves_spec : {M : Type 1} → statement M
     (λ c. let q = c.before.args in store_end q.d q.c q.i q.kinds c.if-d-eq0.true)
     (λ c. search rules)
     (λ c κs.
-    let if1 = c.before in
-    let start = if1.before in
-    let q = start.args in
-    (omega (arith, start.requires.0, if1.if-d-eq0.false), room_pair q.d q.c q.i q.kinds if1.if-d-eq0.false max_leaves c.if-c-eq0.true start.requires.1))
+    let q = c.args in
+    (omega (arith, c.requires.0, c.if-d-eq0.false), room_pair q.d q.c q.i q.kinds c.if-d-eq0.false max_leaves c.if-c-eq0.true c.requires.1))
     (λ c.
-    let if2 = c.before in
-    let if1 = if2.before in
-    let start = if1.before in
-    let q = start.args in
-    store_pair q.d q.c q.i q.kinds if1.if-d-eq0.false c.store_leaves.result if2.if-c-eq0.true c.store_leaves.ensures)
+    let q = c.args in
+    store_pair q.d q.c q.i q.kinds c.if-d-eq0.false c.store_leaves.result c.if-c-eq0.true c.store_leaves.ensures)
     (λ c. search rules)
     (λ c.
-    let s = c.before.before in
-    let q = s.args in
-    (room_leaf q.d q.c q.i q.kinds c.before.if-d-eq0.false max_leaves c.if-c-eq0.false s.requires.1).0)
+    let q = c.args in
+    (room_leaf q.d q.c q.i q.kinds c.if-d-eq0.false max_leaves c.if-c-eq0.false c.requires.1).0)
     (λ c.
-    let s = c.before.before in
-    let q = s.args in
-    omega (arith, (room_leaf q.d q.c q.i q.kinds c.before.if-d-eq0.false max_leaves c.if-c-eq0.false s.requires.1).0))
+    let q = c.args in
+    omega (arith, (room_leaf q.d q.c q.i q.kinds c.if-d-eq0.false max_leaves c.if-c-eq0.false c.requires.1).0))
     (λ c. search rules)
     (λ c κs.
-    let if1 = c.before in
-    let start = if1.before in
-    let q = start.args in
-    (omega (arith, start.requires.0, if1.if-d-eq0.false), (room_leaf q.d q.c q.i q.kinds if1.if-d-eq0.false max_leaves c.if-c-eq0.false start.requires.1).1))
+    let q = c.args in
+    (omega (arith, c.requires.0, c.if-d-eq0.false), (room_leaf q.d q.c q.i q.kinds c.if-d-eq0.false max_leaves c.if-c-eq0.false c.requires.1).1))
     (λ c.
-    let if2 = c.before in
-    let if1 = if2.before in
-    let start = if1.before in
-    let q = start.args in
-    store_leaf q.d q.c q.i q.kinds if1.if-d-eq0.false c.store_leaves-2.result if2.if-c-eq0.false c.store_leaves-2.ensures)
+    let q = c.args in
+    store_leaf q.d q.c q.i q.kinds c.if-d-eq0.false c.store_leaves-2.result c.if-c-eq0.false c.store_leaves-2.ensures)

@@ -32,8 +32,6 @@ pub +width_of_spec : {M : Type 1} → statement M
     (λ c. search rules)
     (λ c κs. search rules)
     (λ c.
-    let if1 = c.before in
-    let start = if1.before in
     omega
-    (arith, width_fits start.args.n start.requires.1, width_more start.args.n c.width_of.result if1.if-n-lt2.false c.width_of.ensures.0))
+    (arith, width_fits c.args.n c.requires.1, width_more c.args.n c.width_of.result c.if-n-lt2.false c.width_of.ensures.0))
     (λ c. (width_more c.before.before.args.n c.width_of.result c.before.if-n-lt2.false c.width_of.ensures.0, omega arith))

@@ -11,7 +11,4 @@ leaf_kinds_spec = tie.close (tie.spec
     (λ c. kinds_none c.before.before.args.shape (sym c.before.leaves_of.ensures.0 ∙ c.if-leaves_of-eq0.true))
     (λ c κs. omega (arith, kinds_room c.before.before.args.shape (λ e. c.if-leaves_of-eq0.false (c.before.leaves_of.ensures.0 ∙ e))))
     (λ c.
-    let if1 = c.before in
-    let Leaves-of = if1.before in
-    let start = Leaves-of.before in
-    c.store_leaves.ensures ∙ kinds_yes start.args.shape (λ e. if1.if-leaves_of-eq0.false (Leaves-of.leaves_of.ensures.0 ∙ e))))
+    c.store_leaves.ensures ∙ kinds_yes c.args.shape (λ e. c.if-leaves_of-eq0.false (c.leaves_of.ensures.0 ∙ e))))

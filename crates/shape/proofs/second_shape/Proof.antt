@@ -12,8 +12,5 @@ second_shape_spec =
     (λ c κs. search rules)
     (λ c. search rules)
     (λ c.
-    let if1 = c.before in
-    let Leaves-of = if1.before in
-    let start = Leaves-of.before in
-    second_yes start.args.shape c.first_width-w.result (omega (arith, if1.if-leaves_of-lt2.false, Leaves-of.leaves_of.ensures.0))
+    second_yes c.args.shape c.first_width-w.result (omega (arith, c.if-leaves_of-lt2.false, c.leaves_of.ensures.0))
     c.first_width-w.ensures.0))

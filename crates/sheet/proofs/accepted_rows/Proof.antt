@@ -10,18 +10,12 @@ accepted_rows_spec = tie.close (tie.spec
     (λ c κs. search rules)
     (λ c κs. search rules)
     (λ c.
-    let accepted_rows = c.before in
-    let copy_in = accepted_rows.before.before in
-    let start = copy_in.before.before in
-    let i = copy_in.copy_in in
-    let r = accepted_rows.accepted_rows in
-    let t = counts_none start.args.rows.now start.args.own.now i.new.1.0 start.requires i.ensures.0 r.result r.ensures (not_from_false _ c.if-not-accepted_rows.true) in
+    let i = c.copy_in in
+    let r = c.accepted_rows in
+    let t = counts_none c.args.rows.now c.args.own.now i.new.1.0 c.requires i.ensures.0 r.result r.ensures (not_from_false _ c.if-not-accepted_rows.true) in
     (t.0, (t.1.0, (t.1.1, i.ensures.0))))
     (λ c.
-    let accepted_rows = c.before in
-    let copy_in = accepted_rows.before.before in
-    let start = copy_in.before.before in
-    let i = copy_in.copy_in in
-    let r = accepted_rows.accepted_rows in
-    let t = counts_all start.args.rows.now start.args.own.now i.new.1.0 start.requires i.ensures.0 r.result r.ensures (not_from_true _ c.if-not-accepted_rows.false) i.ensures.1 in
+    let i = c.copy_in in
+    let r = c.accepted_rows in
+    let t = counts_all c.args.rows.now c.args.own.now i.new.1.0 c.requires i.ensures.0 r.result r.ensures (not_from_true _ c.if-not-accepted_rows.false) i.ensures.1 in
     (t.0, (t.1.0, (t.1.1, i.ensures.0)))))

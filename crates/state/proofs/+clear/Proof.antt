@@ -41,105 +41,53 @@ pub +clear_spec : {M : Type 1} → statement M
     (λ c κs. search rules)
     (λ c κs. search rules)
     (λ c κs.
-    let operand = c.before in
-    let match_at = operand.before in
-    let get = match_at.before in
-    let start = get.before in
-    let h = low_b start.requires.1 get.get-kind.result operand.operand-b.result get.get-kind.ensures operand.operand-b.ensures (omega (arith, match_at.in-25.is)) in
-    (omega (arith, start.requires.0), fine_at start.requires.1 _ _ (omega arith) start.requires.1.room))
+    let h = low_b c.requires.1 c.get-kind.result c.operand-b.result c.get-kind.ensures c.operand-b.ensures (omega (arith, c.in-25.is)) in
+    (omega (arith, c.requires.0), fine_at c.requires.1 _ _ (omega arith) c.requires.1.room))
     (λ c κs. search rules)
     (λ c κs.
-    let operand2 = c.before in
-    let match_at = operand2.before.before.before.before in
-    let get = match_at.before in
-    let start = get.before in
-    let h = low_c start.requires.1 get.get-kind.result operand2.operand-c.result get.get-kind.ensures operand2.operand-c.ensures (omega (arith, match_at.in-25.is)) (omega (arith, match_at.in-25.is)) in
-    (omega (arith, start.requires.0), fine_at start.requires.1 _ _ (omega arith) start.requires.1.room))
+    let h = low_c c.requires.1 c.get-kind.result c.operand-c.result c.get-kind.ensures c.operand-c.ensures (omega (arith, c.in-25.is)) (omega (arith, c.in-25.is)) in
+    (omega (arith, c.requires.0), fine_at c.requires.1 _ _ (omega arith) c.requires.1.room))
     (λ c κs.
-    let start = c.before.before.before.before.before.before.before.before.before in
-    start.requires.1.low)
+    c.requires.1.low)
     (λ c.
-    let clear2 = c.before.before in
-    let operand2 = clear2.before.before in
-    let clear = operand2.before in
-    let operand = clear.before.before in
-    let match_at = operand.before in
-    let get = match_at.before in
-    let start = get.before in
-    clear_if start.args.rows.now start.args.row (sym get.get-kind.ensures ∙ match_at.in-25.is) operand.operand-b.ensures
-    operand2.operand-c.ensures clear.clear.ensures clear2.clear-in-25.ensures c.clear_row.ensures)
+    clear_if c.args.rows.now c.args.row (sym c.get-kind.ensures ∙ c.in-25.is) c.operand-b.ensures
+    c.operand-c.ensures c.clear.ensures c.clear-in-25.ensures c.clear_row.ensures)
     (λ c κs. search rules)
     (λ c κs.
-    let operand3 = c.before in
-    let match_at = operand3.before in
-    let get = match_at.before in
-    let start = get.before in
-    let h = low_b start.requires.1 get.get-kind.result operand3.operand-b-in-31.result get.get-kind.ensures operand3.operand-b-in-31.ensures (⊎_elim (λ e. omega (arith, e)) (λ e. omega (arith, e)) match_at.in-31.is) in
-    (omega (arith, start.requires.0), fine_at start.requires.1 _ _ (omega arith) start.requires.1.room))
+    let h = low_b c.requires.1 c.get-kind.result c.operand-b-in-31.result c.get-kind.ensures c.operand-b-in-31.ensures (⊎_elim (λ e. omega (arith, e)) (λ e. omega (arith, e)) c.in-31.is) in
+    (omega (arith, c.requires.0), fine_at c.requires.1 _ _ (omega arith) c.requires.1.room))
     (λ c κs.
-    let start = c.before.before.before.before.before.before in
-    start.requires.1.low)
+    c.requires.1.low)
     (λ c.
-    let clear3 = c.before.before in
-    let operand3 = clear3.before.before in
-    let match_at = operand3.before in
-    let get = match_at.before in
-    let start = get.before in
-    let rs = start.args.rows.now in
-    let i = start.args.row in
-    let q = sym get.get-kind.ensures in
+    let rs = c.args.rows.now in
+    let i = c.args.row in
+    let q = sym c.get-kind.ensures in
     ⊎_elim
-    (λ e. clear_let rs i (q ∙ e) operand3.operand-b-in-31.ensures clear3.clear-in-31.ensures c.clear_row-in-31.ensures)
-    (λ e. clear_gate rs i (q ∙ e) operand3.operand-b-in-31.ensures clear3.clear-in-31.ensures c.clear_row-in-31.ensures)
-    match_at.in-31.is)
+    (λ e. clear_let rs i (q ∙ e) c.operand-b-in-31.ensures c.clear-in-31.ensures c.clear_row-in-31.ensures)
+    (λ e. clear_gate rs i (q ∙ e) c.operand-b-in-31.ensures c.clear-in-31.ensures c.clear_row-in-31.ensures)
+    c.in-31.is)
     (λ c κs. c.before.before.before.requires.1.low)
     (λ c.
-    let match_at = c.before.before in
-    let get = match_at.before in
-    let start = get.before in
-    let e = sym get.get-kind.ensures ∙ match_at.in-45.is in
-    clear_leaf start.args.rows.now start.args.row (λ z. omega arith) (λ z. omega arith) (λ z. omega arith) (λ x y z. z e) c.clear_row-in-45.ensures)
+    let e = sym c.get-kind.ensures ∙ c.in-45.is in
+    clear_leaf c.args.rows.now c.args.row (λ z. omega arith) (λ z. omega arith) (λ z. omega arith) (λ x y z. z e) c.clear_row-in-45.ensures)
     (λ c κs. search rules)
     (λ c κs.
-    let operand4 = c.before in
-    let if1 = operand4.before.before in
-    let get = if1.before.before in
-    let start = get.before in
-    let h = low_a start.requires.1 get.get-kind.result operand4.operand-a.result get.get-kind.ensures operand4.operand-a.ensures (omega (arith, if1.in_default.left)) (omega (arith, operand4.before.if-kind-lt49.true)) in
-    (omega (arith, start.requires.0), fine_at start.requires.1 _ _ (omega arith) start.requires.1.room))
+    let h = low_a c.requires.1 c.get-kind.result c.operand-a.result c.get-kind.ensures c.operand-a.ensures (omega (arith, c.in_default.left)) (omega (arith, c.if-kind-lt49.true)) in
+    (omega (arith, c.requires.0), fine_at c.requires.1 _ _ (omega arith) c.requires.1.room))
     (λ c κs. search rules)
     (λ c κs.
-    let operand5 = c.before in
-    let if1 = operand5.before.before.before.before.before in
-    let get = if1.before.before in
-    let start = get.before in
-    let h = low_b start.requires.1 get.get-kind.result operand5.operand-b-in-43-to-48.result get.get-kind.ensures operand5.operand-b-in-43-to-48.ensures (omega (arith, if1.in_default.left)) in
-    (omega (arith, start.requires.0), fine_at start.requires.1 _ _ (omega arith) start.requires.1.room))
+    let h = low_b c.requires.1 c.get-kind.result c.operand-b-in-43-to-48.result c.get-kind.ensures c.operand-b-in-43-to-48.ensures (omega (arith, c.in_default.left)) in
+    (omega (arith, c.requires.0), fine_at c.requires.1 _ _ (omega arith) c.requires.1.room))
     (λ c κs.
-    let start = c.before.before.before.before.before.before.before.before.before.before.before in
-    start.requires.1.low)
+    c.requires.1.low)
     (λ c.
-    let clear5 = c.before.before in
-    let operand5 = clear5.before.before in
-    let clear4 = operand5.before in
-    let operand4 = clear4.before.before in
-    let if2 = operand4.before in
-    let if1 = if2.before in
-    let match_at = if1.before in
-    let get = match_at.before in
-    let start = get.before in
-    clear_fork start.args.rows.now start.args.row get.get-kind.result get.get-kind.ensures if1.in_default.left (omega (arith, if2.if-kind-lt49.true))
-    (λ e. match_at.in_default-1.rest.1 e) operand4.operand-a.ensures operand5.operand-b-in-43-to-48.ensures clear4.clear-in-43-to-48.ensures clear5.clear-in-43-to-48-2.ensures
+    clear_fork c.args.rows.now c.args.row c.get-kind.result c.get-kind.ensures c.in_default.left (omega (arith, c.if-kind-lt49.true))
+    (λ e. c.in_default-1.in_default-own.rest.1 e) c.operand-a.ensures c.operand-b-in-43-to-48.ensures c.clear-in-43-to-48.ensures c.clear-in-43-to-48-2.ensures
     c.clear_row-in-43-to-48.ensures)
     (λ c κs.
-    let start = c.before.before.before.before in
-    start.requires.1.low)
+    c.requires.1.low)
     (λ c.
-    let if1 = c.before.before in
-    let match_at = if1.before in
-    let get = match_at.before in
-    let start = get.before in
-    clear_leaf start.args.rows.now start.args.row (λ e. match_at.in_default-1.rest.0.0.1 (get.get-kind.ensures ∙ e))
-    (λ e. match_at.in_default-1.rest.0.1 (inl (get.get-kind.ensures ∙ e)))
-    (λ e. match_at.in_default-1.rest.0.1 (inr (get.get-kind.ensures ∙ e)))
-    (λ x y z. ⊎_elim (λ a. omega (arith, get.get-kind.ensures)) (λ a. omega (arith, get.get-kind.ensures)) if1.in_default.branch) c.clear_row-in_default.ensures)
+    clear_leaf c.args.rows.now c.args.row (λ e. c.in_default-1.in_default-own.rest.0.0.1 (c.get-kind.ensures ∙ e))
+    (λ e. c.in_default-1.in_default-own.rest.0.1 (inl (c.get-kind.ensures ∙ e)))
+    (λ e. c.in_default-1.in_default-own.rest.0.1 (inr (c.get-kind.ensures ∙ e)))
+    (λ x y z. ⊎_elim (λ a. omega (arith, c.get-kind.ensures)) (λ a. omega (arith, c.get-kind.ensures)) c.in_default.branch) c.clear_row-in_default.ensures)

@@ -27,20 +27,14 @@ env_get_spec = tie.close (tie.spec
     (λ c. search rules)
     (λ c. search rules) (λ c κs. search rules) (λ c. search rules) (λ c. search rules) (λ c. search rules) (λ c. search rules)
     (λ c.
-    let loop = c.before.before in
-    let start = loop.before.before.before in
-    let l = loop.loop-i in
-    let a = start.args in
+    let l = c.loop-i in
+    let a = c.args in
     let x = c.read_slot.result in
     (omega arith, length-set l.leaves l.i x ∙ l.invariant.1, filled_more (λ j. slot a.env.now (a.depth - 1 - a.k) (1 + j)) 0 l.leaves l.i x (omega arith) c.read_slot.ensures l.invariant.2))
     (λ c.
-    let loop = c.before in
-    let read_slot = loop.before in
-    let if1 = read_slot.before in
-    let start = if1.before in
-    let l = loop.loop-i in
-    let r = read_slot.read_slot-shape in
-    let a = start.args in
+    let l = c.loop-i in
+    let r = c.read_slot-shape in
+    let a = c.args in
     let n = a.depth - 1 - a.k in
-    binder_in a.env.now a.depth a.k n _ refl if1.if-depth-k.false
+    binder_in a.env.now a.depth a.k n _ refl c.if-depth-k.false
     (value_filled (slot a.env.now n) (λ j. slot a.env.now n (1 + j)) r.result l.i l.leaves r.ensures (λ i. ap (slot a.env.now n) (omega arith)) l.invariant.1 c.loop-i-test.false l.invariant.2)))

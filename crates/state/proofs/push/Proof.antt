@@ -26,17 +26,12 @@ push_spec = tie.close (tie.spec
     (λ c. (search rules, λ was xs h p. p))
     (λ c. search rules) (λ c. search rules) (λ c. search rules) (λ c κs. search rules) (λ c. search rules) (λ c. search rules)
     (λ c.
-    let loop = c.before.before.before in
-    let start = loop.before.before.before.before in
-    let l = loop.loop-i in
-    let ls = start.args.v.leaves in
+    let l = c.loop-i in
+    let ls = c.args.v.leaves in
     let x = get_or ls l.i 0 in
     (omega arith, λ was xs h p. push_more x (omega arith) (omega arith) (h l.i (omega arith)) c.put_slot-in-loop-i.ensures.0 c.put_slot-in-loop-i.ensures.1 (l.invariant.1 was xs h p)))
     (λ c.
-    let loop = c.before in
-    let put_slot = loop.before in
-    let start = put_slot.before.before.before in
-    let l = loop.loop-i in
-    let v = start.args.v in
+    let l = c.loop-i in
+    let v = c.args.v in
     push_all v (omega arith)
-    (l.invariant.1 start.args.env.now (words_of v) (λ m h. ap (λ j. get_or (words_of v) j 0) {x = suc m} {y = 1 + m} (omega arith)) (push_more v.shape (omega arith) (omega arith) refl put_slot.put_slot.ensures.0 put_slot.put_slot.ensures.1 (push_none start.args.env.now start.args.depth (words_of v))))))
+    (l.invariant.1 c.args.env.now (words_of v) (λ m h. ap (λ j. get_or (words_of v) j 0) {x = suc m} {y = 1 + m} (omega arith)) (push_more v.shape (omega arith) (omega arith) refl c.put_slot.ensures.0 c.put_slot.ensures.1 (push_none c.args.env.now c.args.depth (words_of v))))))

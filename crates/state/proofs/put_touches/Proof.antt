@@ -12,7 +12,5 @@ unfolding as_shape put
 put_touches_spec = tie.close (tie.spec
     (λ c κs. search rules) (λ c κs. search rules) (λ c κs. search rules)
     (λ c.
-    let shape = c.before.before in
-    let tag = shape.before.before in
     laid_more refl (put_is (omega arith) c.put-2.ensures.0 c.put-2.ensures.1)
-    (laid_more refl (put_is (omega arith) shape.put.ensures.0 shape.put.ensures.1) tag.put_tag.ensures)))
+    (laid_more refl (put_is (omega arith) c.put.ensures.0 c.put.ensures.1) c.put_tag.ensures)))

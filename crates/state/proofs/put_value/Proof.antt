@@ -24,13 +24,12 @@ put_value_spec = tie.close (tie.spec
     (λ c. (search rules, leaves_none _ _ _ c.before.before.before.before.before.args.v.leaves))
     (λ c. search rules) (λ c. search rules) (λ c. search rules) (λ c κs. search rules) (λ c. search rules) (λ c. search rules)
     (λ c.
-    let l = c.before.before.before.loop-k in
+    let l = c.loop-k in
     let s = c.before.before.before.before.before.before.before.before.before in
-    (omega arith, leaves_more s.args.v.leaves l.k (let e : length s.args.v.leaves ≡ max_leaves = search rules in omega (arith, c.before.before.loop-k-test.true)) (put_is (omega arith) c.put-in-loop-k.ensures.0 c.put-in-loop-k.ensures.1) l.invariant.1))
+    (omega arith, leaves_more s.args.v.leaves l.k (let e : length s.args.v.leaves ≡ max_leaves = search rules in omega (arith, c.loop-k-test.true)) (put_is (omega arith) c.put-in-loop-k.ensures.0 c.put-in-loop-k.ensures.1) l.invariant.1))
     (λ c.
-    let l = c.before.loop-k in
-    let s = c.before.before.before.before.before.before.before in
-    let a = s.args in
+    let l = c.loop-k in
+    let a = c.args in
     let e : length a.v.leaves ≡ max_leaves = search rules in
     leaves_all a.v.leaves l.k (omega (arith, c.loop-k-test.false)) l.invariant.1 a.state.now (a.tag ∷ a.v.shape ∷ []) refl
-    (laid_more refl (put_is (omega arith) c.before.before.put.ensures.0 c.before.before.put.ensures.1) c.before.before.before.before.put_tag.ensures)))
+    (laid_more refl (put_is (omega arith) c.put.ensures.0 c.put.ensures.1) c.put_tag.ensures)))

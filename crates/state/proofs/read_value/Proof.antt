@@ -25,17 +25,12 @@ read_value_spec = tie.close (tie.spec
     (λ c. search rules)
     (λ c. search rules) (λ c κs. search rules) (λ c. search rules) (λ c. search rules) (λ c. search rules) (λ c. search rules)
     (λ c.
-    let loop = c.before.before in
-    let start = loop.before.before in
-    let l = loop.loop-i in
-    let a = start.args in
+    let l = c.loop-i in
+    let a = c.args in
     let x = c.read.result in
     (omega arith, length-set l.leaves l.i x ∙ l.invariant.1, filled_more (λ j. at a.state.now a.row (2 + j)) 0 l.leaves l.i x (omega arith) c.read.ensures l.invariant.2))
     (λ c.
-    let loop = c.before in
-    let read = loop.before in
-    let start = read.before in
-    let l = loop.loop-i in
-    let a = start.args in
-    value_filled (λ m. at a.state.now a.row (suc m)) (λ j. at a.state.now a.row (2 + j)) read.read-shape.result l.i l.leaves
-    read.read-shape.ensures (λ i. ap (at a.state.now a.row) (omega arith)) l.invariant.1 c.loop-i-test.false l.invariant.2))
+    let l = c.loop-i in
+    let a = c.args in
+    value_filled (λ m. at a.state.now a.row (suc m)) (λ j. at a.state.now a.row (2 + j)) c.read-shape.result l.i l.leaves
+    c.read-shape.ensures (λ i. ap (at a.state.now a.row) (omega arith)) l.invariant.1 c.loop-i-test.false l.invariant.2))

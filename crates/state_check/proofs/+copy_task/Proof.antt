@@ -52,181 +52,92 @@ pub +copy_task_spec : {M : Type 1} → statement M
     (copy_task_at t)
     copy_task.Post
     (λ c κs. (c.requires.1.low, omega arith))
-    (λ c κs. let s = c.before in fine_at s.requires.1 s.args.row 0 (omega arith) (omega arith))
+    (λ c κs. fine_at c.requires.1 c.args.row 0 (omega arith) (omega arith))
     (λ c. search rules)
     (λ c. search rules)
     (λ c κs.
-    let start = c.before.before.before.before.before in
-    start.requires.1.low)
+    c.requires.1.low)
     (λ c. search rules)
     (λ c κs.
-    let part = c.before in
-    let part_at = part.before.before in
-    let start = part_at.before.before in
-    let h = lower_as start.args.row part_at.part_at-part.ensures.1 part.in-Filled.is in
-    let m = start.requires.1.low in
+    let h = lower_as c.args.row c.part_at-part.ensures.1 c.in-Filled.is in
+    let m = c.requires.1.low in
     omega arith)
     (λ c κs.
-    let start = c.before.before.before.before.before.before.before in
-    start.requires.1.low)
+    c.requires.1.low)
     (λ c. search rules)
     (λ c κs.
-    let start = c.before.before.before.before.before.before in
-    start.requires.1.low)
+    c.requires.1.low)
     (λ c κs.
-    let part2 = c.before.before.before.before in
-    let part_at = part2.before.before in
-    let start = part_at.before.before in
-    call_lower start.requires part2.in-Below.k start.args.depth
-    (lower_as start.args.row part_at.part_at-part.ensures.1 part2.in-Below.is) start.requires.1.room)
+    call_lower c.requires c.in-Below.k c.args.depth
+    (lower_as c.args.row c.part_at-part.ensures.1 c.in-Below.is) c.requires.1.room)
     (λ c. search rules)
     (λ c κs.
-    let part3 = c.before in
-    let part_at = part3.before.before in
-    let start = part_at.before.before in
-    let h = (lower_as start.args.row part_at.part_at-part.ensures.1 part3.in-Bound.is).0 in
-    let m = start.requires.1.low in
+    let h = (lower_as c.args.row c.part_at-part.ensures.1 c.in-Bound.is).0 in
+    let m = c.requires.1.low in
     omega arith)
     (λ c κs.
-    let start = c.before.before.before.before.before.before.before in
-    start.requires.1.low)
+    c.requires.1.low)
     (λ c κs. c.if-depth-lt-MAX_BINDERS.true)
     (λ c. search rules)
     (λ c κs.
-    let if2 = c.before.before in
-    let part3 = if2.before.before.before.before.before.before in
-    let part_at = part3.before.before in
-    let start = part_at.before.before in
-    let m = if2.if-depth-lt-MAX_BINDERS.true in
-    call_lower start.requires part3.in-Bound.b (start.args.depth + 1)
-    (lower_as start.args.row part_at.part_at-part.ensures.1 part3.in-Bound.is).1 (omega arith))
+    let m = c.if-depth-lt-MAX_BINDERS.true in
+    call_lower c.requires c.in-Bound.b (c.args.depth + 1)
+    (lower_as c.args.row c.part_at-part.ensures.1 c.in-Bound.is).1 (omega arith))
     (λ c.
-    let bound = c.before.before in
-    let if1 = bound.before.before in
-    let copy_value2 = if1.before in
-    let row_type2 = copy_value2.before.before in
-    let part3 = row_type2.before.before in
-    let part_at = part3.before.before in
-    let read = part_at.before in
-    let start = read.before in
-    copy_bound start.args.rows.now start.args.state.now start.args.work.now start.args.row start.args.env start.args.depth
-    read.read-tag.result part_at.part_at-part.result read.read-tag.ensures part_at.part_at-part.ensures.0 part3.in-Bound.is
-    row_type2.row_type-t-in-Bound.ensures copy_value2.copy_value-in-Bound.ensures if1.if-copy_value.true bound.bound-inner.ensures c.copy_task-then-depth-lt-MAX_BINDERS.ensures)
+    copy_bound c.args.rows.now c.args.state.now c.args.work.now c.args.row c.args.env c.args.depth
+    c.read-tag.result c.part_at-part.result c.read-tag.ensures c.part_at-part.ensures.0 c.in-Bound.is
+    c.row_type-t-in-Bound.ensures c.copy_value-in-Bound.ensures c.if-copy_value.true c.bound-inner.ensures c.copy_task-then-depth-lt-MAX_BINDERS.ensures)
     (λ c.
-    let copy_value2 = c.before.before in
-    let row_type2 = copy_value2.before.before in
-    let part3 = row_type2.before.before in
-    let part_at = part3.before.before in
-    let read = part_at.before in
-    let start = read.before in
-    copy_deep start.args.rows.now start.args.state.now start.args.work.now start.args.row start.args.env start.args.depth
-    read.read-tag.result part_at.part_at-part.result read.read-tag.ensures part_at.part_at-part.ensures.0 part3.in-Bound.is
-    row_type2.row_type-t-in-Bound.ensures copy_value2.copy_value-in-Bound.ensures c.if-depth-lt-MAX_BINDERS.false)
+    copy_deep c.args.rows.now c.args.state.now c.args.work.now c.args.row c.args.env c.args.depth
+    c.read-tag.result c.part_at-part.result c.read-tag.ensures c.part_at-part.ensures.0 c.in-Bound.is
+    c.row_type-t-in-Bound.ensures c.copy_value-in-Bound.ensures c.if-depth-lt-MAX_BINDERS.false)
     (λ c. search rules)
     (λ c κs.
-    let start = c.before.before.before.before.before.before in
-    start.requires.1.low)
+    c.requires.1.low)
     (λ c κs.
-    let part4 = c.before.before.before.before in
-    let part_at = part4.before.before in
-    let start = part_at.before.before in
-    call_lower start.requires part4.in-Two.a start.args.depth
-    (lower_as start.args.row part_at.part_at-part.ensures.1 part4.in-Two.is).0 start.requires.1.room)
+    call_lower c.requires c.in-Two.a c.args.depth
+    (lower_as c.args.row c.part_at-part.ensures.1 c.in-Two.is).0 c.requires.1.room)
     (λ c κs.
-    let part4 = c.before.before.before.before.before.before.before in
-    let part_at = part4.before.before in
-    let start = part_at.before.before in
-    call_lower start.requires part4.in-Two.b start.args.depth
-    (lower_as start.args.row part_at.part_at-part.ensures.1 part4.in-Two.is).1 start.requires.1.room)
+    call_lower c.requires c.in-Two.b c.args.depth
+    (lower_as c.args.row c.part_at-part.ensures.1 c.in-Two.is).1 c.requires.1.room)
     (λ c.
-    let if3 = c.before.before in
-    let copy_task3 = if3.before in
-    let put_tag3 = copy_task3.before.before in
-    let part4 = put_tag3.before.before.before in
-    let part_at = part4.before.before in
-    let read = part_at.before in
-    let start = read.before in
-    copy_two start.args.rows.now start.args.state.now start.args.work.now start.args.row start.args.env start.args.depth
-    read.read-tag.result part_at.part_at-part.result read.read-tag.ensures part_at.part_at-part.ensures.0 part4.in-Two.is
-    put_tag3.put_tag-in-Two.ensures copy_task3.copy_task-in-Two.ensures if3.if-copy_task.true c.copy_task-then-copy_task.ensures)
+    copy_two c.args.rows.now c.args.state.now c.args.work.now c.args.row c.args.env c.args.depth
+    c.read-tag.result c.part_at-part.result c.read-tag.ensures c.part_at-part.ensures.0 c.in-Two.is
+    c.put_tag-in-Two.ensures c.copy_task-in-Two.ensures c.if-copy_task.true c.copy_task-then-copy_task.ensures)
     (λ c. search rules)
     (λ c κs.
-    let start = c.before.before.before.before.before.before in
-    start.requires.1.low)
+    c.requires.1.low)
     (λ c κs.
-    let part5 = c.before.before.before.before.before in
-    let part_at = part5.before.before in
-    let start = part_at.before.before in
-    call_lower start.requires part5.in-Gate.b start.args.depth
-    (lower_as start.args.row part_at.part_at-part.ensures.1 part5.in-Gate.is) start.requires.1.room)
+    call_lower c.requires c.in-Gate.b c.args.depth
+    (lower_as c.args.row c.part_at-part.ensures.1 c.in-Gate.is) c.requires.1.room)
     (λ c.
-    let if4 = c.before.before in
-    let copy_touches = if4.before in
-    let part5 = copy_touches.before.before.before in
-    let part_at = part5.before.before in
-    let read = part_at.before in
-    let start = read.before in
-    copy_gate start.args.rows.now start.args.state.now start.args.work.now start.args.row start.args.env start.args.depth
-    read.read-tag.result part_at.part_at-part.result read.read-tag.ensures part_at.part_at-part.ensures.0 part5.in-Gate.is
-    copy_touches.copy_touches.ensures if4.if-copy_touches.true c.copy_task-then-copy_touches.ensures)
+    copy_gate c.args.rows.now c.args.state.now c.args.work.now c.args.row c.args.env c.args.depth
+    c.read-tag.result c.part_at-part.result c.read-tag.ensures c.part_at-part.ensures.0 c.in-Gate.is
+    c.copy_touches.ensures c.if-copy_touches.true c.copy_task-then-copy_touches.ensures)
     (λ c.
-    let part_at = c.before.before in
-    let read = part_at.before in
-    let start = read.before in
-    copy_bad start.args.rows.now start.args.state.now start.args.work.now start.args.row start.args.env start.args.depth
-    read.read-tag.result part_at.part_at-part.result read.read-tag.ensures part_at.part_at-part.ensures.0 c.in-Bad.is)
+    copy_bad c.args.rows.now c.args.state.now c.args.work.now c.args.row c.args.env c.args.depth
+    c.read-tag.result c.part_at-part.result c.read-tag.ensures c.part_at-part.ensures.0 c.in-Bad.is)
     (λ c.
-    let enum_told2 = c.before.before in
-    let part_at = enum_told2.before.before in
-    let read = part_at.before in
-    let start = read.before in
-    copy_alone start.args.rows.now start.args.state.now start.args.work.now start.args.row start.args.env start.args.depth
-    read.read-tag.result part_at.part_at-part.result read.read-tag.ensures part_at.part_at-part.ensures.0 enum_told2.in-Alone.is
+    copy_alone c.args.rows.now c.args.state.now c.args.work.now c.args.row c.args.env c.args.depth
+    c.read-tag.result c.part_at-part.result c.read-tag.ensures c.part_at-part.ensures.0 c.in-Alone.is
     c.put_tag.ensures)
     (λ c.
-    let row_type = c.before.before in
-    let part = row_type.before.before in
-    let part_at = part.before.before in
-    let read = part_at.before in
-    let start = read.before in
-    copy_filled start.args.rows.now start.args.state.now start.args.work.now start.args.row start.args.env
-    start.args.depth read.read-tag.result part_at.part_at-part.result read.read-tag.ensures part_at.part_at-part.ensures.0 part.in-Filled.is
-    row_type.row_type-t.ensures c.copy_value.ensures)
+    copy_filled c.args.rows.now c.args.state.now c.args.work.now c.args.row c.args.env
+    c.args.depth c.read-tag.result c.part_at-part.result c.read-tag.ensures c.part_at-part.ensures.0 c.in-Filled.is
+    c.row_type-t.ensures c.copy_value.ensures)
     (λ c.
-    let put_tag2 = c.before.before in
-    let part2 = put_tag2.before.before.before in
-    let part_at = part2.before.before in
-    let read = part_at.before in
-    let start = read.before in
-    copy_below start.args.rows.now start.args.state.now start.args.work.now start.args.row start.args.env start.args.depth
-    read.read-tag.result part_at.part_at-part.result read.read-tag.ensures part_at.part_at-part.ensures.0 part2.in-Below.is
-    put_tag2.put_tag-in-Below.ensures c.copy_task.ensures)
+    copy_below c.args.rows.now c.args.state.now c.args.work.now c.args.row c.args.env c.args.depth
+    c.read-tag.result c.part_at-part.result c.read-tag.ensures c.part_at-part.ensures.0 c.in-Below.is
+    c.put_tag-in-Below.ensures c.copy_task.ensures)
     (λ c.
-    let copy_value2 = c.before in
-    let row_type2 = copy_value2.before.before in
-    let part3 = row_type2.before.before in
-    let part_at = part3.before.before in
-    let read = part_at.before in
-    let start = read.before in
-    copy_unbound start.args.rows.now start.args.state.now start.args.work.now start.args.row start.args.env
-    start.args.depth read.read-tag.result part_at.part_at-part.result read.read-tag.ensures part_at.part_at-part.ensures.0
-    part3.in-Bound.is row_type2.row_type-t-in-Bound.ensures copy_value2.copy_value-in-Bound.ensures c.if-copy_value.false)
+    copy_unbound c.args.rows.now c.args.state.now c.args.work.now c.args.row c.args.env
+    c.args.depth c.read-tag.result c.part_at-part.result c.read-tag.ensures c.part_at-part.ensures.0
+    c.in-Bound.is c.row_type-t-in-Bound.ensures c.copy_value-in-Bound.ensures c.if-copy_value.false)
     (λ c.
-    let copy_task3 = c.before in
-    let put_tag3 = copy_task3.before.before in
-    let part4 = put_tag3.before.before.before in
-    let part_at = part4.before.before in
-    let read = part_at.before in
-    let start = read.before in
-    copy_first start.args.rows.now start.args.state.now start.args.work.now start.args.row start.args.env start.args.depth
-    read.read-tag.result part_at.part_at-part.result read.read-tag.ensures part_at.part_at-part.ensures.0 part4.in-Two.is
-    put_tag3.put_tag-in-Two.ensures copy_task3.copy_task-in-Two.ensures c.if-copy_task.false)
+    copy_first c.args.rows.now c.args.state.now c.args.work.now c.args.row c.args.env c.args.depth
+    c.read-tag.result c.part_at-part.result c.read-tag.ensures c.part_at-part.ensures.0 c.in-Two.is
+    c.put_tag-in-Two.ensures c.copy_task-in-Two.ensures c.if-copy_task.false)
     (λ c.
-    let copy_touches = c.before in
-    let part5 = copy_touches.before.before.before in
-    let part_at = part5.before.before in
-    let read = part_at.before in
-    let start = read.before in
-    copy_ungated start.args.rows.now start.args.state.now start.args.work.now start.args.row start.args.env
-    start.args.depth read.read-tag.result part_at.part_at-part.result read.read-tag.ensures part_at.part_at-part.ensures.0
-    part5.in-Gate.is copy_touches.copy_touches.ensures c.if-copy_touches.false)
+    copy_ungated c.args.rows.now c.args.state.now c.args.work.now c.args.row c.args.env
+    c.args.depth c.read-tag.result c.part_at-part.result c.read-tag.ensures c.part_at-part.ensures.0
+    c.in-Gate.is c.copy_touches.ensures c.if-copy_touches.false)

@@ -18,22 +18,14 @@ alike_spec = tie.close (tie.spec invariant-loop decreases-loop
     (λ c. (omega arith, alike_none c.args.x.now c.args.y.now))
     (λ c. search rules) (λ c. search rules) (λ c. search rules) (λ c. search rules)
     (λ c.
-    let test = c.before.before.before in
-    let loop = test.before in
-    let start = loop.before in
-    let s = start.args in
-    alike_no s.x.now s.y.now loop.loop-k.k s.m test.loop-k-test.true c.if-x-k.true)
+    let s = c.args in
+    alike_no s.x.now s.y.now c.loop-k.k s.m c.loop-k-test.true c.if-x-k.true)
     (λ c. search rules)
     (λ c. let l = c.before.before.before.loop-k-test.true in omega arith)
     (λ c.
-    let test = c.before.before.before in
-    let loop = test.before in
-    let start = loop.before in
-    let s = start.args in
-    let l = test.loop-k-test.true in
-    (omega arith, alike_more s.x.now s.y.now loop.loop-k.k loop.loop-k.invariant.1 c.if-x-k.false))
+    let s = c.args in
+    let l = c.loop-k-test.true in
+    (omega arith, alike_more s.x.now s.y.now c.loop-k.k c.loop-k.invariant.1 c.if-x-k.false))
     (λ c.
-    let loop = c.before in
-    let start = loop.before in
-    let s = start.args in
-    alike_yes s.x.now s.y.now loop.loop-k.k s.m loop.loop-k.invariant.1 c.loop-k-test.false))
+    let s = c.args in
+    alike_yes s.x.now s.y.now c.loop-k.k s.m c.loop-k.invariant.1 c.loop-k-test.false))

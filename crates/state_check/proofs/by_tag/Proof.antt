@@ -8,14 +8,8 @@ by_tag_spec = tie.close (tie.spec
     (λ c. let s = c.before.args in tag_own s.tag s.p s.q s.r c.if-tag-eq-OWN.true)
     (λ c. let s = c.before.before.args in tag_one s.tag s.p s.q s.r c.before.if-tag-eq-OWN.false c.if-tag-eq-ONE.true)
     (λ c.
-    let if2 = c.before in
-    let if1 = if2.before in
-    let start = if1.before in
-    let s = start.args in
-    tag_other s.tag s.p s.q s.r if1.if-tag-eq-OWN.false if2.if-tag-eq-ONE.false c.if-tag-eq-OTHER.true)
+    let s = c.args in
+    tag_other s.tag s.p s.q s.r c.if-tag-eq-OWN.false c.if-tag-eq-ONE.false c.if-tag-eq-OTHER.true)
     (λ c.
-    let if2 = c.before in
-    let if1 = if2.before in
-    let start = if1.before in
-    let s = start.args in
-    tag_none s.tag s.p s.q s.r if1.if-tag-eq-OWN.false if2.if-tag-eq-ONE.false c.if-tag-eq-OTHER.false))
+    let s = c.args in
+    tag_none s.tag s.p s.q s.r c.if-tag-eq-OWN.false c.if-tag-eq-ONE.false c.if-tag-eq-OTHER.false))

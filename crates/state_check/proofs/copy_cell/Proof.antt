@@ -8,11 +8,7 @@ pub copy_cell_spec : {M : Type 1} → statement M
 copy_cell_spec = tie.close (tie.spec
     (λ c κs. search rules) (λ c κs. search rules) (λ c κs. search rules)
     (λ c.
-    let cell_shape = c.before.before in
-    let if1 = cell_shape.before in
-    let get = if1.before in
-    let start = get.before in
-    let s = start.args in
-    copy_cell_is s.rows.now s.row s.state.now get.get.ensures if1.if-get-eq-CELL.true cell_shape.cell_shape-t.ensures
+    let s = c.args in
+    copy_cell_is s.rows.now s.row s.state.now c.get.ensures c.if-get-eq-CELL.true c.cell_shape-t.ensures
     c.copy_value.ensures)
     (λ c. let s = c.before.before.args in copy_cell_none s.rows.now s.row s.state.now c.before.get.ensures c.if-get-eq-CELL.false))

@@ -20,28 +20,18 @@ pub copy_cells_spec : {M : Type 1} → statement M
 copy_cells_spec = tie.close (tie.spec invariant-loop decreases-loop
     (λ c. (omega arith, no_cells c.args.rows.now c.args.state.now c.args.work.now))
     (λ c κs.
-    let test = c.before in
-    let start = test.before.before in
-    let l = test.loop-i-test.true in
-    let h = start.requires in
+    let l = c.loop-i-test.true in
+    let h = c.requires in
     omega arith)
     (λ c.
-    let copy_cell = c.before in
-    let test = copy_cell.before.before in
-    let loop = test.before in
-    let start = loop.before in
-    let s = start.args in
-    no_more_cells s.rows.now s.state.now loop.loop-i.i s.n loop.loop-i.invariant.1 test.loop-i-test.true copy_cell.copy_cell.ensures
+    let s = c.args in
+    no_more_cells s.rows.now s.state.now c.loop-i.i s.n c.loop-i.invariant.1 c.loop-i-test.true c.copy_cell.ensures
     (not_from_false _ c.if-not-copy_cell.true))
     (λ c. search rules)
     (λ c. let l = c.before.before.before.loop-i-test.true in omega arith)
     (λ c.
-    let copy_cell = c.before in
-    let test = copy_cell.before.before in
-    let loop = test.before in
-    let start = loop.before in
-    let l = test.loop-i-test.true in
-    (omega arith, next_cells start.args.state.now loop.loop-i.invariant.1 copy_cell.copy_cell.ensures (not_from_true _ c.if-not-copy_cell.false)))
+    let l = c.loop-i-test.true in
+    (omega arith, next_cells c.args.state.now c.loop-i.invariant.1 c.copy_cell.ensures (not_from_true _ c.if-not-copy_cell.false)))
     (λ c.
     let loop = c.before in
     let start = loop.before in

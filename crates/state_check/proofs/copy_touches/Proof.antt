@@ -10,20 +10,13 @@ pub copy_touches_spec : {M : Type 1} → statement M
 unfolding as_shape put
 copy_touches_spec = tie.close (tie.spec
     (λ c κs. (search rules, omega arith))
-    (λ c. let read = c.before in let s = read.before.args in touches_shape s.state.now s.row s.most read.read.ensures c.if-read-ne-NUMBER.true)
+    (λ c. let s = c.args in touches_shape s.state.now s.row s.most c.read.ensures c.if-read-ne-NUMBER.true)
     (λ c κs. search rules)
     (λ c. search rules)
     (λ c.
-    let touches = c.before in
-    let if1 = touches.before in
-    let read = if1.before in
-    let s = read.before.args in
-    touches_more s.state.now s.row s.most read.read.ensures touches.read_touches-touches.ensures if1.if-read-ne-NUMBER.false c.if-most-touches.true)
+    let s = c.args in
+    touches_more s.state.now s.row s.most c.read.ensures c.read_touches-touches.ensures c.if-read-ne-NUMBER.false c.if-most-touches.true)
     (λ c κs. search rules)
     (λ c.
-    let if2 = c.before.before in
-    let touches = if2.before in
-    let if1 = touches.before in
-    let read = if1.before in
-    let s = read.before.args in
-    touches_yes s.state.now s.row s.most read.read.ensures touches.read_touches-touches.ensures if1.if-read-ne-NUMBER.false (omega (arith, if2.if-most-touches.false)) c.put_touches.ensures))
+    let s = c.args in
+    touches_yes s.state.now s.row s.most c.read.ensures c.read_touches-touches.ensures c.if-read-ne-NUMBER.false (omega (arith, c.if-most-touches.false)) c.put_touches.ensures))

@@ -13,11 +13,6 @@ part_at_spec = tie.close (tie.spec
     (λ c κs. (c.before.before.before.requires.low, omega arith))
     (λ c κs. search rules)
     (λ c.
-    let operand3 = c.before in
-    let operand2 = operand3.before in
-    let operand = operand2.before in
-    let get = operand.before in
-    let start = get.before in
-    part_is start.args.tag get.get-kind.result operand.operand-a.result operand2.operand-b.result operand3.operand-c.result
-    c.part_from.result start.requires get.get-kind.ensures operand.operand-a.ensures operand2.operand-b.ensures operand3.operand-c.ensures
+    part_is c.args.tag c.get-kind.result c.operand-a.result c.operand-b.result c.operand-c.result
+    c.part_from.result c.requires c.get-kind.ensures c.operand-a.ensures c.operand-b.ensures c.operand-c.ensures
     c.part_from.ensures))

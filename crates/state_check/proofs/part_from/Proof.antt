@@ -23,15 +23,9 @@ part_from_spec = tie.close (tie.spec
     (λ c. let q = c.before.before.args in let e = c.by_tag-in-48.ensures in part_one q.tag q.a q.b q.c (48 ∷ []) q.kind (e, tt) c.before.in-48.is)
     (λ c. let q = c.before.before.args in let e = c.by_tag-in-50.ensures in part_one q.tag q.a q.b q.c (50 ∷ []) q.kind (e, tt) c.before.in-50.is)
     (λ c.
-    let if2 = c.before in
-    let if1 = if2.before in
-    let match_at = if1.before in
-    let start = match_at.before in
-    let q = start.args in
-    part_step q.tag q.a q.b q.c q.kind if1.if-kind-lt40.false if2.if-kind-lt45.true match_at.in_default-1.rest c.by_tag-in-43-to-44.ensures)
-    (λ c. let q = c.before.before.args in part_low q.tag q.a q.b q.c q.kind c.if-kind-lt40.true c.before.in_default-1.rest)
+    let q = c.args in
+    part_step q.tag q.a q.b q.c q.kind c.if-kind-lt40.false c.if-kind-lt45.true c.in_default-1.in_default-own.rest c.by_tag-in-43-to-44.ensures)
+    (λ c. let q = c.before.before.args in part_low q.tag q.a q.b q.c q.kind c.if-kind-lt40.true c.before.in_default-1.in_default-own.rest)
     (λ c.
-    let match_at = c.before.before in
-    let start = match_at.before in
-    let q = start.args in
-    part_high q.tag q.a q.b q.c q.kind c.if-kind-lt45.false match_at.in_default-1.rest))
+    let q = c.args in
+    part_high q.tag q.a q.b q.c q.kind c.if-kind-lt45.false c.in_default-1.in_default-own.rest))

@@ -10,29 +10,21 @@ use Rattle.state_check.proofs.written.Tie as tie
 
 pub written_spec : {M : Type 1} → statement M
 written_spec = tie.close (tie.spec
-    (λ c κs. let l = c.before.requires.0.0 in let h = c.before.requires.0.1.low in omega arith) (λ c. search rules) (λ c κs.
-    let start = c.before.before.before.before in
-    start.requires.0.1)
+    (λ c κs. let l = c.requires.0.0 in let h = c.requires.0.1.low in omega arith) (λ c. search rules) (λ c κs.
+    c.requires.0.1)
     (λ c.
-    let start = c.before.before.before.before.before.before.before.before.before in
-    let l = start.requires.0.0 in
-    let h = start.requires.0.1.low in
+    let l = c.requires.0.0 in
+    let h = c.requires.0.1.low in
     record { fits = omega arith })
     (λ c κs.
     let l = c.before.before.before.before.before.before.before.before.before.requires.0.0 in let h = c.before.before.before.before.before.before.before.before.before.requires.0.1.low in
     let x : length c.before.before.before.before.before.before.before.before.before.args.state.now ≡ state_size = search rules in let y : length c.before.before.before.before.copy_task.new.work ≡ state_size = search rules in
     (omega (arith, l, h, x), omega (arith, l, h, y)))
     (λ c. let s = c.before.before.before.before.before.before.before.before.before.before in
-    let x : length s.args.state.now ≡ state_size = search rules in let y : length c.before.before.before.before.before.copy_task.new.work ≡ state_size = search rules in
-    held_same s.requires.0.0 (zero_rows state_size s.requires.1.1) c.before.before.before.before.before.before.before.before.copy_cells.ensures c.before.before.before.before.before.before.before.if-copy_cells.true c.before.before.before.before.before.copy_task.ensures c.before.before.before.before.if-copy_task.true s.requires.1.0 (x ∙ sym y) c.alike.ensures)
+    let x : length s.args.state.now ≡ state_size = search rules in let y : length c.copy_task.new.work ≡ state_size = search rules in
+    held_same s.requires.0.0 (zero_rows state_size s.requires.1.1) c.copy_cells.ensures c.if-copy_cells.true c.copy_task.ensures c.if-copy_task.true s.requires.1.0 (x ∙ sym y) c.alike.ensures)
     (λ c.
-    let copy_task = c.before in
-    let if1 = copy_task.before.before in
-    let copy_cells = if1.before in
-    let start = copy_cells.before.before in
-    held_no_task start.requires.0.0 (zero_rows state_size start.requires.1.1) copy_cells.copy_cells.ensures if1.if-copy_cells.true
-    copy_task.copy_task.ensures c.if-copy_task.false)
+    held_no_task c.requires.0.0 (zero_rows state_size c.requires.1.1) c.copy_cells.ensures c.if-copy_cells.true
+    c.copy_task.ensures c.if-copy_task.false)
     (λ c.
-    let copy_cells = c.before in
-    let start = copy_cells.before.before in
-    held_no_cells start.requires.0.0 (zero_rows state_size start.requires.1.1) copy_cells.copy_cells.ensures c.if-copy_cells.false))
+    held_no_cells c.requires.0.0 (zero_rows state_size c.requires.1.1) c.copy_cells.ensures c.if-copy_cells.false))

@@ -35,36 +35,19 @@ pub +is_task_spec : {M : Type 1} → statement M
     (λ c κs. search rules)
     (λ c κs. search rules)
     (λ c.
-    let if1 = c.before in
-    let operand = if1.before in
-    let match_at = operand.before in
-    let get = match_at.before in
-    let start = get.before in
-    let q = start.args in
-    task_branch q.rows.now q.row get.get-k.result get.get-k.ensures operand.operand-b.result c.is_task.result
-    match_at.in-25.is operand.operand-b.ensures if1.if-b-row.true c.is_task.ensures)
+    let q = c.args in
+    task_branch q.rows.now q.row c.get-k.result c.get-k.ensures c.operand-b.result c.is_task.result
+    c.in-25.is c.operand-b.ensures c.if-b-row.true c.is_task.ensures)
     (λ c.
-    let operand = c.before in
-    let match_at = operand.before in
-    let get = match_at.before in
-    let start = get.before in
-    let q = start.args in
-    task_high q.rows.now q.row get.get-k.result get.get-k.ensures operand.operand-b.result match_at.in-25.is
-    operand.operand-b.ensures c.if-b-row.false)
+    let q = c.args in
+    task_high q.rows.now q.row c.get-k.result c.get-k.ensures c.operand-b.result c.in-25.is
+    c.operand-b.ensures c.if-b-row.false)
     (λ c.
-    let if2 = c.before in
-    let get = if2.before.before in
-    let start = get.before in
-    let q = start.args in
-    task_own q.rows.now q.row get.get-k.result get.get-k.ensures if2.if-k-lt40.false c.if-k-lt51.true)
+    let q = c.args in
+    task_own q.rows.now q.row c.get-k.result c.get-k.ensures c.if-k-lt40.false c.if-k-lt51.true)
     (λ c.
-    let match_at = c.before in
-    let get = match_at.before in
-    let start = get.before in
-    let q = start.args in
-    task_none q.rows.now q.row get.get-k.result get.get-k.ensures c.if-k-lt40.true match_at.in_default-1.rest)
+    let q = c.args in
+    task_none q.rows.now q.row c.get-k.result c.get-k.ensures c.if-k-lt40.true c.in_default-1.in_default-own.rest)
     (λ c.
-    let get = c.before.before.before in
-    let start = get.before in
-    let q = start.args in
-    task_past q.rows.now q.row get.get-k.result get.get-k.ensures c.if-k-lt51.false)
+    let q = c.args in
+    task_past q.rows.now q.row c.get-k.result c.get-k.ensures c.if-k-lt51.false)

@@ -67,238 +67,126 @@ pub +row_type_spec : {M : Type 1} → statement M
     (λ c κs. search rules)
     (λ c. search rules)
     (λ c κs.
-    let x2 = c.before in
-    let Node-at = x2.before.before in
-    let start = Node-at.before in
-    let b = below_as start.args.row Node-at.node_at-x.ensures.1 x2.in-Op.is in
-    lower_call start.requires.0 start.requires.1 b.0)
+    let b = below_as c.args.row c.node_at-x.ensures.1 c.in-Op.is in
+    lower_call c.requires.0 c.requires.1 b.0)
     (λ c κs.
-    let x2 = c.before.before in
-    let Node-at = x2.before.before in
-    let start = Node-at.before in
-    let b = below_as start.args.row Node-at.node_at-x.ensures.1 x2.in-Op.is in
-    lower_call start.requires.0 start.requires.1 b.1)
+    let b = below_as c.args.row c.node_at-x.ensures.1 c.in-Op.is in
+    lower_call c.requires.0 c.requires.1 b.1)
     (λ c κs. search rules)
     (λ c. search rules)
     (λ c κs.
-    let x3 = c.before in
-    let Node-at = x3.before.before in
-    let start = Node-at.before in
-    let b = below_as start.args.row Node-at.node_at-x.ensures.1 x3.in-If.is in
-    lower_call start.requires.0 start.requires.1 b.0)
+    let b = below_as c.args.row c.node_at-x.ensures.1 c.in-If.is in
+    lower_call c.requires.0 c.requires.1 b.0)
     (λ c κs.
-    let x3 = c.before.before in
-    let Node-at = x3.before.before in
-    let start = Node-at.before in
-    let b = below_as start.args.row Node-at.node_at-x.ensures.1 x3.in-If.is in
-    lower_call start.requires.0 start.requires.1 b.1)
+    let b = below_as c.args.row c.node_at-x.ensures.1 c.in-If.is in
+    lower_call c.requires.0 c.requires.1 b.1)
     (λ c κs.
-    let x3 = c.before.before.before in
-    let Node-at = x3.before.before in
-    let start = Node-at.before in
-    let b = below_as start.args.row Node-at.node_at-x.ensures.1 x3.in-If.is in
-    lower_call start.requires.0 start.requires.1 b.2)
+    let b = below_as c.args.row c.node_at-x.ensures.1 c.in-If.is in
+    lower_call c.requires.0 c.requires.1 b.2)
     (λ c κs. search rules)
     (λ c. search rules)
     (λ c κs.
-    let x4 = c.before in
-    let Node-at = x4.before.before in
-    let start = Node-at.before in
-    let b = below_as start.args.row Node-at.node_at-x.ensures.1 x4.in-Pair.is in
-    lower_call start.requires.0 start.requires.1 b.0)
+    let b = below_as c.args.row c.node_at-x.ensures.1 c.in-Pair.is in
+    lower_call c.requires.0 c.requires.1 b.0)
     (λ c κs.
-    let x4 = c.before.before in
-    let Node-at = x4.before.before in
-    let start = Node-at.before in
-    let b = below_as start.args.row Node-at.node_at-x.ensures.1 x4.in-Pair.is in
-    lower_call start.requires.0 start.requires.1 b.1)
+    let b = below_as c.args.row c.node_at-x.ensures.1 c.in-Pair.is in
+    lower_call c.requires.0 c.requires.1 b.1)
     (λ c κs. search rules)
     (λ c. search rules)
     (λ c κs.
-    let x5 = c.before in
-    let Node-at = x5.before.before in
-    let start = Node-at.before in
-    let b = below_as start.args.row Node-at.node_at-x.ensures.1 x5.in-First.is in
-    lower_call start.requires.0 start.requires.1 (b))
+    let b = below_as c.args.row c.node_at-x.ensures.1 c.in-First.is in
+    lower_call c.requires.0 c.requires.1 (b))
     (λ c κs. search rules)
     (λ c. search rules)
     (λ c κs.
-    let x6 = c.before in
-    let Node-at = x6.before.before in
-    let start = Node-at.before in
-    let b = below_as start.args.row Node-at.node_at-x.ensures.1 x6.in-Second.is in
-    lower_call start.requires.0 start.requires.1 (b))
+    let b = below_as c.args.row c.node_at-x.ensures.1 c.in-Second.is in
+    lower_call c.requires.0 c.requires.1 (b))
     (λ c κs. search rules)
     (λ c. search rules)
     (λ c κs.
-    let x7 = c.before in
-    let Node-at = x7.before.before in
-    let start = Node-at.before in
-    let b = below_as start.args.row Node-at.node_at-x.ensures.1 x7.in-Through.is in
-    lower_call start.requires.0 start.requires.1 (b))
+    let b = below_as c.args.row c.node_at-x.ensures.1 c.in-Through.is in
+    lower_call c.requires.0 c.requires.1 (b))
     (λ c. search rules)
     (λ c κs.
-    let x8 = c.before in
-    let Node-at = x8.before.before in
-    let start = Node-at.before in
-    let b = below_as start.args.row Node-at.node_at-x.ensures.1 x8.in-Assign.is in
-    lower_call start.requires.0 start.requires.1 b.0)
+    let b = below_as c.args.row c.node_at-x.ensures.1 c.in-Assign.is in
+    lower_call c.requires.0 c.requires.1 b.0)
     (λ c κs.
-    let x8 = c.before.before in
-    let Node-at = x8.before.before in
-    let start = Node-at.before in
-    let b = below_as start.args.row Node-at.node_at-x.ensures.1 x8.in-Assign.is in
-    lower_call start.requires.0 start.requires.1 b.1)
+    let b = below_as c.args.row c.node_at-x.ensures.1 c.in-Assign.is in
+    lower_call c.requires.0 c.requires.1 b.1)
     (λ c κs. search rules)
     (λ c. search rules)
     (λ c κs.
-    let x9 = c.before in
-    let Node-at = x9.before.before in
-    let start = Node-at.before in
-    let b = below_as start.args.row Node-at.node_at-x.ensures.1 x9.in-Bind.is in
-    lower_call start.requires.0 start.requires.1 b.0)
+    let b = below_as c.args.row c.node_at-x.ensures.1 c.in-Bind.is in
+    lower_call c.requires.0 c.requires.1 b.0)
     (λ c.
-    let row_type13 = c.before in
-    let x9 = row_type13.before.before in
-    let Node-at = x9.before.before in
-    let start = Node-at.before in
-    let q = start.args in
-    by_node q.rows.now q.env q.n q.row _ _ _ Node-at.node_at-x.ensures.0 x9.in-Bind.is
-    (bind_none q.rows.now q.env q.n x9.in-Bind.b _ _ row_type13.row_type-t-in-Bind.ensures c.if-t-eq0.true))
+    let q = c.args in
+    by_node q.rows.now q.env q.n q.row _ _ _ c.node_at-x.ensures.0 c.in-Bind.is
+    (bind_none q.rows.now q.env q.n c.in-Bind.b _ _ c.row_type-t-in-Bind.ensures c.if-t-eq0.true))
     (λ c κs. search rules)
     (λ c. search rules)
     (λ c κs.
-    let x9 = c.before.before.before.before.before in
-    let Node-at = x9.before.before in
-    let start = Node-at.before in
-    let b = below_as start.args.row Node-at.node_at-x.ensures.1 x9.in-Bind.is in
-    lower_call start.requires.0 start.requires.1 b.1)
+    let b = below_as c.args.row c.node_at-x.ensures.1 c.in-Bind.is in
+    lower_call c.requires.0 c.requires.1 b.1)
     (λ c.
-    let bound = c.before in
-    let if2 = bound.before in
-    let if1 = if2.before in
-    let row_type13 = if1.before in
-    let x9 = row_type13.before.before in
-    let Node-at = x9.before.before in
-    let start = Node-at.before in
-    let q = start.args in
-    by_node q.rows.now q.env q.n q.row _ _ _ Node-at.node_at-x.ensures.0 x9.in-Bind.is
-    (bind_more q.rows.now q.env q.n x9.in-Bind.b _ _ _ _ row_type13.row_type-t-in-Bind.ensures if1.if-t-eq0.false if2.if-n-lt-MAX_BINDERS.true bound.bound-inner.ensures c.row_type-then-n-lt-MAX_BINDERS.ensures))
+    let q = c.args in
+    by_node q.rows.now q.env q.n q.row _ _ _ c.node_at-x.ensures.0 c.in-Bind.is
+    (bind_more q.rows.now q.env q.n c.in-Bind.b _ _ _ _ c.row_type-t-in-Bind.ensures c.if-t-eq0.false c.if-n-lt-MAX_BINDERS.true c.bound-inner.ensures c.row_type-then-n-lt-MAX_BINDERS.ensures))
     (λ c. search rules)
     (λ c κs.
-    let x10 = c.before in
-    let Node-at = x10.before.before in
-    let start = Node-at.before in
-    let b = below_as start.args.row Node-at.node_at-x.ensures.1 x10.in-Same.is in
-    lower_call start.requires.0 start.requires.1 b.0)
+    let b = below_as c.args.row c.node_at-x.ensures.1 c.in-Same.is in
+    lower_call c.requires.0 c.requires.1 b.0)
     (λ c κs.
-    let x10 = c.before.before in
-    let Node-at = x10.before.before in
-    let start = Node-at.before in
-    let b = below_as start.args.row Node-at.node_at-x.ensures.1 x10.in-Same.is in
-    lower_call start.requires.0 start.requires.1 b.1)
+    let b = below_as c.args.row c.node_at-x.ensures.1 c.in-Same.is in
+    lower_call c.requires.0 c.requires.1 b.1)
     (λ c κs. search rules)
     (λ c. search rules)
     (λ c.
-    let Node-at = c.before.before in
-    let start = Node-at.before in
-    let q = start.args in
-    by_node q.rows.now q.env q.n q.row _ _ _ Node-at.node_at-x.ensures.0 c.in-Unit.is refl)
+    let q = c.args in
+    by_node q.rows.now q.env q.n q.row _ _ _ c.node_at-x.ensures.0 c.in-Unit.is refl)
     (λ c.
-    let Node-at = c.before.before in
-    let start = Node-at.before in
-    let q = start.args in
-    by_node q.rows.now q.env q.n q.row _ _ _ Node-at.node_at-x.ensures.0 c.in-Truth.is refl)
+    let q = c.args in
+    by_node q.rows.now q.env q.n q.row _ _ _ c.node_at-x.ensures.0 c.in-Truth.is refl)
     (λ c.
-    let Node-at = c.before.before in
-    let start = Node-at.before in
-    let q = start.args in
-    by_node q.rows.now q.env q.n q.row _ _ _ Node-at.node_at-x.ensures.0 c.in-Number.is refl)
+    let q = c.args in
+    by_node q.rows.now q.env q.n q.row _ _ _ c.node_at-x.ensures.0 c.in-Number.is refl)
     (λ c.
-    let x = c.before.before in
-    let Node-at = x.before.before in
-    let start = Node-at.before in
-    let q = start.args in
-    by_node q.rows.now q.env q.n q.row _ _ _ Node-at.node_at-x.ensures.0 x.in-Binder.is c.binder_shape.ensures)
+    let q = c.args in
+    by_node q.rows.now q.env q.n q.row _ _ _ c.node_at-x.ensures.0 c.in-Binder.is c.binder_shape.ensures)
     (λ c.
-    let row_type2 = c.before in
-    let row_type = row_type2.before in
-    let x2 = row_type.before.before in
-    let Node-at = x2.before.before in
-    let start = Node-at.before in
-    let q = start.args in
-    by_node q.rows.now q.env q.n q.row _ _ _ Node-at.node_at-x.ensures.0 x2.in-Op.is
-    (by2 (op_shape x2.in-Op.o) c.op_shape.ensures row_type.row_type-t.ensures row_type2.row_type-u.ensures))
+    let q = c.args in
+    by_node q.rows.now q.env q.n q.row _ _ _ c.node_at-x.ensures.0 c.in-Op.is
+    (by2 (op_shape c.in-Op.o) c.op_shape.ensures c.row_type-t.ensures c.row_type-u.ensures))
     (λ c.
-    let row_type5 = c.before in
-    let row_type4 = row_type5.before in
-    let row_type3 = row_type4.before in
-    let x3 = row_type3.before.before in
-    let Node-at = x3.before.before in
-    let start = Node-at.before in
-    let q = start.args in
-    by_node q.rows.now q.env q.n q.row _ _ _ Node-at.node_at-x.ensures.0 x3.in-If.is
-    (by3 if_shape c.if_shape.ensures row_type3.row_type-s.ensures row_type4.row_type-t-in-If.ensures row_type5.row_type-u-in-If.ensures))
+    let q = c.args in
+    by_node q.rows.now q.env q.n q.row _ _ _ c.node_at-x.ensures.0 c.in-If.is
+    (by3 if_shape c.if_shape.ensures c.row_type-s.ensures c.row_type-t-in-If.ensures c.row_type-u-in-If.ensures))
     (λ c.
-    let row_type7 = c.before in
-    let row_type6 = row_type7.before in
-    let x4 = row_type6.before.before in
-    let Node-at = x4.before.before in
-    let start = Node-at.before in
-    let q = start.args in
-    by_node q.rows.now q.env q.n q.row _ _ _ Node-at.node_at-x.ensures.0 x4.in-Pair.is
-    (by2 pair_shape c.pair_shape.ensures row_type6.row_type-t-in-Pair.ensures row_type7.row_type-u-in-Pair.ensures))
+    let q = c.args in
+    by_node q.rows.now q.env q.n q.row _ _ _ c.node_at-x.ensures.0 c.in-Pair.is
+    (by2 pair_shape c.pair_shape.ensures c.row_type-t-in-Pair.ensures c.row_type-u-in-Pair.ensures))
     (λ c.
-    let row_type8 = c.before in
-    let x5 = row_type8.before.before in
-    let Node-at = x5.before.before in
-    let start = Node-at.before in
-    let q = start.args in
-    by_node q.rows.now q.env q.n q.row _ _ _ Node-at.node_at-x.ensures.0 x5.in-First.is
-    (by1 first_shape c.first_shape.ensures row_type8.row_type.ensures))
+    let q = c.args in
+    by_node q.rows.now q.env q.n q.row _ _ _ c.node_at-x.ensures.0 c.in-First.is
+    (by1 first_shape c.first_shape.ensures c.row_type.ensures))
     (λ c.
-    let row_type9 = c.before in
-    let x6 = row_type9.before.before in
-    let Node-at = x6.before.before in
-    let start = Node-at.before in
-    let q = start.args in
-    by_node q.rows.now q.env q.n q.row _ _ _ Node-at.node_at-x.ensures.0 x6.in-Second.is
-    (by1 second_shape c.second_shape.ensures row_type9.row_type-in-Second.ensures))
+    let q = c.args in
+    by_node q.rows.now q.env q.n q.row _ _ _ c.node_at-x.ensures.0 c.in-Second.is
+    (by1 second_shape c.second_shape.ensures c.row_type-in-Second.ensures))
     (λ c.
-    let x7 = c.before.before in
-    let Node-at = x7.before.before in
-    let start = Node-at.before in
-    let q = start.args in
-    by_node q.rows.now q.env q.n q.row _ _ _ Node-at.node_at-x.ensures.0 x7.in-Through.is c.row_type-in-Through.ensures)
+    let q = c.args in
+    by_node q.rows.now q.env q.n q.row _ _ _ c.node_at-x.ensures.0 c.in-Through.is c.row_type-in-Through.ensures)
     (λ c.
-    let row_type12 = c.before in
-    let row_type11 = row_type12.before in
-    let x8 = row_type11.before.before in
-    let Node-at = x8.before.before in
-    let start = Node-at.before in
-    let q = start.args in
-    by_node q.rows.now q.env q.n q.row _ _ _ Node-at.node_at-x.ensures.0 x8.in-Assign.is
-    (by2 assign_shape c.assign_shape.ensures row_type11.row_type-t-in-Assign.ensures row_type12.row_type-u-in-Assign.ensures))
+    let q = c.args in
+    by_node q.rows.now q.env q.n q.row _ _ _ c.node_at-x.ensures.0 c.in-Assign.is
+    (by2 assign_shape c.assign_shape.ensures c.row_type-t-in-Assign.ensures c.row_type-u-in-Assign.ensures))
     (λ c.
-    let if1 = c.before in
-    let row_type13 = if1.before in
-    let x9 = row_type13.before.before in
-    let Node-at = x9.before.before in
-    let start = Node-at.before in
-    let q = start.args in
-    by_node q.rows.now q.env q.n q.row _ _ _ Node-at.node_at-x.ensures.0 x9.in-Bind.is
-    (bind_over q.rows.now q.env q.n x9.in-Bind.b _ _ row_type13.row_type-t-in-Bind.ensures if1.if-t-eq0.false c.if-n-lt-MAX_BINDERS.false))
+    let q = c.args in
+    by_node q.rows.now q.env q.n q.row _ _ _ c.node_at-x.ensures.0 c.in-Bind.is
+    (bind_over q.rows.now q.env q.n c.in-Bind.b _ _ c.row_type-t-in-Bind.ensures c.if-t-eq0.false c.if-n-lt-MAX_BINDERS.false))
     (λ c.
-    let row_type16 = c.before in
-    let row_type15 = row_type16.before in
-    let x10 = row_type15.before.before in
-    let Node-at = x10.before.before in
-    let start = Node-at.before in
-    let q = start.args in
-    by_node q.rows.now q.env q.n q.row _ _ _ Node-at.node_at-x.ensures.0 x10.in-Same.is
-    (by2 same_shape c.same_shape.ensures row_type15.row_type-t-in-Same.ensures row_type16.row_type-u-in-Same.ensures))
+    let q = c.args in
+    by_node q.rows.now q.env q.n q.row _ _ _ c.node_at-x.ensures.0 c.in-Same.is
+    (by2 same_shape c.same_shape.ensures c.row_type-t-in-Same.ensures c.row_type-u-in-Same.ensures))
     (λ c.
-    let Node-at = c.before.before in
-    let start = Node-at.before in
-    let q = start.args in
-    by_node q.rows.now q.env q.n q.row _ _ _ Node-at.node_at-x.ensures.0 c.in-Bad.is refl)
+    let q = c.args in
+    by_node q.rows.now q.env q.n q.row _ _ _ c.node_at-x.ensures.0 c.in-Bad.is refl)

@@ -10,14 +10,8 @@ cell_shape_spec = tie.close (tie.spec
     (λ c κs. search rules)
     (λ c κs. search rules)
     (λ c.
-    let kind = c.before in
-    let operand = kind.before.before in
-    let start = operand.before in
-    let s = start.args in
-    shape_truth s.rows.now s.row operand.operand-a.ensures kind.kind.ensures c.if-kind-eq-TRUTH.true)
+    let s = c.args in
+    shape_truth s.rows.now s.row c.operand-a.ensures c.kind.ensures c.if-kind-eq-TRUTH.true)
     (λ c.
-    let kind = c.before in
-    let operand = kind.before.before in
-    let start = operand.before in
-    let s = start.args in
-    shape_number s.rows.now s.row operand.operand-a.ensures kind.kind.ensures c.if-kind-eq-TRUTH.false))
+    let s = c.args in
+    shape_number s.rows.now s.row c.operand-a.ensures c.kind.ensures c.if-kind-eq-TRUTH.false))

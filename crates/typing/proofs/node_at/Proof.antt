@@ -13,11 +13,6 @@ node_at_spec =
     (λ c κs. search rules)
     (λ c κs. search rules)
     (λ c.
-    let get4 = c.before in
-    let get3 = get4.before in
-    let get2 = get3.before in
-    let get = get2.before in
-    let start = get.before in
-    let q = start.args in
-    node_is q.rows.now q.row get.get-k.result get2.get-a.result get3.get-b.result get4.get-c.result c.node_from.result
-    get.get-k.ensures get2.get-a.ensures get3.get-b.ensures get4.get-c.ensures c.node_from.ensures))
+    let q = c.args in
+    node_is q.rows.now q.row c.get-k.result c.get-a.result c.get-b.result c.get-c.result c.node_from.result
+    c.get-k.ensures c.get-a.ensures c.get-b.ensures c.get-c.ensures c.node_from.ensures))

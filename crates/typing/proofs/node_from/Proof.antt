@@ -55,28 +55,17 @@ node_from_spec =
     let e = c.named1-in-50.ensures in
     node_one q.i q.a q.b q.c (50 ∷ []) q.k (e, tt) c.before.in-50.is)
     (λ c.
-    let if2 = c.before in
-    let if1 = if2.before in
-    let start = if1.before.before in
-    let q = start.args in
+    let q = c.args in
     let e = c.named1-in-40-to-42.ensures in
-    node_range q.i q.a q.b q.c 40 3 q.k (e, (e, (e, tt))) if1.if-k-lt40.false if2.if-k-lt43.true)
+    node_range q.i q.a q.b q.c 40 3 q.k (e, (e, (e, tt))) c.if-k-lt40.false c.if-k-lt43.true)
     (λ c.
-    let if3 = c.before in
-    let if2 = if3.before in
-    let start = if2.before.before.before in
-    let q = start.args in
+    let q = c.args in
     let e = c.named2-in-43-to-44.ensures in
-    node_range q.i q.a q.b q.c 43 2 q.k (e, (e, tt)) if2.if-k-lt43.false if3.if-k-lt45.true)
+    node_range q.i q.a q.b q.c 43 2 q.k (e, (e, tt)) c.if-k-lt43.false c.if-k-lt45.true)
     (λ c.
-    let if4 = c.before in
-    let if3 = if4.before in
-    let match_at = if3.before.before.before in
-    let start = match_at.before in
-    let q = start.args in
-    node_choice q.i q.a q.b q.c q.k if3.if-k-lt45.false if4.if-k-lt49.true match_at.in_default-1.rest c.named2-in-47-to-48.ensures)
-    (λ c. let q = c.before.before.args in node_none q.i q.a q.b q.c q.k c.if-k-lt40.true c.before.in_default-1.rest)
+    let q = c.args in
+    node_choice q.i q.a q.b q.c q.k c.if-k-lt45.false c.if-k-lt49.true c.in_default-1.in_default-own.rest c.named2-in-47-to-48.ensures)
+    (λ c. let q = c.before.before.args in node_none q.i q.a q.b q.c q.k c.if-k-lt40.true c.before.in_default-1.in_default-own.rest)
     (λ c.
-    let match_at = c.before.before.before.before in
-    let q = match_at.before.args in
-    node_past q.i q.a q.b q.c q.k c.if-k-lt49.false match_at.in_default-1.rest))
+    let q = c.args in
+    node_past q.i q.a q.b q.c q.k c.if-k-lt49.false c.in_default-1.in_default-own.rest))

@@ -5,5 +5,5 @@ use Rattle.value.proofs.after.Tie as tie
 
 pub after_spec : {M : Type 1} → statement M
 after_spec = tie.close (tie.spec
-    (λ c. let s = c.before.before in after_over_lem s.args.over s.args.e c.if-over.true)
-    (λ c. let s = c.before.before in after_sure s.args.over s.args.e c.if-over.false))
+    (λ c. after_over_lem c.args.over c.args.e c.if-over.true)
+    (λ c. after_sure c.args.over c.args.e c.if-over.false))

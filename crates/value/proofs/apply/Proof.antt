@@ -18,8 +18,5 @@ apply_spec = tie.close (tie.spec
     (λ c. c.sure-in-7-to-8.ensures ∙ ap sure_of c.before.truth-in-7-to-8.ensures ∙ c.before.before.connected.ensures)
     (λ c κs. search rules) (λ c κs. search rules)
     (λ c.
-    let add = c.before in
-    let if1 = add.before in
-    let start = if1.before.before.before in
-    other_is start.args.op (get_or start.args.a.leaves 0 0) (get_or start.args.b.leaves 0 0) c.result.result
-    (λ p q. ⊎_elim (λ z. omega arith) (λ z. omega arith) if1.in_default.branch) (c.result.ensures _ add.add.ensures)))
+    other_is c.args.op (get_or c.args.a.leaves 0 0) (get_or c.args.b.leaves 0 0) c.result.result
+    (λ p q. ⊎_elim (λ z. omega arith) (λ z. omega arith) c.in_default.branch) (c.result.ensures _ c.add.ensures)))

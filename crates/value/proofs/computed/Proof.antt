@@ -9,15 +9,9 @@ pub computed_spec : {M : Type 1} → statement M
 computed_spec = tie.close (tie.spec
     (λ c κs. search rules) (λ c κs. search rules) (λ c κs. search rules) (λ c κs. search rules) (λ c κs. search rules) (λ c κs. search rules)
     (λ c.
-    let match_at = c.before.before in
-    let s = match_at.before in
-    sum_is s.args.op s.args.x s.args.y c.result.result match_at.in-1.is (c.result.ensures _ c.before.add.ensures))
+    sum_is c.args.op c.args.x c.args.y c.result.result c.in-1.is (c.result.ensures _ c.add.ensures))
     (λ c.
-    let match_at = c.before.before in
-    let s = match_at.before in
-    difference_is s.args.op s.args.x s.args.y c.result-in-2.result match_at.in-2.is (c.result-in-2.ensures _ c.before.sub.ensures))
+    difference_is c.args.op c.args.x c.args.y c.result-in-2.result c.in-2.is (c.result-in-2.ensures _ c.sub.ensures))
     (λ c.
-    let match_at = c.before.before in
-    let s = match_at.before in
-    product_is s.args.op s.args.x s.args.y c.result-in_default.result
-    (omega (arith, s.requires.0, s.requires.1, match_at.in_default.rest.0.1, match_at.in_default.rest.1)) (c.result-in_default.ensures _ c.before.mul.ensures)))
+    product_is c.args.op c.args.x c.args.y c.result-in_default.result
+    (omega (arith, c.requires.0, c.requires.1, c.in_default.in_default-own.rest.0.1, c.in_default.in_default-own.rest.1)) (c.result-in_default.ensures _ c.mul.ensures)))

@@ -11,32 +11,16 @@ pub connected_spec : {M : Type 1} → statement M
 connected_spec = tie.close (tie.spec
     (λ c κs. search rules) (λ c κs. search rules)
     (λ c.
-    let match_at = c.before in
-    let equal2 = match_at.before in
-    let equal = equal2.before in
-    let start = equal.before in
-    and_is start.args.op start.args.x start.args.y equal.equal-p.result equal2.equal-q.result equal.equal-p.ensures
-    equal2.equal-q.ensures equal2.equal-q.result match_at.in-7.is (ap (λ p. p && equal2.equal-q.result) (sym c.if-p.true)))
+    and_is c.args.op c.args.x c.args.y c.equal-p.result c.equal-q.result c.equal-p.ensures
+    c.equal-q.ensures c.equal-q.result c.in-7.is (ap (λ p. p && c.equal-q.result) (sym c.if-p.true)))
     (λ c.
-    let match_at = c.before in
-    let equal2 = match_at.before in
-    let equal = equal2.before in
-    let start = equal.before in
-    and_is start.args.op start.args.x start.args.y equal.equal-p.result equal2.equal-q.result equal.equal-p.ensures
-    equal2.equal-q.ensures _ match_at.in-7.is (c.if-p.false ∙ ap (λ p. p && equal2.equal-q.result) (sym c.if-p.false)))
+    and_is c.args.op c.args.x c.args.y c.equal-p.result c.equal-q.result c.equal-p.ensures
+    c.equal-q.ensures _ c.in-7.is (c.if-p.false ∙ ap (λ p. p && c.equal-q.result) (sym c.if-p.false)))
     (λ c.
-    let match_at = c.before in
-    let equal2 = match_at.before in
-    let equal = equal2.before in
-    let start = equal.before in
-    or_is start.args.op start.args.x start.args.y equal.equal-p.result equal2.equal-q.result equal.equal-p.ensures
-    equal2.equal-q.ensures _ (omega (arith, start.requires.0, start.requires.1, match_at.in_default.rest.1))
-    (c.if-p-2.true ∙ ap (λ p. p || equal2.equal-q.result) (sym c.if-p-2.true)))
+    or_is c.args.op c.args.x c.args.y c.equal-p.result c.equal-q.result c.equal-p.ensures
+    c.equal-q.ensures _ (omega (arith, c.requires.0, c.requires.1, c.in_default.in_default-own.rest.1))
+    (c.if-p-2.true ∙ ap (λ p. p || c.equal-q.result) (sym c.if-p-2.true)))
     (λ c.
-    let match_at = c.before in
-    let equal2 = match_at.before in
-    let equal = equal2.before in
-    let start = equal.before in
-    or_is start.args.op start.args.x start.args.y equal.equal-p.result equal2.equal-q.result equal.equal-p.ensures
-    equal2.equal-q.ensures _ (omega (arith, start.requires.0, start.requires.1, match_at.in_default.rest.1))
-    (ap (λ p. p || equal2.equal-q.result) (sym c.if-p-2.false))))
+    or_is c.args.op c.args.x c.args.y c.equal-p.result c.equal-q.result c.equal-p.ensures
+    c.equal-q.ensures _ (omega (arith, c.requires.0, c.requires.1, c.in_default.in_default-own.rest.1))
+    (ap (λ p. p || c.equal-q.result) (sym c.if-p-2.false))))

@@ -11,9 +11,6 @@ pub first_spec : {M : Type 1} → statement M
 first_spec = tie.close (tie.spec
     (λ c κs. search rules) (λ c κs. search rules) (λ c κs. search rules)
     (λ c.
-    let Leaves-of = c.before in
-    let first_shape_lem = Leaves-of.before.before in
-    let start = first_shape_lem.before in
-    let a = start.args in
-    let s = first_shape_lem.first_shape-shape.ensures in
-    made s (c.joined-leaves.ensures ∙ ap (λ n. joined n a.a.leaves no_leaves) (Leaves-of.leaves_of.ensures.0 ∙ ap shape_leaves s))))
+    let a = c.args in
+    let s = c.first_shape-shape.ensures in
+    made s (c.joined-leaves.ensures ∙ ap (λ n. joined n a.a.leaves no_leaves) (c.leaves_of.ensures.0 ∙ ap shape_leaves s))))

@@ -31,20 +31,17 @@ fits_spec = tie.close (tie.spec
     (λ c. (omega arith, (λ j h. absurd (omega arith)), (λ j h. absurd (omega arith))))
     (λ c. search rules) (λ c. search rules) (λ c. search rules) (λ c. search rules) (λ c κs. search rules)
     (λ c.
-    let l = c.before.before.before in
-    let k = l.before.before.before in
-    let a = k.before.before.before.args in (
-      fits_unmet a.v a.shape k.leaf_kinds-kinds.result k.leaf_kinds-kinds.ensures k.before.if-v-shape.false (search rules) (search rules) l.before.before.if-kinds-eq-NO_LEAF.false l.loop-i.i c.before.before.loop-i-test.true
-          (sym c.before.meets.ensures.0 ∙ not-true _ (not_from_false _ c.if-not-meets.true)),
+    let a = c.args in (
+      fits_unmet a.v a.shape c.leaf_kinds-kinds.result c.leaf_kinds-kinds.ensures c.if-v-shape.false (search rules) (search rules) c.if-kinds-eq-NO_LEAF.false c.loop-i.i c.loop-i-test.true
+          (sym c.meets.ensures.0 ∙ not-true _ (not_from_false _ c.if-not-meets.true)),
       λ z. absurd (false≢true z),
     ))
     (λ c. search rules) (λ c. search rules)
-    (λ c. let l = c.before.before.before in (omega arith, below_more _ _ l.loop-i.invariant.1 (sym c.before.meets.ensures.0 ∙ not-false _ (not_from_true _ c.if-not-meets.false)), below_more _ _ l.loop-i.invariant.2 c.before.meets.ensures.1))
+    (λ c. (omega arith, below_more _ _ c.loop-i.invariant.1 (sym c.meets.ensures.0 ∙ not-false _ (not_from_true _ c.if-not-meets.false)), below_more _ _ c.loop-i.invariant.2 c.meets.ensures.1))
     (λ c.
-    let k = c.before.before.before.before in
-    let a = k.before.before.before.args in
+    let a = c.args in
     let e : length a.v.leaves ≡ max_leaves = search rules in (
-      fits_all a.v a.shape k.leaf_kinds-kinds.result k.leaf_kinds-kinds.ensures k.before.if-v-shape.false (search rules) (search rules) c.before.before.before.if-kinds-eq-NO_LEAF.false
-          (λ j h. c.before.loop-i.invariant.1 j (omega arith)),
-      λ z. bits_below max_leaves a.v.leaves (omega (arith, e)) (λ j h. c.before.loop-i.invariant.2 j (omega arith)),
+      fits_all a.v a.shape c.leaf_kinds-kinds.result c.leaf_kinds-kinds.ensures c.if-v-shape.false (search rules) (search rules) c.if-kinds-eq-NO_LEAF.false
+          (λ j h. c.loop-i.invariant.1 j (omega arith)),
+      λ z. bits_below max_leaves a.v.leaves (omega (arith, e)) (λ j h. c.loop-i.invariant.2 j (omega arith)),
     )))

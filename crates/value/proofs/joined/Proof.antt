@@ -25,10 +25,8 @@ joined_spec = tie.close (tie.spec
     (λ c. search rules) (λ c. search rules) (λ c. search rules) (λ c. search rules) (λ c κs. search rules)
     (λ c. search rules) (λ c. search rules) (λ c. search rules) (λ c. search rules)
     (λ c.
-    let loop = c.before.before in
-    let start = loop.before in
-    let l = loop.loop-i in
-    let a = start.args in
+    let l = c.loop-i in
+    let a = c.args in
     let x = ⊎_elim (λ (t, e). joined_front a.t2 a.ys a.n l.i c.if-i-n.leaves t.taken e) (λ (t, g, e). joined_back a.t2 a.ys a.n l.i c.if-i-n.leaves t.left (e ∙ g.ensures)) c.if-i-n.branch in
     (omega arith, length-set l.leaves l.i c.if-i-n.leaves ∙ l.invariant.1, filled_more (joined_at a.n a.t2 a.ys) 0 l.leaves l.i c.if-i-n.leaves (omega arith) x l.invariant.2))
     (λ c.

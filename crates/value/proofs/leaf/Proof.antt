@@ -7,4 +7,4 @@ use Rattle.value.proofs.leaf.Tie as tie
 pub leaf_spec : {M : Type 1} → statement M
 leaf_spec = tie.close (tie.spec
     (λ c. search rules) (λ c. search rules) (λ c. search rules)
-    (λ c. let s = c.before in leaf_past s.args.t1 s.args.i (search rules) c.if-i-lt-MAX_LEAVES.false))
+    (λ c. leaf_past c.args.t1 c.args.i (search rules) c.if-i-lt-MAX_LEAVES.false))

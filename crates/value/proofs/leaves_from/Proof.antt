@@ -22,10 +22,8 @@ leaves_from_spec = tie.close (tie.spec
     (λ c. search rules) (λ c. search rules) (λ c κs. search rules) (λ c. search rules) (λ c. search rules)
     (λ c. search rules) (λ c. search rules)
     (λ c.
-    let loop = c.before.before in
-    let start = loop.before in
-    let l = loop.loop-i in
-    let a = start.args in
+    let l = c.loop-i in
+    let a = c.args in
     let x = c.leaf.result in
     (omega arith, length-set l.leaves l.i x ∙ l.invariant.1, filled_more (λ j. get_or a.xs (a.n + j) 0) 0 l.leaves l.i x (omega arith) c.leaf.ensures l.invariant.2))
     (λ c.

@@ -10,8 +10,5 @@ pub pair_spec : {M : Type 1} → statement M
 pair_spec = tie.close (tie.spec
     (λ c κs. search rules) (λ c κs. search rules) (λ c κs. search rules)
     (λ c.
-    let joined_at = c.before in
-    let Leaves-of = joined_at.before in
-    let start = Leaves-of.before.before.before in
-    let a = start.args in
-    made c.pair_shape.ensures (joined_at.joined-leaves.ensures ∙ ap (λ n. joined n a.a.leaves a.b.leaves) Leaves-of.leaves_of.ensures.0)))
+    let a = c.args in
+    made c.pair_shape.ensures (c.joined-leaves.ensures ∙ ap (λ n. joined n a.a.leaves a.b.leaves) c.leaves_of.ensures.0)))

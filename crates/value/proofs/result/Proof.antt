@@ -9,9 +9,7 @@ use Rattle.value.proofs.result.Tie as tie
 
 returns : tie.Need-returns-in-Word
 returns c z e =
-    let told = c.before.before in
-    let r = told.before in
-    c.sure.ensures ∙ ap sure_of c.before.number.ensures ∙ exactly_word z r.in-Word.w (sym r.in-Word.is ∙ e)
+    c.sure.ensures ∙ ap sure_of c.number.ensures ∙ exactly_word z c.in-Word.w (sym c.in-Word.is ∙ e)
 
 returns_2 : tie.Need-returns-in-Beyond
 returns_2 c z e = ap (λ v. record { over = true; value = v }) c.number-in-Beyond.ensures ∙ exactly_beyond z (sym c.before.in-Beyond.is ∙ e)

@@ -11,10 +11,6 @@ pub second_spec : {M : Type 1} → statement M
 second_spec = tie.close (tie.spec
     (λ c κs. search rules) (λ c κs. search rules) (λ c κs. search rules) (λ c κs. search rules)
     (λ c.
-    let leaves_from_point = c.before in
-    let Leaves-of = leaves_from_point.before in
-    let first_shape_lem = Leaves-of.before in
-    let start = first_shape_lem.before.before in
-    let a = start.args in
+    let a = c.args in
     made c.second_shape.ensures
-    (leaves_from_point.leaves_from-leaves.ensures ∙ ap (λ n. leaves_from n a.a.leaves) (Leaves-of.leaves_of.ensures.0 ∙ ap shape_leaves first_shape_lem.first_shape.ensures))))
+    (c.leaves_from-leaves.ensures ∙ ap (λ n. leaves_from n a.a.leaves) (c.leaves_of.ensures.0 ∙ ap shape_leaves c.first_shape.ensures))))

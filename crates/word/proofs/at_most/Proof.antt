@@ -9,4 +9,4 @@ use Rattle.word.proofs.at_most.Tie as tie
 
 pub at_most_spec : {M : Type 1} → statement M
 at_most_spec = tie.close (tie.spec (λ c κs. search rules) (λ c κs. search rules)
-    (λ c. let s = c.before.before in (λ i. leb (c.before.flipped.ensures i) (c.flipped-2.ensures i)) ∙ at_most_number s.args.a s.args.b (omega arith) (omega arith)))
+    (λ c. (λ i. leb (c.flipped.ensures i) (c.flipped-2.ensures i)) ∙ at_most_number c.args.a c.args.b (omega arith) (omega arith)))

@@ -28,9 +28,8 @@ module _ (c : tie.Then-x-lt0) where
 -- x is not, and is its bits
 x_is : (c : tie.Else-x-lt0) → (to_z w32 (of_z w32 c.before.args.x) ≡ pos (of_z w32 c.before.args.x)) × (of_z w32 c.before.args.x < half)
 x_is c =
-    let start = c.before in
-    let b = number_bits start.args.x start.ranges.x.sfits in
-    let n = natural start.args.x start.ranges.x.sfits (rw b at c.if-x-lt0.false) in
+    let b = number_bits c.args.x c.ranges.x.sfits in
+    let n = natural c.args.x c.ranges.x.sfits (rw b at c.if-x-lt0.false) in
     (b ∙ n.0, n.1)
 
 pub bits_spec : {M : Type 1} → statement M

@@ -30,10 +30,8 @@ copy_in_spec = tie.close (tie.spec invariant-loop decreases-loop
     (λ c. (refl, search rules, search rules, refl, refl, below_none (λ k. IsWord (get_or c.before.args.lent.now k (pos 0)))))
     (λ c. c.before.before.loop-i.invariant.3)
     (λ c.
-    let loop = c.before.before in
-    let start = loop.before.before in
-    let a = start.args in
-    let l = loop.loop-i in
+    let a = c.args in
+    let l = c.loop-i in
     let d = all_read a.lent.now a.own.now l.i (omega arith) (omega arith) (omega arith) in
     (laid_done a.lent.now a.own.now l.i (of_z w32) l.own d l.invariant.4, subst AllWords d.0 (words_take l.i a.lent.now l.invariant.5)))
     (λ c. search rules)
@@ -44,18 +42,13 @@ copy_in_spec = tie.close (tie.spec invariant-loop decreases-loop
     (λ c. search rules)
     (λ c. search rules)
     (λ c.
-    let bits_arg = c.before in
-    let loop = bits_arg.before.before.before in
-    let start = loop.before.before in
-    let a = start.args in
-    let l = loop.loop-i in
-    let w : IsWord (get_or a.lent.now l.i (pos 0)) = bits_arg.bits-arg-1.given in
+    let a = c.args in
+    let l = c.loop-i in
+    let w : IsWord (get_or a.lent.now l.i (pos 0)) = c.bits-arg-1.given in
     (l.invariant.0, omega arith, omega arith, simp length-set l.invariant.3, laid_more (of_z w32) a.lent.now a.own.now l.own l.i (pos 0) 0 c.bits.result (omega arith) (omega arith) l.invariant.4 (c.bits.ensures ∙ ap (of_z w32) (number_bits (get_or a.lent.now l.i (pos 0)) w)), below_more (λ k. IsWord (get_or a.lent.now k (pos 0))) l.i l.invariant.5 w))
     (λ c. c.before.loop-i.invariant.3)
     (λ c.
-    let loop = c.before in
-    let start = loop.before.before in
-    let a = start.args in
-    let l = loop.loop-i in
+    let a = c.args in
+    let l = c.loop-i in
     let d = all_written a.lent.now a.own.now l.i (omega arith) (omega arith) (omega arith) in
     (laid_done a.lent.now a.own.now l.i (of_z w32) l.own d l.invariant.4, subst AllWords d.0 (words_take l.i a.lent.now l.invariant.5))))

@@ -26,10 +26,8 @@ copy_out_spec = tie.close (tie.spec invariant-loop decreases-loop
     (λ c. (refl, search rules, search rules, refl, refl))
     (λ c. c.before.before.loop-i.invariant.3)
     (λ c.
-    let loop = c.before.before in
-    let start = loop.before.before in
-    let a = start.args in
-    let l = loop.loop-i in
+    let a = c.args in
+    let l = c.loop-i in
     laid_done a.own.now a.lent.now l.i (to_z w32) l.lent
     (all_read a.own.now a.lent.now l.i (omega arith) (omega arith) (omega arith)) l.invariant.4)
     (λ c. search rules)
@@ -40,16 +38,12 @@ copy_out_spec = tie.close (tie.spec invariant-loop decreases-loop
     (λ c. search rules)
     (λ c. search rules)
     (λ c.
-    let loop = c.before.before.before.before in
-    let start = loop.before.before in
-    let a = start.args in
-    let l = loop.loop-i in
+    let a = c.args in
+    let l = c.loop-i in
     (l.invariant.0, omega arith, omega arith, simp length-set l.invariant.3, laid_more (to_z w32) a.own.now a.lent.now l.lent l.i 0 (pos 0) (to_z w32 (of_z w32 c.number-z.result)) (omega arith) (omega arith) l.invariant.4 (number_bits c.number-z.result c.number-z.type_inv ∙ c.number-z.ensures)))
     (λ c. c.before.loop-i.invariant.3)
     (λ c.
-    let loop = c.before in
-    let start = loop.before.before in
-    let a = start.args in
-    let l = loop.loop-i in
+    let a = c.args in
+    let l = c.loop-i in
     laid_done a.own.now a.lent.now l.i (to_z w32) l.lent
     (all_written a.own.now a.lent.now l.i (omega arith) (omega arith) (omega arith)) l.invariant.4))

@@ -9,4 +9,4 @@ use Rattle.word.proofs.less.Tie as tie
 
 pub less_spec : {M : Type 1} → statement M
 less_spec = tie.close (tie.spec (λ c κs. search rules) (λ c κs. search rules)
-    (λ c. let s = c.before.before in (λ i. ltb (c.before.flipped.ensures i) (c.flipped-2.ensures i)) ∙ less_number s.args.a s.args.b (omega arith) (omega arith)))
+    (λ c. (λ i. ltb (c.flipped.ensures i) (c.flipped-2.ensures i)) ∙ less_number c.args.a c.args.b (omega arith) (omega arith)))

@@ -16,7 +16,7 @@ back s = wide_is s.args.z s.ranges.z
 z_word : (c : tie.Else-z-gt-GREATEST) → IsWord c.before.before.args.z
 z_word c =
     let s = c.before.before in
-    within s.args.z (rw (back s) at c.before.if-z-lt-LEAST.false) (rw (back s) at c.if-z-gt-GREATEST.false)
+    within s.args.z (rw (back s) at c.if-z-lt-LEAST.false) (rw (back s) at c.if-z-gt-GREATEST.false)
 
 pub reckoned_spec : {M : Type 1} → statement M
 reckoned_spec = tie.close (tie.spec

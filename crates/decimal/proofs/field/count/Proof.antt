@@ -20,44 +20,29 @@ count_spec = tie.close (tie.spec invariant-loop decreases-loop
     (λ c. (c.requires.0, search rules, refl))
     (λ c. search rules)
     (λ c.
-    let test = c.before.before in
-    let loop = test.before in
-    let start = loop.before in
-    let l = loop.loop-i in
+    let l = c.loop-i in
     sym
-    (l.invariant.2 ∙ count_low start.args.most l.n start.args.s.now l.i start.args.end test.loop-i-test.true start.requires.1 (omega arith)))
+    (l.invariant.2 ∙ count_low c.args.most l.n c.args.s.now l.i c.args.end c.loop-i-test.true c.requires.1 (omega arith)))
     (λ c.
-    let test = c.before.before.before in
-    let loop = test.before in
-    let start = loop.before in
-    let l = loop.loop-i in
+    let l = c.loop-i in
     sym
-    (l.invariant.2 ∙ count_high start.args.most l.n start.args.s.now l.i start.args.end test.loop-i-test.true start.requires.1 (omega arith)))
+    (l.invariant.2 ∙ count_high c.args.most l.n c.args.s.now l.i c.args.end c.loop-i-test.true c.requires.1 (omega arith)))
     (λ c. search rules)
     (λ c. search rules)
     (λ c. search rules)
     (λ c. search rules)
     (λ c.
-    let test = c.before.before.before.before in
-    let loop = test.before in
-    let start = loop.before in
-    let l = loop.loop-i in
+    let l = c.loop-i in
     sym
-    (l.invariant.2 ∙ count_led start.args.most l.n start.args.s.now l.i start.args.end test.loop-i-test.true start.requires.1 (omega arith)))
+    (l.invariant.2 ∙ count_led c.args.most l.n c.args.s.now l.i c.args.end c.loop-i-test.true c.requires.1 (omega arith)))
     (λ c.
-    let test = c.before.before.before.before.before in
-    let loop = test.before in
-    let start = loop.before in
-    let l = loop.loop-i in
+    let l = c.loop-i in
     sym
-    (l.invariant.2 ∙ count_over start.args.most l.n start.args.s.now l.i start.args.end test.loop-i-test.true start.requires.1 (omega arith)))
+    (l.invariant.2 ∙ count_over c.args.most l.n c.args.s.now l.i c.args.end c.loop-i-test.true c.requires.1 (omega arith)))
     (λ c. search rules)
     (λ c. search rules)
     (λ c. search rules)
     (λ c.
-    let test = c.before.before.before.before.before in
-    let loop = test.before in
-    let start = loop.before in
-    let l = loop.loop-i in
-    (omega arith, omega arith, l.invariant.2 ∙ count_more start.args.most l.n start.args.s.now l.i start.args.end test.loop-i-test.true start.requires.1 (omega arith) (omega arith) (omega arith) (omega arith)))
-    (λ c. let s = c.before.before in let l = c.before.loop-i in count_none s.args.most l.n s.args.s.now l.i s.args.end (omega arith) ∙ sym l.invariant.2))
+    let l = c.loop-i in
+    (omega arith, omega arith, l.invariant.2 ∙ count_more c.args.most l.n c.args.s.now l.i c.args.end c.loop-i-test.true c.requires.1 (omega arith) (omega arith) (omega arith) (omega arith)))
+    (λ c. let l = c.loop-i in count_none c.args.most l.n c.args.s.now l.i c.args.end (omega arith) ∙ sym l.invariant.2))

@@ -23,6 +23,6 @@ put_digits_spec = tie.close (tie.spec invariant-loop decreases-loop
     (λ c. search rules)
     (λ c. let l = c.before.loop-m in omega (arith, l.invariant.0, l.invariant.1, l.invariant.2.place, decimal_count l.m c.loop-m-test.true))
     (λ c. search rules)
-    (λ c. let s = c.before.before in let l = c.before.loop-m in (omega (arith, l.invariant.0), length-set l.s (l.i - 1) (nought + l.m % 10) ∙ l.invariant.1, stored_more s.args.n l.m s.args.at l.i s.args.s.now l.s c.loop-m-test.true l.invariant.2))
+    (λ c. let l = c.loop-m in (omega (arith, l.invariant.0), length-set l.s (l.i - 1) (nought + l.m % 10) ∙ l.invariant.1, stored_more c.args.n l.m c.args.at l.i c.args.s.now l.s c.loop-m-test.true l.invariant.2))
     (λ c. let l = c.before.loop-m in l.invariant.1)
-    (λ c. let s = c.before.before in let l = c.before.loop-m in stored_all s.args.n l.m s.args.at l.i s.args.s.now l.s (omega arith) l.invariant.2))
+    (λ c. let l = c.loop-m in stored_all c.args.n l.m c.args.at l.i c.args.s.now l.s (omega arith) l.invariant.2))

@@ -11,28 +11,15 @@ pub read_spec : {M : Type 1} → statement M
 read_spec = tie.close (tie.spec
     (λ c κs. search rules)
     (λ c.
-    let has = c.before in
-    let start = has.before.before in
-    field_none start.args.s.now start.args.at start.args.width
-    (no_room start.args.at start.args.width (length start.args.s.now) has.has.result has.has.ensures (not_from_false _ c.if-not-has.true)))
+    field_none c.args.s.now c.args.at c.args.width
+    (no_room c.args.at c.args.width (length c.args.s.now) c.has.result c.has.ensures (not_from_false _ c.if-not-has.true)))
     (λ c.
-    let has = c.before in
-    let start = has.before.before in
-    omega (arith, room start.args.at start.args.width (length start.args.s.now) has.has.result has.has.ensures (not_from_true _ c.if-not-has.false)))
+    omega (arith, room c.args.at c.args.width (length c.args.s.now) c.has.result c.has.ensures (not_from_true _ c.if-not-has.false)))
     (λ c κs.
-    let has = c.before in
-    let start = has.before.before in
-    (omega arith, room start.args.at start.args.width (length start.args.s.now) has.has.result has.has.ensures (not_from_true _ c.if-not-has.false)))
+    (omega arith, room c.args.at c.args.width (length c.args.s.now) c.has.result c.has.ensures (not_from_true _ c.if-not-has.false)))
     (λ c κs.
-    let if1 = c.before in
-    let has = if1.before in
-    let start = has.before.before in
-    (c.past_spaces-i.ensures.1, room start.args.at start.args.width (length start.args.s.now) has.has.result has.has.ensures (not_from_true _ if1.if-not-has.false)))
+    (c.past_spaces-i.ensures.1, room c.args.at c.args.width (length c.args.s.now) c.has.result c.has.ensures (not_from_true _ c.if-not-has.false)))
     (λ c.
-    let past_spaces = c.before in
-    let if1 = past_spaces.before in
-    let has = if1.before in
-    let start = has.before.before in
-    field_read start.args.s.now start.args.at start.args.width past_spaces.past_spaces-i.result c.read_text.result
-    (room start.args.at start.args.width (length start.args.s.now) has.has.result has.has.ensures (not_from_true _ if1.if-not-has.false))
-    past_spaces.past_spaces-i.ensures.2 c.read_text.ensures))
+    field_read c.args.s.now c.args.at c.args.width c.past_spaces-i.result c.read_text.result
+    (room c.args.at c.args.width (length c.args.s.now) c.has.result c.has.ensures (not_from_true _ c.if-not-has.false))
+    c.past_spaces-i.ensures.2 c.read_text.ensures))

@@ -9,5 +9,5 @@ use Rattle.decimal.proofs.part.has.Tie as tie
 
 pub has_spec : {M : Type 1} → statement M
 has_spec = tie.close (tie.spec
-    (λ c. let s = c.before in sym (lt-leb (s.args.at + s.args.width) s.args.len (omega arith)))
-    (λ c. let s = c.before in has_rest s.args.len s.args.at s.args.width c.if-len-at.false))
+    (λ c. sym (lt-leb (c.args.at + c.args.width) c.args.len (omega arith)))
+    (λ c. has_rest c.args.len c.args.at c.args.width c.if-len-at.false))

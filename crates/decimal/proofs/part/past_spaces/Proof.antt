@@ -20,17 +20,11 @@ past_spaces_spec = tie.close (tie.spec invariant-loop decreases-loop
     (λ c. (omega arith, c.requires.0, refl))
     (λ c. search rules)
     (λ c.
-    let test = c.before.before in
-    let loop = test.before in
-    let start = loop.before in
-    let l = loop.loop-i in
-    (l.invariant.0, l.invariant.1, l.invariant.2 ∙ trim_stop start.args.s.now l.i start.args.end test.loop-i-test.true start.requires.1 c.if-s-i-ne-SPACE.true))
+    let l = c.loop-i in
+    (l.invariant.0, l.invariant.1, l.invariant.2 ∙ trim_stop c.args.s.now l.i c.args.end c.loop-i-test.true c.requires.1 c.if-s-i-ne-SPACE.true))
     (λ c. search rules)
     (λ c. search rules)
     (λ c.
-    let test = c.before.before in
-    let loop = test.before in
-    let start = loop.before in
-    let l = loop.loop-i in
-    (omega arith, omega arith, l.invariant.2 ∙ trim_space start.args.s.now l.i start.args.end test.loop-i-test.true start.requires.1 c.if-s-i-ne-SPACE.false))
-    (λ c. let s = c.before.before in let l = c.before.loop-i in (l.invariant.0, l.invariant.1, l.invariant.2 ∙ trim_none s.args.s.now l.i s.args.end (omega arith))))
+    let l = c.loop-i in
+    (omega arith, omega arith, l.invariant.2 ∙ trim_space c.args.s.now l.i c.args.end c.loop-i-test.true c.requires.1 c.if-s-i-ne-SPACE.false))
+    (λ c. let l = c.loop-i in (l.invariant.0, l.invariant.1, l.invariant.2 ∙ trim_none c.args.s.now l.i c.args.end (omega arith))))

@@ -8,6 +8,6 @@ use Rattle.decimal.proofs.path.columns.Tie as tie
 
 pub columns_spec : {M : Type 1} → statement M
 columns_spec = tie.close (tie.spec
-    (λ c. let s = c.before in sym (ap length (text_0 s.args.path c.if-path-eq0.true)))
+    (λ c. sym (ap length (text_0 c.args.path c.if-path-eq0.true)))
     (λ c κs. search rules)
-    (λ c. let s = c.before.before in c.marks_of.ensures ∙ text_length s.args.path c.before.if-path-eq0.false))
+    (λ c. c.marks_of.ensures ∙ text_length c.args.path c.if-path-eq0.false))

@@ -6,8 +6,8 @@ use Rattle.decimal.proofs.path.front_mark.Tie as tie
 
 pub front_mark_spec : {M : Type 1} → statement M
 front_mark_spec = tie.close (tie.spec
-    (λ c. let s = c.before in front_none s.args.path c.if-path-eq0.true)
+    (λ c. front_none c.args.path c.if-path-eq0.true)
     (λ c. search rules)
-    (λ c. let s = c.before.before in front_first s.args.path c.before.if-path-eq0.false c.if-path-eq1.true)
+    (λ c. front_first c.args.path c.if-path-eq0.false c.if-path-eq1.true)
     (λ c. search rules)
-    (λ c. let s = c.before.before in front_second s.args.path c.before.if-path-eq0.false c.if-path-eq1.false))
+    (λ c. front_second c.args.path c.if-path-eq0.false c.if-path-eq1.false))

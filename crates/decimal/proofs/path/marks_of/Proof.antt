@@ -19,7 +19,7 @@ pub marks_of_spec : {M : Type 1} → statement M
 marks_of_spec = tie.close (tie.spec invariant-loop decreases-loop
     (λ c. omega arith)
     (λ c. search rules)
-    (λ c. let s = c.before.before in let l = c.before.loop-p in omega (arith, l.invariant, length_front l.p c.loop-p-test.true, length_path s.args.path))
+    (λ c. let l = c.loop-p in omega (arith, l.invariant, length_front l.p c.loop-p-test.true, length_path c.args.path))
     (λ c. search rules)
     (λ c. let l = c.before.loop-p in omega (arith, l.invariant, length_front l.p c.loop-p-test.true))
     (λ c. let l = c.before.loop-p in omega (arith, l.invariant, ap length (path_0 l.p (omega arith)))))

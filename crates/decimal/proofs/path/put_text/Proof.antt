@@ -10,16 +10,11 @@ use Rattle.decimal.proofs.path.put_text.Tie as tie
 
 pub put_text_spec : {M : Type 1} → statement M
 put_text_spec = tie.close (tie.spec
-    (λ c. let s = c.before.before in omega (arith, s.requires, ap length (text_0 s.args.path c.if-path-eq0.true)))
+    (λ c. omega (arith, c.requires, ap length (text_0 c.args.path c.if-path-eq0.true)))
     (λ c. search rules)
-    (λ c. let s = c.before.before in sym (ap (sets s.args.s.now s.args.at) (text_0 s.args.path c.if-path-eq0.true)))
+    (λ c. sym (ap (sets c.args.s.now c.args.at) (text_0 c.args.path c.if-path-eq0.true)))
     (λ c κs.
-    let if1 = c.before in
-    let start = if1.before.before in
-    omega (arith, start.requires, text_length start.args.path if1.if-path-eq0.false))
+    omega (arith, c.requires, text_length c.args.path c.if-path-eq0.false))
     (λ c. search rules)
     (λ c.
-    let put_marks = c.before.before in
-    let if1 = put_marks.before.before in
-    let start = if1.before.before in
-    put_marks.put_marks.ensures ∙ sym (ap (sets start.args.s.now start.args.at) (text_some start.args.path if1.if-path-eq0.false))))
+    c.put_marks.ensures ∙ sym (ap (sets c.args.s.now c.args.at) (text_some c.args.path c.if-path-eq0.false))))

@@ -13,28 +13,15 @@ pub read_spec : {M : Type 1} → statement M
 read_spec = tie.close (tie.spec
     (λ c κs. search rules)
     (λ c.
-    let has = c.before in
-    let start = has.before.before in
-    path_nowhere start.args.s.now start.args.at
-    (no_room start.args.at path_columns (length start.args.s.now) has.has.result has.has.ensures (not_from_false _ c.if-not-has.true)))
+    path_nowhere c.args.s.now c.args.at
+    (no_room c.args.at path_columns (length c.args.s.now) c.has.result c.has.ensures (not_from_false _ c.if-not-has.true)))
     (λ c.
-    let has = c.before in
-    let start = has.before.before in
-    omega (arith, room start.args.at path_columns (length start.args.s.now) has.has.result has.has.ensures (not_from_true _ c.if-not-has.false)))
+    omega (arith, room c.args.at path_columns (length c.args.s.now) c.has.result c.has.ensures (not_from_true _ c.if-not-has.false)))
     (λ c κs.
-    let has = c.before in
-    let start = has.before.before in
-    (omega arith, room start.args.at path_columns (length start.args.s.now) has.has.result has.has.ensures (not_from_true _ c.if-not-has.false)))
+    (omega arith, room c.args.at path_columns (length c.args.s.now) c.has.result c.has.ensures (not_from_true _ c.if-not-has.false)))
     (λ c κs.
-    let if1 = c.before in
-    let has = if1.before in
-    let start = has.before.before in
-    (c.past_spaces-i.ensures.1, room start.args.at path_columns (length start.args.s.now) has.has.result has.has.ensures (not_from_true _ if1.if-not-has.false), omega (arith, c.past_spaces-i.ensures.0)))
+    (c.past_spaces-i.ensures.1, room c.args.at path_columns (length c.args.s.now) c.has.result c.has.ensures (not_from_true _ c.if-not-has.false), omega (arith, c.past_spaces-i.ensures.0)))
     (λ c.
-    let past_spaces = c.before in
-    let if1 = past_spaces.before in
-    let has = if1.before in
-    let start = has.before.before in
-    path_read start.args.s.now start.args.at past_spaces.past_spaces-i.result c.read_text.result
-    (room start.args.at path_columns (length start.args.s.now) has.has.result has.has.ensures (not_from_true _ if1.if-not-has.false))
-    past_spaces.past_spaces-i.ensures.2 c.read_text.ensures))
+    path_read c.args.s.now c.args.at c.past_spaces-i.result c.read_text.result
+    (room c.args.at path_columns (length c.args.s.now) c.has.result c.has.ensures (not_from_true _ c.if-not-has.false))
+    c.past_spaces-i.ensures.2 c.read_text.ensures))

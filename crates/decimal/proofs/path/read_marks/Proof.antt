@@ -23,37 +23,25 @@ read_marks_spec = tie.close (tie.spec invariant-loop decreases-loop
     (λ c. search rules)
     (λ c. search rules)
     (λ c.
-    let test = c.before.before in
-    let loop = test.before in
-    let start = loop.before in
-    let l = loop.loop-i in
-    marks_not start.args.s.now start.args.at l.i start.args.end start.requires.1 test.loop-i-test.true l.invariant.1
+    let l = c.loop-i in
+    marks_not c.args.s.now c.args.at l.i c.args.end c.requires.1 c.loop-i-test.true l.invariant.1
     (λ e. omega (arith, e, c.if-b.true)) (λ e. omega (arith, e, c.if-b.true)))
     (λ c. search rules)
     (λ c.
-    let test = c.before.before.before in
-    let loop = test.before in
-    let start = loop.before in
-    let l = loop.loop-i in
-    marks_not start.args.s.now start.args.at l.i start.args.end start.requires.1 test.loop-i-test.true l.invariant.1
+    let l = c.loop-i in
+    marks_not c.args.s.now c.args.at l.i c.args.end c.requires.1 c.loop-i-test.true l.invariant.1
     (λ e. omega (arith, e, c.if-b-2.true)) (λ e. omega (arith, e, c.if-b-2.true)))
     (λ c.
-    let loop = c.before.before.before.before in
-    let start = loop.before in
-    let l = loop.loop-i in
-    omega (arith, marks_small start.args.s.now l.i start.args.end start.requires.1 l.path (omega arith) l.invariant.2))
+    let l = c.loop-i in
+    omega (arith, marks_small c.args.s.now l.i c.args.end c.requires.1 l.path (omega arith) l.invariant.2))
     (λ c. search rules)
     (λ c. search rules)
     (λ c.
-    let loop = c.before.before.before.before in
-    let start = loop.before in
-    let l = loop.loop-i in
-    omega (arith, c.if-b-2.false, marks_small start.args.s.now l.i start.args.end start.requires.1 l.path (omega arith) l.invariant.2))
+    let l = c.loop-i in
+    omega (arith, c.if-b-2.false, marks_small c.args.s.now l.i c.args.end c.requires.1 l.path (omega arith) l.invariant.2))
     (λ c. search rules)
     (λ c. search rules)
     (λ c.
-    let loop = c.before.before.before.before in
-    let start = loop.before in
-    let l = loop.loop-i in
-    (omega arith, omega arith, marks_more start.args.s.now l.i start.args.end start.requires.1 (omega arith) l.invariant.1 l.path l.invariant.2 (omega arith) (omega arith)))
-    (λ c. let s = c.before.before in let l = c.before.loop-i in marks_all s.args.s.now s.args.at l.i s.args.end l.path (omega arith) l.invariant.2))
+    let l = c.loop-i in
+    (omega arith, omega arith, marks_more c.args.s.now l.i c.args.end c.requires.1 (omega arith) l.invariant.1 l.path l.invariant.2 (omega arith) (omega arith)))
+    (λ c. let l = c.loop-i in marks_all c.args.s.now c.args.at l.i c.args.end l.path (omega arith) l.invariant.2))

@@ -9,20 +9,14 @@ use Rattle.decimal.proofs.path.read_text.Tie as tie
 
 pub read_text_spec : {M : Type 1} → statement M
 read_text_spec = tie.close (tie.spec
-    (λ c. let s = c.before.before in text_none s.args.s.now s.args.at s.args.end c.if-at-end.true)
+    (λ c. text_none c.args.s.now c.args.at c.args.end c.if-at-end.true)
     (λ c. search rules)
     (λ c. search rules)
     (λ c.
-    let if2 = c.before in
-    let start = if2.before.before.before.before in
-    text_alone start.args.s.now start.args.at start.args.end (omega arith) start.requires.1 if2.if-s-at-eq-NOUGHT.true c.if-at-end-2.true)
+    text_alone c.args.s.now c.args.at c.args.end (omega arith) c.requires.1 c.if-s-at-eq-NOUGHT.true c.if-at-end-2.true)
     (λ c.
-    let if2 = c.before in
-    let start = if2.before.before.before.before in
-    text_led start.args.s.now start.args.at start.args.end start.requires.1 if2.if-s-at-eq-NOUGHT.true (omega arith))
+    text_led c.args.s.now c.args.at c.args.end c.requires.1 c.if-s-at-eq-NOUGHT.true (omega arith))
     (λ c κs. search rules)
     (λ c.
-    let if2 = c.before in
-    let start = if2.before.before.before.before in
     c.read_marks.ensures ∙ ap path_reading
-    (text_marks start.args.s.now start.args.at start.args.end (omega arith) start.requires.1 if2.if-s-at-eq-NOUGHT.false)))
+    (text_marks c.args.s.now c.args.at c.args.end (omega arith) c.requires.1 c.if-s-at-eq-NOUGHT.false)))

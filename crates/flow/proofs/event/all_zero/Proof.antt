@@ -26,9 +26,7 @@ array_read_if1 c = search rules
 
 returns : tie.Need-returns-then-leaves-k-ne0 invariant-loop decreases-loop
 returns c =
-    let loop = c.before.before in
-    let start = loop.before in
-    λ blank z. some_leaf start.args.t1 blank z loop.loop-k.k (omega arith) c.if-leaves-k-ne0.true
+    λ blank z. some_leaf c.args.t1 blank z c.loop-k.k (omega arith) c.if-leaves-k-ne0.true
 
 add_k : tie.Need-overflow_step-k invariant-loop decreases-loop
 add_k c = search rules
@@ -38,15 +36,11 @@ loop_less c = omega arith
 
 loop_again : tie.Need-loop-k-preserved invariant-loop decreases-loop
 loop_again c =
-    let loop = c.before.before in
-    let start = loop.before in
-    (omega arith, one_more start.args.t1 loop.loop-k.k loop.loop-k.invariant.1 c.if-leaves-k-ne0.false)
+    (omega arith, one_more c.args.t1 c.loop-k.k c.loop-k.invariant.1 c.if-leaves-k-ne0.false)
 
 returns_2 : tie.Need-returns invariant-loop decreases-loop
 returns_2 c =
-    let loop = c.before in
-    let start = loop.before in
-    λ blank z. no_leaf start.args.t1 blank loop.loop-k.k (omega arith) loop.loop-k.invariant.1
+    λ blank z. no_leaf c.args.t1 blank c.loop-k.k (omega arith) c.loop-k.invariant.1
 
 pub all_zero_spec : {M : Type 1} → statement M
 all_zero_spec =

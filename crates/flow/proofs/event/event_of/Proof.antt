@@ -24,11 +24,10 @@ returns_2 c =
 
 returns_3 : tie.Need-returns
 returns_3 c =
-    let known = c.before in
-    let start_at = known.before in
+    let start_at = c.before.before in
     let if1 = start_at in
     let start = if1.before.before.before.before in
-    says_event start.args.role start.args.path start.args.action start.args.leaves (not_from_true _ if1.if-not-leaves.false) known.known.result (known.known.ensures start.args.leaves.blank start.requires) start.requires
+    says_event start.args.role start.args.path start.args.action start.args.leaves (not_from_true _ if1.if-not-leaves.false) c.known.result (c.known.ensures start.args.leaves.blank start.requires) start.requires
     (not_from_true _ c.if-not-known.false)
 
 pub event_of_spec : {M : Type 1} → statement M

@@ -11,16 +11,12 @@ returns c = λ blank z. known_value c.before.args.action (leaves_by c.before.arg
 
 returns_2 : tie.Need-returns-then-action-lt-CONTINUE
 returns_2 c =
-    let if1 = c.before in
-    let start = if1.before in
-    λ blank z. unknown start.args.action (leaves_by start.args.leaves blank) start.ranges.action.fits if1.if-action-eq-GIVE.false (λ e. omega arith) (λ e. omega arith)
+    λ blank z. unknown c.args.action (leaves_by c.args.leaves blank) c.ranges.action.fits c.if-action-eq-GIVE.false (λ e. omega arith) (λ e. omega arith)
     (λ e. omega arith)
 
 returns_3 : tie.Need-returns-then-action-gt-RIGHT
 returns_3 c =
-    let if1 = c.before.before in
-    let start = if1.before in
-    λ blank z. unknown start.args.action (leaves_by start.args.leaves blank) start.ranges.action.fits if1.if-action-eq-GIVE.false (λ e. omega arith) (λ e. omega arith)
+    λ blank z. unknown c.args.action (leaves_by c.args.leaves blank) c.ranges.action.fits c.if-action-eq-GIVE.false (λ e. omega arith) (λ e. omega arith)
     (λ e. omega arith)
 
 all_zero_requires : tie.Need-all_zero-requires
@@ -28,9 +24,7 @@ all_zero_requires c κs = search rules
 
 returns_4 : tie.Need-returns
 returns_4 c =
-    let if1 = c.before.before.before in
-    let start = if1.before in
-    λ blank z. known_other start.args.action (leaves_by start.args.leaves blank) start.ranges.action.fits if1.if-action-eq-GIVE.false (omega arith) (omega arith)
+    λ blank z. known_other c.args.action (leaves_by c.args.leaves blank) c.ranges.action.fits c.if-action-eq-GIVE.false (omega arith) (omega arith)
     c.all_zero.result (c.all_zero.ensures blank z)
 
 pub known_spec : {M : Type 1} → statement M

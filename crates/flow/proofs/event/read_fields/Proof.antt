@@ -8,61 +8,31 @@ use Rattle.flow.proofs.event.read_fields.Tie as tie
 
 returns : tie.Need-returns-then-role-eq0
 returns c =
-    let if1 = c.before in
-    let role = if1.before in
-    let start = role.before.before in
-    says_unread c.unread.result (fields_say start.args.s.now) c.unread.ensures (no_role start.args.s.now role.read_role-role.result role.read_role-role.ensures if1.if-role-eq0.true)
+    says_unread c.unread.result (fields_say c.args.s.now) c.unread.ensures (no_role c.args.s.now c.read_role-role.result c.read_role-role.ensures c.if-role-eq0.true)
 
 returns_2 : tie.Need-returns-in_default
 returns_2 c =
-    let told = c.before in
-    let read = told.before.before in
-    let if1 = read.before in
-    let role = if1.before in
-    let start = role.before.before in
-    says_unread c.unread-in_default.result (fields_say start.args.s.now) c.unread-in_default.ensures
-    (no_path start.args.s.now role.read_role-role.result role.read_role-role.ensures if1.if-role-eq0.false (sym told.in_default.is ∙ read.read.ensures))
+    says_unread c.unread-in_default.result (fields_say c.args.s.now) c.unread-in_default.ensures
+    (no_path c.args.s.now c.read_role-role.result c.read_role-role.ensures c.if-role-eq0.false (sym c.in_default.is ∙ c.read.ensures))
 
 event_of_requires : tie.Need-event_of-requires
 event_of_requires c κs = zero_blanks c.read_leaves-leaves.result _ c.read_leaves-leaves.ensures
 
 returns_3 : tie.Need-returns-in-Number
 returns_3 c =
-    let leaves = c.before in
-    let number = leaves.before.before in
-    let action = number.before.before in
-    let path = action.before.before in
-    let read = path.before.before in
-    let if1 = read.before in
-    let role = if1.before in
-    let start = role.before.before in
     subst (Says c.event_of.result)
-    (sym (fields_are start.args.s.now role.read_role-role.result role.read_role-role.ensures if1.if-role-eq0.false path.in-Marks.path (sym path.in-Marks.is ∙ read.read.ensures) number.in-Number.action (sym number.in-Number.is ∙ action.read-reading.ensures) leaves.read_leaves-leaves.result leaves.read_leaves-leaves.ensures))
+    (sym (fields_are c.args.s.now c.read_role-role.result c.read_role-role.ensures c.if-role-eq0.false c.in-Marks.path (sym c.in-Marks.is ∙ c.read.ensures) c.in-Number.action (sym c.in-Number.is ∙ c.read-reading.ensures) c.read_leaves-leaves.result c.read_leaves-leaves.ensures))
     c.event_of.ensures
 
 returns_4 : tie.Need-returns-in-Blank
 returns_4 c =
-    let told = c.before in
-    let action = told.before.before in
-    let path = action.before.before in
-    let read = path.before.before in
-    let if1 = read.before in
-    let role = if1.before in
-    let start = role.before.before in
-    says_unread c.unread-in-Blank.result (fields_say start.args.s.now) c.unread-in-Blank.ensures
-    (blank_action start.args.s.now role.read_role-role.result role.read_role-role.ensures if1.if-role-eq0.false path.in-Marks.path (sym path.in-Marks.is ∙ read.read.ensures) (sym told.in-Blank.is ∙ action.read-reading.ensures))
+    says_unread c.unread-in-Blank.result (fields_say c.args.s.now) c.unread-in-Blank.ensures
+    (blank_action c.args.s.now c.read_role-role.result c.read_role-role.ensures c.if-role-eq0.false c.in-Marks.path (sym c.in-Marks.is ∙ c.read.ensures) (sym c.in-Blank.is ∙ c.read-reading.ensures))
 
 returns_5 : tie.Need-returns-in-Unreadable
 returns_5 c =
-    let told = c.before in
-    let action = told.before.before in
-    let path = action.before.before in
-    let read = path.before.before in
-    let if1 = read.before in
-    let role = if1.before in
-    let start = role.before.before in
-    says_unread c.unread-in-Unreadable.result (fields_say start.args.s.now) c.unread-in-Unreadable.ensures
-    (no_action start.args.s.now role.read_role-role.result role.read_role-role.ensures if1.if-role-eq0.false path.in-Marks.path (sym path.in-Marks.is ∙ read.read.ensures) (sym told.in-Unreadable.is ∙ action.read-reading.ensures))
+    says_unread c.unread-in-Unreadable.result (fields_say c.args.s.now) c.unread-in-Unreadable.ensures
+    (no_action c.args.s.now c.read_role-role.result c.read_role-role.ensures c.if-role-eq0.false c.in-Marks.path (sym c.in-Marks.is ∙ c.read.ensures) (sym c.in-Unreadable.is ∙ c.read-reading.ensures))
 
 pub read_fields_spec : {M : Type 1} → statement M
 read_fields_spec = tie.close (tie.spec

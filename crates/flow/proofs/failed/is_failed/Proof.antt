@@ -18,23 +18,17 @@ long c =
 
 returns : tie.Need-returns-then-not-alike
 returns c =
-    let alike = c.before in
-    let written = alike.before.before.before.before in
-    failed_differ written.write_failed.ensures alike.alike.ensures (not_from_false _ c.if-not-alike.true)
+    failed_differ c.write_failed.ensures c.alike.ensures (not_from_false _ c.if-not-alike.true)
 
 returns_2 : tie.Need-returns
 returns_2 c =
-    let cleared = c.before.before.before in
-    let if1 = cleared.before.before in
-    let alike = if1.before in
-    let written = alike.before.before.before.before in
-    let start = written.before.before in
-    failed_tried written.write_failed.ensures alike.alike.ensures (not_from_true _ if1.if-not-alike.false) (long alike.before) start.requires.1.0 cleared.clear_row.ensures c.evaluate.ensures
+    let alike = c.before.before.before.before.before.before in
+    failed_tried c.write_failed.ensures alike.alike.ensures (not_from_true _ c.if-not-alike.false) (long alike.before) c.requires.1.0 c.clear_row.ensures c.evaluate.ensures
 
 pub is_failed_spec : {M : Type 1} → statement M
 is_failed_spec = tie.close (tie.spec
     (λ c κs. let p = c.before.requires in (p.0, p.1.1))
-    (λ c. let s = c.before.before.before.before.before in let l = s.requires.0.0 in let h = s.requires.0.1.low in record { fits = omega arith })
+    (λ c. let l = c.requires.0.0 in let h = c.requires.0.1.low in record { fits = omega arith })
     (λ c κs.
     let written = c.before.before.before in
     let s = written.before.before in
@@ -47,5 +41,5 @@ is_failed_spec = tie.close (tie.spec
     (λ c. search rules)
     (λ c κs. search rules)
     (λ c. search rules)
-    (λ c κs. let s = c.before.before.before.before.before.before.before.before.before.before.before in s.requires.0.1)
+    (λ c κs. c.requires.0.1)
     returns_2)

@@ -11,6 +11,4 @@ write_failed_spec = tie.close (tie.spec
     (λ c. search rules)
     (λ c κs. search rules)
     (λ c.
-    let cells = c.before.before in
-    let start = cells.before.before in
-    writes_failed start.requires.1 cells.first_cells.ensures c.put_tag.ensures))
+    writes_failed c.requires.1 c.first_cells.ensures c.put_tag.ensures))

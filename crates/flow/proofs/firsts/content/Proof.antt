@@ -13,17 +13,9 @@ content_spec = tie.close (tie.spec
     (λ c κs. search rules)
     (λ c κs. search rules)
     (λ c.
-    let if1 = c.before in
-    let cell_shape = if1.before in
-    let get = cell_shape.before in
-    let start = get.before in
-    let a = start.args in
-    content_truth a.rows.now a.row cell_shape.cell_shape.ensures get.get-w.ensures if1.if-cell_shape-eq-TRUTH.true _ refl c.truth.ensures)
+    let a = c.args in
+    content_truth a.rows.now a.row c.cell_shape.ensures c.get-w.ensures c.if-cell_shape-eq-TRUTH.true _ refl c.truth.ensures)
     (λ c κs. search rules)
     (λ c.
-    let if1 = c.before in
-    let cell_shape = if1.before in
-    let get = cell_shape.before in
-    let start = get.before in
-    let a = start.args in
-    content_number a.rows.now a.row cell_shape.cell_shape.ensures get.get-w.ensures if1.if-cell_shape-eq-TRUTH.false c.number.ensures))
+    let a = c.args in
+    content_number a.rows.now a.row c.cell_shape.ensures c.get-w.ensures c.if-cell_shape-eq-TRUTH.false c.number.ensures))

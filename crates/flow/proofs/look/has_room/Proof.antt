@@ -13,9 +13,8 @@ returns c =
 
 returns_2 : tie.Need-returns
 returns_2 c =
-    let counted = c.before in
-    let a = counted.before.before.before.before.args in
-    room_counted a.role a.own.now a.words.now a.n counted.entries.ensures.1 a.room
+    let a = c.args in
+    room_counted a.role a.own.now a.words.now a.n c.entries.ensures.1 a.room
 
 pub has_room_spec : {M : Type 1} → statement M
 has_room_spec = tie.close (tie.spec (λ c. omega (arith, c.requires.1.low)) returns (λ c. search rules) (λ c. search rules) (λ c κs. (c.before.before.before.requires.1, at_start)) returns_2)

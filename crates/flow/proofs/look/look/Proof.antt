@@ -6,19 +6,17 @@ use Rattle.flow.proofs.look.look.Tie as tie
 
 slice_aggregate_result : tie.Need-slice_bounds-result-end
 slice_aggregate_result c =
-    let fill = c.before.before.before.before in
-    let start_at = fill.before.before.before.before in
+    let start_at = c.before.before.before.before.before.before.before.before in
     let start = start_at in
-    let f = fill.fill-seen in
+    let f = c.fill-seen in
     part_long start.args.rows.now start.args.state.now start.args.role start.args.value.now start.args.list.now f.result f.new.1.1.1.0
     f.new.1.1.1.1.0 f.ensures
 
 returns : tie.Need-returns
 returns c =
-    let fill = c.before.before.before.before in
-    let start_at = fill.before.before.before.before in
+    let start_at = c.before.before.before.before.before.before.before.before in
     let start = start_at in
-    let f = fill.fill-seen in
+    let f = c.fill-seen in
     look_is start.args.rows.now start.args.state.now start.args.role start.args.value.now start.args.list.now f.result f.new.1.1.1.0
     f.new.1.1.1.1.0 f.ensures
 

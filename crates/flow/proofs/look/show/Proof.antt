@@ -9,24 +9,15 @@ use Rattle.flow.proofs.look.show.Tie as tie
 
 returns : tie.Need-returns-then-not-has_room
 returns c =
-    let asked = c.before in
-    let a = asked.before.before.args in
-    show_24 a.role a.own.now a.words.now a.n a.value-found.now a.list-1.now asked.has_room.result asked.has_room.ensures (not-true _ (not_from_false _ c.if-not-has_room.true))
+    let a = c.args in
+    show_24 a.role a.own.now a.words.now a.n a.value-found.now a.list-1.now c.has_room.result c.has_room.ensures (not-true _ (not_from_false _ c.if-not-has_room.true))
 
 returns_2 : tie.Need-returns
 returns_2 c =
-    let out = c.before in
-    let has = out.before.before in
-    let failed = has.before in
-    let fails = failed.before in
-    let found = fails.before in
-    let listed = found.before.before.before in
-    let if1 = listed.before.before.before in
-    let asked = if1.before in
-    let a = asked.before.before.args in
-    let v = found.value-found in
-    show_0 a.role a.own.now a.words.now a.n a.value-found.now a.list-1.now asked.has_room.result asked.has_room.ensures (not-false _ (not_from_true _ if1.if-not-has_room.false)) listed.entries-bytes.ensures.1
-    v.result v.ensures out.value_out.ensures.1 fails.fails.ensures failed.flag-failed.ensures has.flag-has_value.ensures out.value_out.ensures.0
+    let a = c.args in
+    let v = c.value-found in
+    show_0 a.role a.own.now a.words.now a.n a.value-found.now a.list-1.now c.has_room.result c.has_room.ensures (not-false _ (not_from_true _ c.if-not-has_room.false)) c.entries-bytes.ensures.1
+    v.result v.ensures c.value_out.ensures.1 c.fails.ensures c.flag-failed.ensures c.flag-has_value.ensures c.value_out.ensures.0
 
 pub show_spec : {M : Type 1} → statement M
 show_spec = tie.close (tie.spec (λ c κs. search rules) returns (λ c. search rules) (λ c κs. (c.before.before.before.before.before.requires.1, at_start)) (λ c. search rules) (λ c κs. search rules) (λ c. search rules)

@@ -9,6 +9,4 @@ show_failed_spec = tie.close (tie.spec
     (λ c κs. search rules)
     (λ c. search rules)
     (λ c.
-    let out = c.before in
-    let start = out.before.before in
-    show_failed start.args.value.now out.value_out.new.lent out.value_out.ensures.0))
+    show_failed c.args.value.now c.value_out.new.lent c.value_out.ensures.0))

@@ -20,12 +20,9 @@ use Rattle.flow.proofs.open.not_failed.Reads as not-failed-reads
 
 returns : tie.Need-returns-then-n-eq0
 returns c =
-    let if1 = c.before in
-    let rows = if1.before in
-    let start = rows.before.before in
-    let q = rows.accepted_rows-n in
-    subst (OpenOk start.args.rows.now start.args.state.now start.args.fits q.new.1.0 start.args.words.now) (sym c.not_failed.ensures)
-    (open_20 start.args.rows.now start.args.state.now q.new.1.0 start.args.words.now start.args.fits q.result q.ensures.0 if1.if-n-eq0.true)
+    let q = c.accepted_rows-n in
+    subst (OpenOk c.args.rows.now c.args.state.now c.args.fits q.new.1.0 c.args.words.now) (sym c.not_failed.ensures)
+    (open_20 c.args.rows.now c.args.state.now q.new.1.0 c.args.words.now c.args.fits q.result q.ensures.0 c.if-n-eq0.true)
 
 mul_if2 : tie.Need-overflow_mul-n
 mul_if2 c =
@@ -39,43 +36,33 @@ mul_if2 c =
 
 returns_2 : tie.Need-returns-then-state-n
 returns_2 c =
-    let if2 = c.before in
-    let if1 = if2.before in
-    let rows = if1.before in
-    let start = rows.before.before in
-    let q = rows.accepted_rows-n in
-    let z = (site_of start.args.rows.now q.result q.ensures.0 q.ensures.1.0 q.ensures.1.1.0 if1.if-n-eq0.false).3 in
-    let wr = some_words start.args.rows.now q.result q.ensures.0 q.ensures.1.1.0 if1.if-n-eq0.false in
-    subst (OpenOk start.args.rows.now start.args.state.now start.args.fits q.new.1.0 start.args.words.now) (sym c.not_failed-then-state-n.ensures)
-    (open_length start.args.rows.now start.args.state.now q.new.1.0 start.args.words.now start.args.fits q.result z wr if2.if-state-n.true)
+    let q = c.accepted_rows-n in
+    let z = (site_of c.args.rows.now q.result q.ensures.0 q.ensures.1.0 q.ensures.1.1.0 c.if-n-eq0.false).3 in
+    let wr = some_words c.args.rows.now q.result q.ensures.0 q.ensures.1.1.0 c.if-n-eq0.false in
+    subst (OpenOk c.args.rows.now c.args.state.now c.args.fits q.new.1.0 c.args.words.now) (sym c.not_failed-then-state-n.ensures)
+    (open_length c.args.rows.now c.args.state.now q.new.1.0 c.args.words.now c.args.fits q.result z wr c.if-state-n.true)
 
 returns_3 : tie.Need-returns-then-not-fits
 returns_3 c =
-    let if3 = c.before in
-    let if1 = if3.before.before in
-    let rows = if1.before in
-    let start = rows.before.before in
-    let q = rows.accepted_rows-n in
-    let z = (site_of start.args.rows.now q.result q.ensures.0 q.ensures.1.0 q.ensures.1.1.0 if1.if-n-eq0.false).3 in
-    let wr = some_words start.args.rows.now q.result q.ensures.0 q.ensures.1.1.0 if1.if-n-eq0.false in
-    subst (OpenOk start.args.rows.now start.args.state.now start.args.fits q.new.1.0 start.args.words.now) (sym c.not_failed-then-not-fits.ensures)
-    (open_misfit start.args.rows.now start.args.state.now q.new.1.0 start.args.words.now start.args.fits q.result z wr (not_from_false _ if3.if-not-fits.true))
+    let q = c.accepted_rows-n in
+    let z = (site_of c.args.rows.now q.result q.ensures.0 q.ensures.1.0 q.ensures.1.1.0 c.if-n-eq0.false).3 in
+    let wr = some_words c.args.rows.now q.result q.ensures.0 q.ensures.1.1.0 c.if-n-eq0.false in
+    subst (OpenOk c.args.rows.now c.args.state.now c.args.fits q.new.1.0 c.args.words.now) (sym c.not_failed-then-not-fits.ensures)
+    (open_misfit c.args.rows.now c.args.state.now q.new.1.0 c.args.words.now c.args.fits q.result z wr (not_from_false _ c.if-not-fits.true))
 
 state_in_requires : tie.Need-state_in-requires
 state_in_requires c κs =
-    let if2 = c.before.before in
-    let start_at = if2.before in
+    let start_at = c.before.before.before in
     let if1 = start_at in
     let rows = if1.before in
     let start = rows.before.before in
     let q = rows.accepted_rows-n in
     let z = (site_of start.args.rows.now q.result q.ensures.0 q.ensures.1.0 q.ensures.1.1.0 if1.if-n-eq0.false).3 in
-    ((if2.if-state-n.false, few_rows z), start.requires.1)
+    ((c.if-state-n.false, few_rows z), start.requires.1)
 
 held_requires : tie.Need-held-requires
 held_requires c κs =
-    let state_in = c.before.before.before in
-    let start_at = state_in.before.before in
+    let start_at = c.before.before.before.before.before in
     let if3 = start_at in
     let if2 = if3.before in
     let if1 = if2.before in
@@ -84,140 +71,91 @@ held_requires c κs =
     let q = rows.accepted_rows-n in
     let z = (site_of start.args.rows.now q.result q.ensures.0 q.ensures.1.0 q.ensures.1.1.0 if1.if-n-eq0.false).3 in
     let wr = some_words start.args.rows.now q.result q.ensures.0 q.ensures.1.1.0 if1.if-n-eq0.false in
-    let w = state_in.state_in in
+    let w = c.state_in in
     ((some_rows z, is_fine z), (ends start.args.rows.now start.args.state.now q.new.1.0 w.new.1.1.0 start.args.fits q.result z wr (not_from_true _ if3.if-not-fits.false) if2.if-state-n.false w.ensures.1 w.ensures.0, refl))
 
 is_failed_requires : tie.Need-is_failed-requires
 is_failed_requires c κs =
-    let if4 = c.before.before.before in
-    let held = if4.before in
-    let copied = held.before.before.before.before in
-    let if3 = copied.before.before in
-    let if2 = if3.before in
-    let if1 = if2.before in
-    let rows = if1.before in
-    let start = rows.before.before in
-    let q = rows.accepted_rows-n in
-    let z = (site_of start.args.rows.now q.result q.ensures.0 q.ensures.1.0 q.ensures.1.1.0 if1.if-n-eq0.false).3 in
-    let wr = some_words start.args.rows.now q.result q.ensures.0 q.ensures.1.1.0 if1.if-n-eq0.false in
-    let w = copied.state_in in (
+    let q = c.accepted_rows-n in
+    let z = (site_of c.args.rows.now q.result q.ensures.0 q.ensures.1.0 q.ensures.1.1.0 c.if-n-eq0.false).3 in
+    let wr = some_words c.args.rows.now q.result q.ensures.0 q.ensures.1.1.0 c.if-n-eq0.false in
+    let w = c.state_in in (
       (some_rows z, is_fine z),
       (
-        ends start.args.rows.now start.args.state.now q.new.1.0 w.new.1.1.0 start.args.fits q.result z wr
-            (not_from_true _ if3.if-not-fits.false) if2.if-state-n.false w.ensures.1 w.ensures.0,
-        held.held.ensures.1 (not-true held.held.result (not_from_false _ if4.if-not-held.true)),
+        ends c.args.rows.now c.args.state.now q.new.1.0 w.new.1.1.0 c.args.fits q.result z wr
+            (not_from_true _ c.if-not-fits.false) c.if-state-n.false w.ensures.1 w.ensures.0,
+        c.held.ensures.1 (not-true c.held.result (not_from_false _ c.if-not-held.true)),
       ),
     )
 
 returns_4 : tie.Need-returns-then-is_failed
 returns_4 c =
-    let failed = c.before in
-    let if4 = failed.before.before.before.before in
-    let held = if4.before in
-    let copied = held.before.before.before.before in
-    let if3 = copied.before.before in
-    let if2 = if3.before in
-    let if1 = if2.before in
-    let rows = if1.before in
-    let start = rows.before.before in
-    let q = rows.accepted_rows-n in
-    let z = (site_of start.args.rows.now q.result q.ensures.0 q.ensures.1.0 q.ensures.1.1.0 if1.if-n-eq0.false).3 in
-    let wr = some_words start.args.rows.now q.result q.ensures.0 q.ensures.1.1.0 if1.if-n-eq0.false in
-    let w = copied.state_in in
-    let h = held.held in
-    let k = failed.is_failed in
-    open_failed start.args.rows.now start.args.state.now q.new.1.0 w.new.1.1.0 start.args.fits q.result z wr
-    (not_from_true _ if3.if-not-fits.false) if2.if-state-n.false w.ensures.1 w.ensures.0 h.result h.new.1.1.1.0 h.ensures.0 (not_from_false _ if4.if-not-held.true)
+    let q = c.accepted_rows-n in
+    let z = (site_of c.args.rows.now q.result q.ensures.0 q.ensures.1.0 q.ensures.1.1.0 c.if-n-eq0.false).3 in
+    let wr = some_words c.args.rows.now q.result q.ensures.0 q.ensures.1.1.0 c.if-n-eq0.false in
+    let w = c.state_in in
+    let h = c.held in
+    let k = c.is_failed in
+    open_failed c.args.rows.now c.args.state.now q.new.1.0 w.new.1.1.0 c.args.fits q.result z wr
+    (not_from_true _ c.if-not-fits.false) c.if-state-n.false w.ensures.1 w.ensures.0 h.result h.new.1.1.1.0 h.ensures.0 (not_from_false _ c.if-not-held.true)
     k.result k.ensures c.if-is_failed.true
 
 returns_5 : tie.Need-returns-then-not-held
 returns_5 c =
-    let if5 = c.before in
-    let failed = if5.before in
-    let if4 = failed.before.before.before.before in
-    let held = if4.before in
-    let copied = held.before.before.before.before in
-    let if3 = copied.before.before in
-    let if2 = if3.before in
-    let if1 = if2.before in
-    let rows = if1.before in
-    let start = rows.before.before in
-    let q = rows.accepted_rows-n in
-    let z = (site_of start.args.rows.now q.result q.ensures.0 q.ensures.1.0 q.ensures.1.1.0 if1.if-n-eq0.false).3 in
-    let wr = some_words start.args.rows.now q.result q.ensures.0 q.ensures.1.1.0 if1.if-n-eq0.false in
-    let w = copied.state_in in
-    let h = held.held in
-    let k = failed.is_failed in
-    subst (OpenOk start.args.rows.now start.args.state.now start.args.fits q.new.1.0 w.new.1.1.0) (sym c.not_failed-then-not-held.ensures)
-    (open_22 start.args.rows.now start.args.state.now q.new.1.0 w.new.1.1.0 start.args.fits q.result z wr
-    (not_from_true _ if3.if-not-fits.false) if2.if-state-n.false w.ensures.1 w.ensures.0 h.result h.new.1.1.1.0 h.ensures.0 (not_from_false _ if4.if-not-held.true)
-    k.result k.ensures if5.if-is_failed.false)
+    let q = c.accepted_rows-n in
+    let z = (site_of c.args.rows.now q.result q.ensures.0 q.ensures.1.0 q.ensures.1.1.0 c.if-n-eq0.false).3 in
+    let wr = some_words c.args.rows.now q.result q.ensures.0 q.ensures.1.1.0 c.if-n-eq0.false in
+    let w = c.state_in in
+    let h = c.held in
+    let k = c.is_failed in
+    subst (OpenOk c.args.rows.now c.args.state.now c.args.fits q.new.1.0 w.new.1.1.0) (sym c.not_failed-then-not-held.ensures)
+    (open_22 c.args.rows.now c.args.state.now q.new.1.0 w.new.1.1.0 c.args.fits q.result z wr
+    (not_from_true _ c.if-not-fits.false) c.if-state-n.false w.ensures.1 w.ensures.0 h.result h.new.1.1.1.0 h.ensures.0 (not_from_false _ c.if-not-held.true)
+    k.result k.ensures c.if-is_failed.false)
 
 sub_stride : tie.Need-overflow_sub-n
 sub_stride c =
-    let if1 = c.before.before.before.before.before.before.before.before.before.before.before in
-    let start_at = if1.before in
+    let start_at = c.before.before.before.before.before.before.before.before.before.before.before.before in
     let rows = start_at in
     let start = rows.before.before in
     let q = rows.accepted_rows-n in
-    let z = (site_of start.args.rows.now q.result q.ensures.0 q.ensures.1.0 q.ensures.1.1.0 if1.if-n-eq0.false).3 in
+    let z = (site_of start.args.rows.now q.result q.ensures.0 q.ensures.1.0 q.ensures.1.1.0 c.if-n-eq0.false).3 in
     some_rows z
 
 stride_requires : tie.Need-stride-requires
 stride_requires c κs =
-    let if1 = c.before.before.before.before.before.before.before.before.before.before.before.before in
-    let start_at = if1.before in
+    let start_at = c.before.before.before.before.before.before.before.before.before.before.before.before.before in
     let rows = start_at in
     let start = rows.before.before in
     let q = rows.accepted_rows-n in
-    let z = (site_of start.args.rows.now q.result q.ensures.0 q.ensures.1.0 q.ensures.1.1.0 if1.if-n-eq0.false).3 in
+    let z = (site_of start.args.rows.now q.result q.ensures.0 q.ensures.1.0 q.ensures.1.1.0 c.if-n-eq0.false).3 in
     is_fine z
 
 returns_6 : tie.Need-returns-then-stride
 returns_6 c =
-    let if6 = c.before in
-    let stride = if6.before in
-    let if4 = stride.before.before.before.before in
-    let held = if4.before in
-    let copied = held.before.before.before.before in
-    let if3 = copied.before.before in
-    let if2 = if3.before in
-    let if1 = if2.before in
-    let rows = if1.before in
-    let start = rows.before.before in
-    let q = rows.accepted_rows-n in
-    let z = (site_of start.args.rows.now q.result q.ensures.0 q.ensures.1.0 q.ensures.1.1.0 if1.if-n-eq0.false).3 in
-    let wr = some_words start.args.rows.now q.result q.ensures.0 q.ensures.1.1.0 if1.if-n-eq0.false in
-    let w = copied.state_in in
-    let h = held.held in
-    let m = stride.stride in
-    subst (OpenOk start.args.rows.now start.args.state.now start.args.fits q.new.1.0 w.new.1.1.0) (sym c.not_failed-then-stride.ensures)
-    (open_23 start.args.rows.now start.args.state.now q.new.1.0 w.new.1.1.0 start.args.fits q.result z wr
-    (not_from_true _ if3.if-not-fits.false) if2.if-state-n.false w.ensures.1 w.ensures.0 h.result h.new.1.1.1.0 h.ensures.0 (not_from_true _ if4.if-not-held.false) m.result
-    m.new.1.0 _ m.ensures if6.if-stride.true)
+    let q = c.accepted_rows-n in
+    let z = (site_of c.args.rows.now q.result q.ensures.0 q.ensures.1.0 q.ensures.1.1.0 c.if-n-eq0.false).3 in
+    let wr = some_words c.args.rows.now q.result q.ensures.0 q.ensures.1.1.0 c.if-n-eq0.false in
+    let w = c.state_in in
+    let h = c.held in
+    let m = c.stride in
+    subst (OpenOk c.args.rows.now c.args.state.now c.args.fits q.new.1.0 w.new.1.1.0) (sym c.not_failed-then-stride.ensures)
+    (open_23 c.args.rows.now c.args.state.now q.new.1.0 w.new.1.1.0 c.args.fits q.result z wr
+    (not_from_true _ c.if-not-fits.false) c.if-state-n.false w.ensures.1 w.ensures.0 h.result h.new.1.1.1.0 h.ensures.0 (not_from_true _ c.if-not-held.false) m.result
+    m.new.1.0 _ m.ensures c.if-stride.true)
 
 returns_7 : tie.Need-returns
 returns_7 c =
-    let if6 = c.before in
-    let stride = if6.before in
-    let if4 = stride.before.before.before.before in
-    let held = if4.before in
-    let copied = held.before.before.before.before in
-    let if3 = copied.before.before in
-    let if2 = if3.before in
-    let if1 = if2.before in
-    let rows = if1.before in
-    let start = rows.before.before in
-    let q = rows.accepted_rows-n in
-    let z = (site_of start.args.rows.now q.result q.ensures.0 q.ensures.1.0 q.ensures.1.1.0 if1.if-n-eq0.false).3 in
-    let wr = some_words start.args.rows.now q.result q.ensures.0 q.ensures.1.1.0 if1.if-n-eq0.false in
-    let w = copied.state_in in
-    let h = held.held in
-    let m = stride.stride in
-    subst (OpenOk start.args.rows.now start.args.state.now start.args.fits q.new.1.0 w.new.1.1.0) (sym c.not_failed-2.ensures)
-    (open_0 start.args.rows.now start.args.state.now q.new.1.0 w.new.1.1.0 start.args.fits q.result z wr
-    (not_from_true _ if3.if-not-fits.false) if2.if-state-n.false w.ensures.1 w.ensures.0 h.result h.new.1.1.1.0 h.ensures.0 (not_from_true _ if4.if-not-held.false) m.result
-    m.new.1.0 _ m.ensures if6.if-stride.false)
+    let q = c.accepted_rows-n in
+    let z = (site_of c.args.rows.now q.result q.ensures.0 q.ensures.1.0 q.ensures.1.1.0 c.if-n-eq0.false).3 in
+    let wr = some_words c.args.rows.now q.result q.ensures.0 q.ensures.1.1.0 c.if-n-eq0.false in
+    let w = c.state_in in
+    let h = c.held in
+    let m = c.stride in
+    subst (OpenOk c.args.rows.now c.args.state.now c.args.fits q.new.1.0 w.new.1.1.0) (sym c.not_failed-2.ensures)
+    (open_0 c.args.rows.now c.args.state.now q.new.1.0 w.new.1.1.0 c.args.fits q.result z wr
+    (not_from_true _ c.if-not-fits.false) c.if-state-n.false w.ensures.1 w.ensures.0 h.result h.new.1.1.1.0 h.ensures.0 (not_from_true _ c.if-not-held.false) m.result
+    m.new.1.0 _ m.ensures c.if-stride.false)
 
 pub open_spec : {M : Type 1} → statement M
 open_spec = tie.close (tie.spec (λ c κs. c.before.requires.0) (λ c κs. search rules) returns mul_if2 (λ c κs. search rules) returns_2 (λ c κs. search rules) returns_3 state_in_requires held_requires

@@ -16,16 +16,12 @@ evaluate_requires' : tie.Need-evaluate-requires
 evaluate_requires' = λ c κs. search rules
 
 write_failed_requires' : tie.Need-write_failed-requires
-write_failed_requires' c κs = let s = c.before.before.before.before.before.before.before.before in (s.requires.0, refl)
+write_failed_requires' c κs = (c.requires.0, refl)
 
 returns' : tie.Need-returns-then-evaluate
 returns' c =
-    let if1 = c.before.before.before in
-    let v = if1.before in
-    let f = v.before.before.before in
-    let s = f.before.before in
-    begins_failed s.args.rows.now s.args.n s.args.words.now f.first_cells.new.work v.evaluate.new.state c.write_failed.new.words _ v.evaluate.result
-    s.requires.1 f.first_cells.ensures v.evaluate.ensures if1.if-evaluate.true c.write_failed.ensures
+    begins_failed c.args.rows.now c.args.n c.args.words.now c.first_cells.new.work c.evaluate.new.state c.write_failed.new.words _ c.evaluate.result
+    c.requires.1 c.first_cells.ensures c.evaluate.ensures c.if-evaluate.true c.write_failed.ensures
 
 sub_normalise' : tie.Need-overflow_sub-n-2
 sub_normalise' = λ c. search rules
@@ -35,13 +31,9 @@ normalise_requires' = λ c κs. search rules
 
 returns_2' : tie.Need-returns
 returns_2' c =
-    let if1 = c.before.before.before in
-    let v = if1.before in
-    let f = v.before.before.before in
-    let s = f.before.before in
     let m = c.normalise in
-    begins s.args.rows.now s.args.n s.args.words.now f.first_cells.new.work v.evaluate.new.state m.new.1.0 _ v.evaluate.result m.result
-    s.requires.1 f.first_cells.ensures v.evaluate.ensures if1.if-evaluate.false m.ensures
+    begins c.args.rows.now c.args.n c.args.words.now c.first_cells.new.work c.evaluate.new.state m.new.1.0 _ c.evaluate.result m.result
+    c.requires.1 c.first_cells.ensures c.evaluate.ensures c.if-evaluate.false m.ensures
 
 pub begin_spec : {M : Type 1} → statement M
 begin_spec = tie.close (tie.spec first_cells_requires' sub_evaluate' evaluate_requires' write_failed_requires' returns' sub_normalise' normalise_requires' returns_2')

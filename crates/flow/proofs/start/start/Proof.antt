@@ -20,10 +20,8 @@ returns c =
 
 mul_if2 : tie.Need-overflow_mul-n
 mul_if2 c =
-    let rows = c.before in
-    let start = rows.before.before in
-    let n = rows.accepted_rows-n in
-    let z = (site_of start.args.rows.now n.result n.ensures.0 n.ensures.1.0 n.ensures.1.1.0 c.if-n-eq0.false).3 in
+    let n = c.accepted_rows-n in
+    let z = (site_of c.args.rows.now n.result n.ensures.0 n.ensures.1.0 n.ensures.1.1.0 c.if-n-eq0.false).3 in
     let f = few_rows z in
     record { fits = omega (arith, f) }
 
@@ -40,29 +38,26 @@ returns_2 c =
 
 begin_requires : tie.Need-begin-strides-requires
 begin_requires c κs =
-    let if1 = c.before.before.before in
-    let start_at = if1.before in
+    let start_at = c.before.before.before.before in
     let rows = start_at in
     let start = rows.before.before in
     let n = rows.accepted_rows-n in
-    let z = (site_of start.args.rows.now n.result n.ensures.0 n.ensures.1.0 n.ensures.1.1.0 if1.if-n-eq0.false).3 in
+    let z = (site_of start.args.rows.now n.result n.ensures.0 n.ensures.1.0 n.ensures.1.1.0 c.if-n-eq0.false).3 in
     ((some_rows z, is_fine z), refl)
 
 state_out_requires : tie.Need-state_out-requires
 state_out_requires c κs =
-    let if2 = c.before.before.before.before.before in
-    let start_at = if2.before in
+    let start_at = c.before.before.before.before.before.before in
     let if1 = start_at in
     let rows = if1.before in
     let start = rows.before.before in
     let n = rows.accepted_rows-n in
     let z = (site_of start.args.rows.now n.result n.ensures.0 n.ensures.1.0 n.ensures.1.1.0 if1.if-n-eq0.false).3 in
-    (if2.if-state-n.false, few_rows z)
+    (c.if-state-n.false, few_rows z)
 
 returns_3 : tie.Need-returns
 returns_3 c =
-    let state_out = c.before in
-    let start_at = state_out.before.before in
+    let start_at = c.before.before.before in
     let words = start_at in
     let begun = words.before in
     let if2 = begun.before.before.before in
@@ -71,8 +66,8 @@ returns_3 c =
     let start = rows.before.before in
     let n = rows.accepted_rows-n in
     let z = (site_of start.args.rows.now n.result n.ensures.0 n.ensures.1.0 n.ensures.1.1.0 if1.if-n-eq0.false).3 in
-    start_0 start.args.state.now state_out.state_out.new.lent begun.begin-strides.new.words begun.begin-strides.result z if2.if-state-n.false
-    begun.begin-strides.ensures state_out.state_out.ensures.1 state_out.state_out.ensures.0
+    start_0 start.args.state.now c.state_out.new.lent begun.begin-strides.new.words begun.begin-strides.result z if2.if-state-n.false
+    begun.begin-strides.ensures c.state_out.ensures.1 c.state_out.ensures.0
 
 pub start_spec : {M : Type 1} → statement M
 start_spec = tie.close (tie.spec (λ c κs. search rules) (λ c κs. search rules) returns mul_if2 (λ c κs. search rules) returns_2 begin_requires state_out_requires (λ c. search rules) returns_3)

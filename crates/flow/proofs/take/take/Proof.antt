@@ -36,91 +36,53 @@ returns_2 c =
 
 returns_3 : tie.Need-returns-then-opening
 returns_3 c =
-    let if3 = c.before in
-    let if2 = if3.before in
-    let if1 = if2.before.before in
-    let opening = if1.before.before in
-    let start = opening.before.before.before.before in
-    let o = opening.«open» in
-    take_failed start.args.rows.now start.args.state.now o.new.1.1.1.0 o.new.1.1.1.1.0 o.result start.args.e o.ensures if1.if-opening-ne0.false (not_from_true _ if2.if-not-e.false) if3.if-opening.true
+    let o = c.«open» in
+    take_failed c.args.rows.now c.args.state.now o.new.1.1.1.0 o.new.1.1.1.1.0 o.result c.args.e o.ensures c.if-opening-ne0.false (not_from_true _ c.if-not-e.false) c.if-opening.true
     c.take_failed.result c.take_failed.ensures
 
 sub_last : tie.Need-overflow_sub-last
 sub_last c =
-    let if3 = c.before in
-    let if1 = if3.before.before.before in
-    let opening = if1.before.before in
-    let start = opening.before.before.before.before in
-    let o = opening.«open» in
-    (opened_fine start.args.rows.now start.args.state.now o.new.1.1.1.0 o.new.1.1.1.1.0 o.result
-    (opened start.args.rows.now start.args.state.now true) o.ensures if1.if-opening-ne0.false if3.if-opening.false).0
+    let o = c.«open» in
+    (opened_fine c.args.rows.now c.args.state.now o.new.1.1.1.0 o.new.1.1.1.1.0 o.result
+    (opened c.args.rows.now c.args.state.now true) o.ensures c.if-opening-ne0.false c.if-opening.false).0
 
 handle_requires : tie.Need-handle-number-requires
 handle_requires c κs =
-    let if3 = c.before.before.before.before in
-    let if2 = if3.before in
-    let if1 = if2.before.before in
-    let opening = if1.before.before in
-    let start = opening.before.before.before.before in
-    let o = opening.«open» in (
-      (opened_fine start.args.rows.now start.args.state.now o.new.1.1.1.0 o.new.1.1.1.1.0 o.result (opened start.args.rows.now start.args.state.now true) o.ensures if1.if-opening-ne0.false if3.if-opening.false).2,
-      start.requires (not-false start.args.e.readable (not_from_true _ if2.if-not-e.false)),
+    let o = c.«open» in (
+      (opened_fine c.args.rows.now c.args.state.now o.new.1.1.1.0 o.new.1.1.1.1.0 o.result (opened c.args.rows.now c.args.state.now true) o.ensures c.if-opening-ne0.false c.if-opening.false).2,
+      c.requires (not-false c.args.e.readable (not_from_true _ c.if-not-e.false)),
     )
 
 returns_4 : tie.Need-returns-then-number-ne0
 returns_4 c =
-    let if4 = c.before in
-    let handled = if4.before in
-    let if3 = handled.before.before.before.before.before in
-    let if2 = if3.before in
-    let if1 = if2.before.before in
-    let opening = if1.before.before in
-    let start = opening.before.before.before.before in
-    let o = opening.«open» in
-    let h = handled.handle-number in
-    take_no start.args.rows.now start.args.state.now o.new.1.1.1.0 o.new.1.1.1.1.0 o.result start.args.e if1.if-opening-ne0.false if3.if-opening.false (not_from_true _ if2.if-not-e.false)
-    h.new.1.0 _ h.result h.ensures o.ensures if4.if-number-ne0.true c.refused-then-number-ne0.result c.refused-then-number-ne0.ensures
+    let o = c.«open» in
+    let h = c.handle-number in
+    take_no c.args.rows.now c.args.state.now o.new.1.1.1.0 o.new.1.1.1.1.0 o.result c.args.e c.if-opening-ne0.false c.if-opening.false (not_from_true _ c.if-not-e.false)
+    h.new.1.0 _ h.result h.ensures o.ensures c.if-number-ne0.true c.refused-then-number-ne0.result c.refused-then-number-ne0.ensures
 
 normalise_requires : tie.Need-normalise-strides-requires
 normalise_requires c κs =
-    let if3 = c.before.before.before.before.before.before.before.before.before in
-    let if1 = if3.before.before.before in
-    let opening = if1.before.before in
-    let start = opening.before.before.before.before in
-    let o = opening.«open» in
-    (opened_fine start.args.rows.now start.args.state.now o.new.1.1.1.0 o.new.1.1.1.1.0 o.result
-    (opened start.args.rows.now start.args.state.now true) o.ensures if1.if-opening-ne0.false if3.if-opening.false).2
+    let o = c.«open» in
+    (opened_fine c.args.rows.now c.args.state.now o.new.1.1.1.0 o.new.1.1.1.1.0 o.result
+    (opened c.args.rows.now c.args.state.now true) o.ensures c.if-opening-ne0.false c.if-opening.false).2
 
 state_out_requires : tie.Need-state_out-requires
 state_out_requires c κs =
-    let if3 = c.before.before.before.before.before.before.before.before.before.before.before.before in
-    let if1 = if3.before.before.before in
-    let opening = if1.before.before in
-    let start = opening.before.before.before.before in
-    let o = opening.«open» in
+    let o = c.«open» in
     let own = o.new.1.1.1.0 in
     let words = o.new.1.1.1.1.0 in
-    let x = opened start.args.rows.now start.args.state.now true in
-    (opened_room start.args.rows.now start.args.state.now own words o.result x o.ensures if1.if-opening-ne0.false if3.if-opening.false, (opened_fine start.args.rows.now start.args.state.now own words o.result x o.ensures if1.if-opening-ne0.false if3.if-opening.false).1)
+    let x = opened c.args.rows.now c.args.state.now true in
+    (opened_room c.args.rows.now c.args.state.now own words o.result x o.ensures c.if-opening-ne0.false c.if-opening.false, (opened_fine c.args.rows.now c.args.state.now own words o.result x o.ensures c.if-opening-ne0.false c.if-opening.false).1)
 
 returns_5 : tie.Need-returns
 returns_5 c =
-    let state_out = c.before in
-    let normal = state_out.before.before.before in
-    let if4 = normal.before.before.before.before in
-    let handled = if4.before in
-    let if3 = handled.before.before.before.before.before in
-    let if2 = if3.before in
-    let if1 = if2.before.before in
-    let opening = if1.before.before in
-    let start = opening.before.before.before.before in
-    let o = opening.«open» in
-    let h = handled.handle-number in
-    let m = normal.normalise-strides in
-    let w = state_out.state_out in
-    take_0 start.args.rows.now start.args.state.now o.new.1.1.1.0 o.new.1.1.1.1.0 o.result start.args.e if1.if-opening-ne0.false if3.if-opening.false (not_from_true _ if2.if-not-e.false)
+    let o = c.«open» in
+    let h = c.handle-number in
+    let m = c.normalise-strides in
+    let w = c.state_out in
+    take_0 c.args.rows.now c.args.state.now o.new.1.1.1.0 o.new.1.1.1.1.0 o.result c.args.e c.if-opening-ne0.false c.if-opening.false (not_from_true _ c.if-not-e.false)
     h.new.1.0 _ h.result h.ensures m.new.1.0 _ m.result w.new.1.1.0 m.ensures w.ensures.1 w.ensures.0
-    o.ensures if4.if-number-ne0.false
+    o.ensures c.if-number-ne0.false
 
 pub take_spec : {M : Type 1} → statement M
 take_spec = tie.close (tie.spec (λ c κs. search rules)

@@ -7,18 +7,15 @@ use Rattle.flow.proofs.touch.handle.Tie as tie
 
 take_requires : tie.Need-take-requires
 take_requires c κs =
-    let read = c.before in
-    let start = read.before.before in
-    says_known read.read_event-e.result (event_of start.args.event.now) read.read_event-e.ensures
+    says_known c.read_event-e.result (event_of c.args.event.now) c.read_event-e.ensures
 
 returns : tie.Need-returns
 returns c =
-    let take = c.before in
-    let start_at = take.before.before in
+    let start_at = c.before.before.before in
     let read = start_at in
     let start = read.before.before in
-    take_handles start.args.rows.now start.args.state.now start.args.event.now read.read_event-e.result take.take.result
-    take.take.new.state read.read_event-e.ensures take.take.ensures
+    take_handles start.args.rows.now start.args.state.now start.args.event.now read.read_event-e.result c.take.result
+    c.take.new.state read.read_event-e.ensures c.take.ensures
 
 pub handle_spec : {M : Type 1} → statement M
 handle_spec = tie.close (tie.spec (λ c κs. search rules) take_requires (λ c. search rules) returns)

@@ -23,20 +23,11 @@ listed_spec = tie.close (tie.spec
     (λ c. (omega arith, every_none (row_listed c.args.rows.now)))
     (λ c κs. search rules)
     (λ c.
-    let row_listed_point = c.before in
-    let test = row_listed_point.before in
-    let loop = test.before in
-    let start = loop.before in
-    every_broken (row_listed start.args.rows.now) start.args.n loop.loop-i.i row_listed_point.row_listed.result test.loop-i-test.true
-    row_listed_point.row_listed.ensures (not_from_false _ c.if-not-row_listed.true))
+    every_broken (row_listed c.args.rows.now) c.args.n c.loop-i.i c.row_listed.result c.loop-i-test.true
+    c.row_listed.ensures (not_from_false _ c.if-not-row_listed.true))
     (λ c. search rules)
     (λ c. search rules)
     (λ c.
-    let row_listed_point = c.before in
-    let loop = row_listed_point.before.before in
-    let start = loop.before in
-    (omega arith, every_more (row_listed start.args.rows.now) loop.loop-i.i row_listed_point.row_listed.result loop.loop-i.invariant.1 row_listed_point.row_listed.ensures (not_from_true _ c.if-not-row_listed.false)))
+    (omega arith, every_more (row_listed c.args.rows.now) c.loop-i.i c.row_listed.result c.loop-i.invariant.1 c.row_listed.ensures (not_from_true _ c.if-not-row_listed.false)))
     (λ c.
-    let loop = c.before in
-    let start = loop.before in
-    every_all (row_listed start.args.rows.now) start.args.n loop.loop-i.i loop.loop-i.invariant.1 (omega arith)))
+    every_all (row_listed c.args.rows.now) c.args.n c.loop-i.i c.loop-i.invariant.1 (omega arith)))

@@ -26,9 +26,7 @@ listed_as_spec = tie.close (tie.spec
     (λ c. search rules)
     (λ c. sym (ap (λ q. listed_as (ask_by q) c.before.before.args.w) c.in-Unused.is))
     (λ c.
-    let enum_told2 = c.before in
-    let start = enum_told2.before.before in
-    c.is_operator.ensures ∙ sym (ap (λ q. listed_as (ask_by q) start.args.w) enum_told2.in-Operator.is))
+    c.is_operator.ensures ∙ sym (ap (λ q. listed_as (ask_by q) c.args.w) c.in-Operator.is))
     (λ c. sym (ap (λ q. listed_as (ask_by q) c.before.before.args.w) c.in-Truth.is))
     (λ c. sym (ap (λ q. listed_as (ask_by q) c.before.before.args.w) c.in-AnyWord.is))
     (λ c. sym (ap (λ q. listed_as (ask_by q) c.before.before.args.w) c.in-AType.is))
@@ -39,7 +37,5 @@ listed_as_spec = tie.close (tie.spec
     (λ c. sym (ap (λ q. listed_as (ask_by q) c.before.before.args.w) c.in-ABranch.is))
     (λ c. sym (ap (λ q. listed_as (ask_by q) c.before.before.args.w) c.in-LikeB.is))
     (λ c.
-    let enum_told12 = c.before in
-    let start = enum_told12.before.before in
-    c.is_role.ensures ∙ sym (ap (λ q. listed_as (ask_by q) start.args.w) enum_told12.in-ARole.is))
+    c.is_role.ensures ∙ sym (ap (λ q. listed_as (ask_by q) c.args.w) c.in-ARole.is))
     (λ c. sym (ap (λ q. listed_as (ask_by q) c.before.before.args.w) c.in-SomeTouches.is)))

@@ -23,25 +23,13 @@ all_named_spec = tie.close (tie.spec
     (λ c. (omega arith, every_none (named_once c.args.rows.now c.args.n)))
     (λ c. search rules)
     (λ c κs.
-    let test = c.before in
-    let loop = test.before in
-    let start = loop.before in
-    (test.loop-i-test.true, start.requires.0, start.requires.1 loop.loop-i.i (omega arith)))
+    (c.loop-i-test.true, c.requires.0, c.requires.1 c.loop-i.i (omega arith)))
     (λ c.
-    let named_once_point = c.before in
-    let test = named_once_point.before.before in
-    let loop = test.before in
-    let start = loop.before in
-    every_broken (named_once start.args.rows.now start.args.n) start.args.n loop.loop-i.i named_once_point.named_once.result
-    test.loop-i-test.true named_once_point.named_once.ensures (not_from_false _ c.if-not-named_once.true))
+    every_broken (named_once c.args.rows.now c.args.n) c.args.n c.loop-i.i c.named_once.result
+    c.loop-i-test.true c.named_once.ensures (not_from_false _ c.if-not-named_once.true))
     (λ c. search rules)
     (λ c. search rules)
     (λ c.
-    let named_once_point = c.before in
-    let loop = named_once_point.before.before.before in
-    let start = loop.before in
-    (omega arith, every_more (named_once start.args.rows.now start.args.n) loop.loop-i.i named_once_point.named_once.result loop.loop-i.invariant.1 named_once_point.named_once.ensures (not_from_true _ c.if-not-named_once.false)))
+    (omega arith, every_more (named_once c.args.rows.now c.args.n) c.loop-i.i c.named_once.result c.loop-i.invariant.1 c.named_once.ensures (not_from_true _ c.if-not-named_once.false)))
     (λ c.
-    let loop = c.before in
-    let start = loop.before in
-    every_all (named_once start.args.rows.now start.args.n) start.args.n loop.loop-i.i loop.loop-i.invariant.1 (omega arith)))
+    every_all (named_once c.args.rows.now c.args.n) c.args.n c.loop-i.i c.loop-i.invariant.1 (omega arith)))

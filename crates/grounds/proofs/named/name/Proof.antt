@@ -12,18 +12,13 @@ use Rattle.grounds.proofs.named.name.Tie as tie
 pub name_spec : {M : Type 1} → statement M
 name_spec = tie.close (tie.spec
     (λ c κs. search rules)
-    (λ c. let s = c.before.before in name_not s.args.table.now (names (ask_by s.args.q)) s.args.w (subst (λ b. not b ≡ true) c.before.names_row.ensures (not_from_false _ c.if-not-names_row.true)))
-    (λ c. let s = c.before.before.before in name_past s.args.table.now (names (ask_by s.args.q)) s.args.w c.if-at-ge-MAX_ROWS.true)
+    (λ c. name_not c.args.table.now (names (ask_by c.args.q)) c.args.w (subst (λ b. not b ≡ true) c.names_row.ensures (not_from_false _ c.if-not-names_row.true)))
+    (λ c. name_past c.args.table.now (names (ask_by c.args.q)) c.args.w c.if-at-ge-MAX_ROWS.true)
     (λ c. search rules)
     (λ c.
-    let start = c.before.before.before.before.before in
-    name_full start.args.table.now (names (ask_by start.args.q)) start.args.w c.if-x-ge-MAX_NAMINGS.true)
+    name_full c.args.table.now (names (ask_by c.args.q)) c.args.w c.if-x-ge-MAX_NAMINGS.true)
     (λ c. search rules)
     (λ c. search rules)
     (λ c.
-    let if2 = c.before.before in
-    let if1 = if2.before in
-    let names_row = if1.before in
-    let start = names_row.before in
-    name_one start.args.table.now (names (ask_by start.args.q)) start.args.w
-    (subst (λ b. not b ≡ false) names_row.names_row.ensures (not_from_true _ if1.if-not-names_row.false)) if2.if-at-ge-MAX_ROWS.false c.if-x-ge-MAX_NAMINGS.false))
+    name_one c.args.table.now (names (ask_by c.args.q)) c.args.w
+    (subst (λ b. not b ≡ false) c.names_row.ensures (not_from_true _ c.if-not-names_row.false)) c.if-at-ge-MAX_ROWS.false c.if-x-ge-MAX_NAMINGS.false))

@@ -8,14 +8,10 @@ pub name_operands_spec : {M : Type 1} → statement M
 name_operands_spec = tie.close (tie.spec
     (λ c. search rules)
     (λ c. search rules)
-    (λ c. let s = c.before.before in name_unknown s.args.table.now s.args.a s.args.b s.args.c s.args.s c.in_default.is)
+    (λ c. name_unknown c.args.table.now c.args.a c.args.b c.args.c c.args.s c.in_default.is)
     (λ c κs. search rules)
     (λ c κs. search rules)
     (λ c κs. search rules)
     (λ c.
-    let name2 = c.before.before in
-    let name = name2.before.before in
-    let s = name.before.before.before in
-    let start = s.before.before in
-    name_known start.args.table.now start.args.a start.args.b start.args.c start.args.s name.name.new.table
-    name2.name-2.new.table c.name-3.new.table s.in-Known.is name.name.ensures name2.name-2.ensures c.name-3.ensures))
+    name_known c.args.table.now c.args.a c.args.b c.args.c c.args.s c.name.new.table
+    c.name-2.new.table c.name-3.new.table c.in-Known.is c.name.ensures c.name-2.ensures c.name-3.ensures))

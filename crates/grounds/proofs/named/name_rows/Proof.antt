@@ -24,10 +24,6 @@ name_rows_spec = tie.close (tie.spec
     (λ c. search rules)
     (λ c. search rules)
     (λ c.
-    let loop = c.before.before.before in
-    let start = loop.before in
-    (omega arith, name_rows_more start.args.rows.now start.args.table.now loop.loop-j.table c.name_row.new.table loop.loop-j.j loop.loop-j.invariant.1 c.name_row.ensures))
+    (omega arith, name_rows_more c.args.rows.now c.args.table.now c.loop-j.table c.name_row.new.table c.loop-j.j c.loop-j.invariant.1 c.name_row.ensures))
     (λ c.
-    let loop = c.before in
-    let start = loop.before in
-    subst (λ k. More start.args.table.now loop.loop-j.table (λ i. namings start.args.rows.now i k)) (omega arith) loop.loop-j.invariant.1))
+    subst (λ k. More c.args.table.now c.loop-j.table (λ i. namings c.args.rows.now i k)) (omega arith) c.loop-j.invariant.1))

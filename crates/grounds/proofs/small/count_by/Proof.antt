@@ -16,17 +16,11 @@ count_by_spec = tie.close (tie.spec
     (λ c. search rules)
     (λ c κs. omega (arith, ap most_of c.in-Marks.is))
     (λ c.
-    let enum_told = c.before in
-    let start = enum_told.before.before in
     c.leaves_by.ensures ∙ sym
-    (ap (λ w. count_by w (asks_by start.args.s) start.args.a start.args.b start.args.c) enum_told.in-Leaves.is))
+    (ap (λ w. count_by w (asks_by c.args.s) c.args.a c.args.b c.args.c) c.in-Leaves.is))
     (λ c.
-    let enum_told2 = c.before in
-    let start = enum_told2.before.before in
     c.binders_by.ensures ∙ sym
-    (ap (λ w. count_by w (asks_by start.args.s) start.args.a start.args.b start.args.c) enum_told2.in-Binders.is))
+    (ap (λ w. count_by w (asks_by c.args.s) c.args.a c.args.b c.args.c) c.in-Binders.is))
     (λ c.
-    let enum_told3 = c.before in
-    let start = enum_told3.before.before in
     c.marks_by.ensures ∙ sym
-    (ap (λ w. count_by w (asks_by start.args.s) start.args.a start.args.b start.args.c) enum_told3.in-Marks.is)))
+    (ap (λ w. count_by w (asks_by c.args.s) c.args.a c.args.b c.args.c) c.in-Marks.is)))

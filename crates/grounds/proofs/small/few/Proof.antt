@@ -23,26 +23,15 @@ few_spec = tie.close (tie.spec
     invariant-loop
     decreases-loop
     (λ c κs. search rules)
-    (λ c. let s = c.before in (omega arith, refl, counts_none s.args.w s.args.rows.now (replicate max_rows 0), every_none (few_at s.args.w s.args.rows.now)))
+    (λ c. (omega arith, refl, counts_none c.args.w c.args.rows.now (replicate max_rows 0), every_none (few_at c.args.w c.args.rows.now)))
     (λ c κs. (omega arith, c.before.before.loop-i.invariant.2))
     (λ c.
-    let row_count = c.before in
-    let test = row_count.before.before in
-    let loop = test.before in
-    let most_of_point = loop.before in
-    let start = most_of_point.before in
-    every_not (few_at start.args.w start.args.rows.now) start.args.n loop.loop-i.i test.loop-i-test.true
-    (few_not start.args.w start.args.rows.now loop.loop-i.i row_count.row_count-x.result row_count.row_count-x.ensures.0 (omega (arith, most_of_point.most_of-most.ensures))))
+    every_not (few_at c.args.w c.args.rows.now) c.args.n c.loop-i.i c.loop-i-test.true
+    (few_not c.args.w c.args.rows.now c.loop-i.i c.row_count-x.result c.row_count-x.ensures.0 (omega (arith, c.most_of-most.ensures))))
     (λ c. omega arith)
     (λ c. omega arith)
     (λ c. omega arith)
     (λ c.
-    let row_count = c.before in
-    let loop = row_count.before.before.before in
-    let most_of_point = loop.before in
-    let start = most_of_point.before in
-    (omega arith, length-set loop.loop-i.table loop.loop-i.i row_count.row_count-x.result ∙ loop.loop-i.invariant.1, count_written start.args.w start.args.rows.now loop.loop-i.table loop.loop-i.i loop.loop-i.invariant.2 row_count.row_count-x.result (omega arith) row_count.row_count-x.ensures.0, every_so (few_at start.args.w start.args.rows.now) loop.loop-i.i loop.loop-i.invariant.3 (few_so start.args.w start.args.rows.now loop.loop-i.i row_count.row_count-x.result row_count.row_count-x.ensures.0 (omega (arith, most_of_point.most_of-most.ensures)))))
+    (omega arith, length-set c.loop-i.table c.loop-i.i c.row_count-x.result ∙ c.loop-i.invariant.1, count_written c.args.w c.args.rows.now c.loop-i.table c.loop-i.i c.loop-i.invariant.2 c.row_count-x.result (omega arith) c.row_count-x.ensures.0, every_so (few_at c.args.w c.args.rows.now) c.loop-i.i c.loop-i.invariant.3 (few_so c.args.w c.args.rows.now c.loop-i.i c.row_count-x.result c.row_count-x.ensures.0 (omega (arith, c.most_of-most.ensures)))))
     (λ c.
-    let loop = c.before in
-    let start = loop.before.before in
-    every_all (few_at start.args.w start.args.rows.now) start.args.n loop.loop-i.i loop.loop-i.invariant.3 (omega arith)))
+    every_all (few_at c.args.w c.args.rows.now) c.args.n c.loop-i.i c.loop-i.invariant.3 (omega arith)))

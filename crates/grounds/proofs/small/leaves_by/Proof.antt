@@ -12,7 +12,7 @@ unfolding leaves_by sort_number
 leaves_by_spec = tie.close (tie.spec
     (λ c. search rules)
     (λ c. search rules)
-    (λ c. let s = c.before.before in of_unknown (λ z. leaves_by z s.args.a s.args.b s.args.c) c.in_default.is)
+    (λ c. of_unknown (λ z. leaves_by z c.args.a c.args.b c.args.c) c.in_default.is)
     (λ c. search rules)
     (λ c κs. search rules)
     (λ c. search rules)
@@ -22,30 +22,16 @@ leaves_by_spec = tie.close (tie.spec
     (λ c. search rules)
     (λ c. search rules)
     (λ c.
-    let enum_told2 = c.before in
-    let s = enum_told2.before.before.before in
-    let start = s.before.before in
-    c.type_leaves.ensures ∙ of_known (λ z. leaves_by z start.args.a start.args.b start.args.c) s.in-Known.is
-    enum_told2.in-OwnType.is)
+    c.type_leaves.ensures ∙ of_known (λ z. leaves_by z c.args.a c.args.b c.args.c) c.in-Known.is
+    c.in-OwnType.is)
     (λ c.
-    let enum_told3 = c.before in
-    let s = enum_told3.before.before.before in
-    let start = s.before.before in
-    c.type_leaves-in-OwnBasic.ensures ∙ of_known (λ z. leaves_by z start.args.a start.args.b start.args.c) s.in-Known.is
-    enum_told3.in-OwnBasic.is)
+    c.type_leaves-in-OwnBasic.ensures ∙ of_known (λ z. leaves_by z c.args.a c.args.b c.args.c) c.in-Known.is
+    c.in-OwnBasic.is)
     (λ c.
-    let s = c.before.before.before in
-    let start = s.before.before in
-    of_known (λ z. leaves_by z start.args.a start.args.b start.args.c) s.in-Known.is c.in-OwnCell.is)
+    of_known (λ z. leaves_by z c.args.a c.args.b c.args.c) c.in-Known.is c.in-OwnCell.is)
     (λ c.
-    let s = c.before.before.before in
-    let start = s.before.before in
-    of_known (λ z. leaves_by z start.args.a start.args.b start.args.c) s.in-Known.is c.in-OwnPlain.is)
+    of_known (λ z. leaves_by z c.args.a c.args.b c.args.c) c.in-Known.is c.in-OwnPlain.is)
     (λ c.
-    let s = c.before.before.before in
-    let start = s.before.before in
-    of_known (λ z. leaves_by z start.args.a start.args.b start.args.c) s.in-Known.is c.in-OwnTask.is)
+    of_known (λ z. leaves_by z c.args.a c.args.b c.args.c) c.in-Known.is c.in-OwnTask.is)
     (λ c.
-    let s = c.before.before.before in
-    let start = s.before.before in
-    of_known (λ z. leaves_by z start.args.a start.args.b start.args.c) s.in-Known.is c.in-AsB.is))
+    of_known (λ z. leaves_by z c.args.a c.args.b c.args.c) c.in-Known.is c.in-AsB.is))

@@ -12,23 +12,14 @@ use Rattle.grounds.proofs.small.small.Tie as tie
 pub small_spec : {M : Type 1} → statement M
 small_spec = tie.close (tie.spec
     (λ c κs. search rules)
-    (λ c. let s = c.before.before in not_first (every s.args.n (few_at Leaves s.args.rows.now)) (every s.args.n (few_at Binders s.args.rows.now)) (every s.args.n (few_at Marks s.args.rows.now)) (all_small s.args.rows.now s.args.n) c.before.few.ensures (not_from_false _ c.if-not-few.true))
+    (λ c. not_first (every c.args.n (few_at Leaves c.args.rows.now)) (every c.args.n (few_at Binders c.args.rows.now)) (every c.args.n (few_at Marks c.args.rows.now)) (all_small c.args.rows.now c.args.n) c.few.ensures (not_from_false _ c.if-not-few.true))
     (λ c κs. search rules)
     (λ c.
-    let few2 = c.before in
-    let if1 = few2.before in
-    let few = if1.before in
-    let start = few.before in
-    not_second (every start.args.n (few_at Leaves start.args.rows.now)) (every start.args.n (few_at Binders start.args.rows.now))
-    (every start.args.n (few_at Marks start.args.rows.now)) (all_small start.args.rows.now start.args.n) few.few.ensures
-    (not_from_true _ if1.if-not-few.false) few2.few-2.ensures (not_from_false _ c.if-not-few-2.true))
+    not_second (every c.args.n (few_at Leaves c.args.rows.now)) (every c.args.n (few_at Binders c.args.rows.now))
+    (every c.args.n (few_at Marks c.args.rows.now)) (all_small c.args.rows.now c.args.n) c.few.ensures
+    (not_from_true _ c.if-not-few.false) c.few-2.ensures (not_from_false _ c.if-not-few-2.true))
     (λ c κs. search rules)
     (λ c.
-    let if2 = c.before in
-    let few2 = if2.before in
-    let if1 = few2.before in
-    let few = if1.before in
-    let start = few.before in
-    third (every start.args.n (few_at Leaves start.args.rows.now)) (every start.args.n (few_at Binders start.args.rows.now))
-    (every start.args.n (few_at Marks start.args.rows.now)) (all_small start.args.rows.now start.args.n) few.few.ensures
-    (not_from_true _ if1.if-not-few.false) few2.few-2.ensures (not_from_true _ if2.if-not-few-2.false) c.few-3.ensures))
+    third (every c.args.n (few_at Leaves c.args.rows.now)) (every c.args.n (few_at Binders c.args.rows.now))
+    (every c.args.n (few_at Marks c.args.rows.now)) (all_small c.args.rows.now c.args.n) c.few.ensures
+    (not_from_true _ c.if-not-few.false) c.few-2.ensures (not_from_true _ c.if-not-few-2.false) c.few-3.ensures))

@@ -10,5 +10,5 @@ pub type_leaves_spec : {M : Type 1} → statement M
 type_leaves_spec = tie.close (tie.spec
     (λ c κs. search rules)
     (λ c. search rules)
-    (λ c. let s = c.before.before in ap (λ b. cond b (s.args.a + s.args.b) 1) (sym c.if-names_row.true ∙ c.before.names_row.ensures))
-    (λ c. let s = c.before.before in ap (λ b. cond b (s.args.a + s.args.b) 1) (sym c.if-names_row.false ∙ c.before.names_row.ensures)))
+    (λ c. ap (λ b. cond b (c.args.a + c.args.b) 1) (sym c.if-names_row.true ∙ c.names_row.ensures))
+    (λ c. ap (λ b. cond b (c.args.a + c.args.b) 1) (sym c.if-names_row.false ∙ c.names_row.ensures)))

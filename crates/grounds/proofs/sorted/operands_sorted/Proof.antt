@@ -15,26 +15,15 @@ operands_sorted_spec = tie.close (tie.spec
     (λ c. λ u v w d e f. unsorted u v w c.in_default.is)
     (λ c κs. search rules)
     (λ c.
-    let sorted_as_point = c.before in
-    let s = sorted_as_point.before.before in
-    λ u v w d e f. not_first (sorted_as (ask_by s.in-Known.p) u v) (sorted_as (ask_by s.in-Known.q) v v)
-    (sorted_as (ask_by s.in-Known.t) w v) (sorted_is u v w s.in-Known.is) (sorted_as_point.sorted_as.ensures u v d e) (not_from_false _ c.if-not-sorted_as.true))
+    λ u v w d e f. not_first (sorted_as (ask_by c.in-Known.p) u v) (sorted_as (ask_by c.in-Known.q) v v)
+    (sorted_as (ask_by c.in-Known.t) w v) (sorted_is u v w c.in-Known.is) (c.sorted_as.ensures u v d e) (not_from_false _ c.if-not-sorted_as.true))
     (λ c κs. search rules)
     (λ c.
-    let sorted_as2 = c.before in
-    let if1 = sorted_as2.before in
-    let sorted_as_point = if1.before in
-    let s = sorted_as_point.before.before in
-    λ u v w d e f. not_second (sorted_as (ask_by s.in-Known.p) u v) (sorted_as (ask_by s.in-Known.q) v v)
-    (sorted_as (ask_by s.in-Known.t) w v) (sorted_is u v w s.in-Known.is) (sorted_as_point.sorted_as.ensures u v d e) (not_from_true _ if1.if-not-sorted_as.false)
-    (sorted_as2.sorted_as-2.ensures v v e e) (not_from_false _ c.if-not-sorted_as-2.true))
+    λ u v w d e f. not_second (sorted_as (ask_by c.in-Known.p) u v) (sorted_as (ask_by c.in-Known.q) v v)
+    (sorted_as (ask_by c.in-Known.t) w v) (sorted_is u v w c.in-Known.is) (c.sorted_as.ensures u v d e) (not_from_true _ c.if-not-sorted_as.false)
+    (c.sorted_as-2.ensures v v e e) (not_from_false _ c.if-not-sorted_as-2.true))
     (λ c κs. search rules)
     (λ c.
-    let if2 = c.before in
-    let sorted_as2 = if2.before in
-    let if1 = sorted_as2.before in
-    let sorted_as_point = if1.before in
-    let s = sorted_as_point.before.before in
-    λ u v w d e f. third (sorted_as (ask_by s.in-Known.p) u v) (sorted_as (ask_by s.in-Known.q) v v)
-    (sorted_as (ask_by s.in-Known.t) w v) (sorted_is u v w s.in-Known.is) (sorted_as_point.sorted_as.ensures u v d e) (not_from_true _ if1.if-not-sorted_as.false)
-    (sorted_as2.sorted_as-2.ensures v v e e) (not_from_true _ if2.if-not-sorted_as-2.false) (c.sorted_as-3.ensures w v f e)))
+    λ u v w d e f. third (sorted_as (ask_by c.in-Known.p) u v) (sorted_as (ask_by c.in-Known.q) v v)
+    (sorted_as (ask_by c.in-Known.t) w v) (sorted_is u v w c.in-Known.is) (c.sorted_as.ensures u v d e) (not_from_true _ c.if-not-sorted_as.false)
+    (c.sorted_as-2.ensures v v e e) (not_from_true _ c.if-not-sorted_as-2.false) (c.sorted_as-3.ensures w v f e)))

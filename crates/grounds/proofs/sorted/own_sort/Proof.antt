@@ -12,9 +12,5 @@ own_sort_spec = tie.close (tie.spec
     (λ c κs. search rules)
     (λ c κs. search rules)
     (λ c.
-    let asks_at = c.before in
-    let below = asks_at.before in
-    let get = below.before in
-    let start = get.before in
-    row_sort_is start.args.rows.now start.args.i asks_at.asks_at.result asks_at.asks_at.ensures
-    (c.sort_by.ensures (sort_below start.args.rows.now start.args.i (op_b start.args.rows.now start.args.i)) (sort_read start.args.rows.now start.args.table.now start.args.i start.requires.1 get.get.ensures below.below-b.ensures))))
+    row_sort_is c.args.rows.now c.args.i c.asks_at.result c.asks_at.ensures
+    (c.sort_by.ensures (sort_below c.args.rows.now c.args.i (op_b c.args.rows.now c.args.i)) (sort_read c.args.rows.now c.args.table.now c.args.i c.requires.1 c.get.ensures c.below-b.ensures))))

@@ -25,25 +25,14 @@ sorted_spec = tie.close (tie.spec
     (λ c. (omega arith, refl, sorts_none c.args.rows.now (replicate max_rows 0), every_none (row_sorted c.args.rows.now)))
     (λ c κs. (omega arith, c.before.before.loop-i.invariant.2))
     (λ c.
-    let row_sorted_point = c.before in
-    let test = row_sorted_point.before.before in
-    let loop = test.before in
-    let start = loop.before in
-    every_broken (row_sorted start.args.rows.now) start.args.n loop.loop-i.i row_sorted_point.row_sorted.result test.loop-i-test.true
-    row_sorted_point.row_sorted.ensures (not_from_false _ c.if-not-row_sorted.true))
+    every_broken (row_sorted c.args.rows.now) c.args.n c.loop-i.i c.row_sorted.result c.loop-i-test.true
+    c.row_sorted.ensures (not_from_false _ c.if-not-row_sorted.true))
     (λ c κs.
-    let loop = c.before.before.before.before.before in
-    (omega arith, loop.loop-i.invariant.2))
+    (omega arith, c.loop-i.invariant.2))
     (λ c. omega arith)
     (λ c. omega arith)
     (λ c. omega arith)
     (λ c.
-    let if1 = c.before.before in
-    let row_sorted_point = if1.before in
-    let loop = row_sorted_point.before.before.before in
-    let start = loop.before in
-    (omega arith, length-set loop.loop-i.table loop.loop-i.i c.own_sort-s.result ∙ loop.loop-i.invariant.1, sort_written start.args.rows.now loop.loop-i.table loop.loop-i.i loop.loop-i.invariant.2 c.own_sort-s.result (omega arith) c.own_sort-s.ensures, every_more (row_sorted start.args.rows.now) loop.loop-i.i row_sorted_point.row_sorted.result loop.loop-i.invariant.3 row_sorted_point.row_sorted.ensures (not_from_true _ if1.if-not-row_sorted.false)))
+    (omega arith, length-set c.loop-i.table c.loop-i.i c.own_sort-s.result ∙ c.loop-i.invariant.1, sort_written c.args.rows.now c.loop-i.table c.loop-i.i c.loop-i.invariant.2 c.own_sort-s.result (omega arith) c.own_sort-s.ensures, every_more (row_sorted c.args.rows.now) c.loop-i.i c.row_sorted.result c.loop-i.invariant.3 c.row_sorted.ensures (not_from_true _ c.if-not-row_sorted.false)))
     (λ c.
-    let loop = c.before in
-    let start = loop.before in
-    every_all (row_sorted start.args.rows.now) start.args.n loop.loop-i.i loop.loop-i.invariant.3 (omega arith)))
+    every_all (row_sorted c.args.rows.now) c.args.n c.loop-i.i c.loop-i.invariant.3 (omega arith)))

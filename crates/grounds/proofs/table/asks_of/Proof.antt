@@ -47,35 +47,19 @@ asks_of_spec = tie.close (tie.spec
     (λ c. at_key c.in-45.is)
     (λ c. at_key c.in-48.is)
     (λ c. at_key c.in-50.is)
-    (λ c. in_asks 1 3 (tt, (refl, (refl, tt))) c.before.if-k-lt1.false c.if-k-lt4.true c.before.before.in_default-1.rest)
+    (λ c. in_asks 1 3 (tt, (refl, (refl, tt))) c.before.if-k-lt1.false c.if-k-lt4.true c.before.before.in_default-1.in_default-own.rest)
     (λ c.
-    let if3 = c.before in
-    let match_at = if3.before.before.before in
-    in_asks 20 4 (tt, (tt, (refl, (refl, tt)))) if3.if-k-lt20.false c.if-k-lt24.true match_at.in_default-1.rest)
+    in_asks 20 4 (tt, (tt, (refl, (refl, tt)))) c.if-k-lt20.false c.if-k-lt24.true c.in_default-1.in_default-own.rest)
     (λ c.
-    let if4 = c.before in
-    let match_at = if4.before.before.before.before in
-    in_asks 24 5 (tt, (tt, (tt, (refl, (refl, tt))))) if4.if-k-lt24.false c.if-k-lt29.true match_at.in_default-1.rest)
+    in_asks 24 5 (tt, (tt, (tt, (refl, (refl, tt))))) c.if-k-lt24.false c.if-k-lt29.true c.in_default-1.in_default-own.rest)
     (λ c.
-    let if6 = c.before in
-    let match_at = if6.before.before.before.before.before.before in
-    in_asks 40 5 (tt, (tt, (tt, (refl, (refl, tt))))) if6.if-k-lt40.false c.if-k-lt45.true match_at.in_default-1.rest)
+    in_asks 40 5 (tt, (tt, (tt, (refl, (refl, tt))))) c.if-k-lt40.false c.if-k-lt45.true c.in_default-1.in_default-own.rest)
     (λ c.
-    let if7 = c.before in
-    let match_at = if7.before.before.before.before.before.before.before in
-    in_asks 45 3 (tt, (refl, (refl, tt))) if7.if-k-lt45.false c.if-k-lt48.true match_at.in_default-1.rest)
-    (λ c. gap 0 1 c.before.before.args.k refl (omega arith) c.if-k-lt1.true c.before.in_default-1.rest)
+    in_asks 45 3 (tt, (refl, (refl, tt))) c.if-k-lt45.false c.if-k-lt48.true c.in_default-1.in_default-own.rest)
+    (λ c. gap 0 1 c.before.before.args.k refl (omega arith) c.if-k-lt1.true c.before.in_default-1.in_default-own.rest)
     (λ c.
-    let if2 = c.before in
-    let match_at = if2.before.before in
-    let start = match_at.before in
-    gap 4 16 start.args.k refl if2.if-k-lt4.false c.if-k-lt20.true match_at.in_default-1.rest)
+    gap 4 16 c.args.k refl c.if-k-lt4.false c.if-k-lt20.true c.in_default-1.in_default-own.rest)
     (λ c.
-    let if5 = c.before in
-    let match_at = if5.before.before.before.before.before in
-    let start = match_at.before in
-    gap 29 11 start.args.k refl if5.if-k-lt29.false c.if-k-lt40.true match_at.in_default-1.rest)
+    gap 29 11 c.args.k refl c.if-k-lt29.false c.if-k-lt40.true c.in_default-1.in_default-own.rest)
     (λ c.
-    let match_at = c.before.before.before.before.before.before.before.before in
-    let start = match_at.before in
-    beyond start.args.k c.if-k-lt48.false match_at.in_default-1.rest))
+    beyond c.args.k c.if-k-lt48.false c.in_default-1.in_default-own.rest))

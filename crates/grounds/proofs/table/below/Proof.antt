@@ -16,5 +16,5 @@ not_below l i w h = sym (get_or-eq_default (take i l) 0 {n = w} (omega (arith, l
 pub below_spec : {M : Type 1} → statement M
 below_spec = tie.close (tie.spec
     (λ c. search rules)
-    (λ c. let s = c.before.before in sym (get_or-take s.args.i s.args.table.now s.args.w 0 c.before.if-at-i.true))
-    (λ c. let s = c.before in not_below s.args.table.now s.args.i s.args.w c.if-at-i.false))
+    (λ c. sym (get_or-take c.args.i c.args.table.now c.args.w 0 c.if-at-i.true))
+    (λ c. not_below c.args.table.now c.args.i c.args.w c.if-at-i.false))

@@ -178,7 +178,7 @@ failing_returns_6 t c =
     let start = handed_on.before in
     failing_both start.args.rows.now start.args.state.now start.args.row start.args.env.now start.args.depth
     (handed_on.handed_on-part.ensures.none if1.if-part-ne0.false) operand5.operand-in-46-to-47.result operand6.operand-then-failing.result failing3.failing-in-46-to-47.result
-    c.failing-then-failing.result (let p = past if4.if-kind-lt45.false match_at.in_default-1.rest.0.1 in omega (arith, get.get-kind.ensures))
+    c.failing-then-failing.result (let p = past if4.if-kind-lt45.false match_at.in_default-1.in_default-own.rest.0.1 in omega (arith, get.get-kind.ensures))
     (omega (arith, get.get-kind.ensures, if5.if-kind-lt48.true)) operand5.operand-in-46-to-47.ensures failing3.failing-in-46-to-47.ensures
     (inl (if6.if-failing.true, (operand6.operand-then-failing.ensures, c.failing-then-failing.ensures)))
 
@@ -195,7 +195,7 @@ failing_returns_7 t c =
     let start = handed_on.before in
     failing_both start.args.rows.now start.args.state.now start.args.row start.args.env.now start.args.depth
     (handed_on.handed_on-part.ensures.none if1.if-part-ne0.false) operand5.operand-in-46-to-47.result 0 failing3.failing-in-46-to-47.result failing3.failing-in-46-to-47.result
-    (let p = past if4.if-kind-lt45.false match_at.in_default-1.rest.0.1 in omega (arith, get.get-kind.ensures))
+    (let p = past if4.if-kind-lt45.false match_at.in_default-1.in_default-own.rest.0.1 in omega (arith, get.get-kind.ensures))
     (omega (arith, get.get-kind.ensures, if5.if-kind-lt48.true)) operand5.operand-in-46-to-47.ensures failing3.failing-in-46-to-47.ensures
     (inr (c.if-failing.false, c.if-failing.false))
 
@@ -217,4 +217,4 @@ failing_returns_9 t c =
     let start = handed_on.before in
     failing_editor start.args.rows.now start.args.state.now start.args.row start.args.env.now start.args.depth
     (handed_on.handed_on-part.ensures.none if1.if-part-ne0.false)
-    (λ p q. let h = past c.if-kind-lt48.false match_at.in_default-1.rest.1 in omega (arith, get.get-kind.ensures))
+    (λ p q. let h = past c.if-kind-lt48.false match_at.in_default-1.in_default-own.rest.1 in omega (arith, get.get-kind.ensures))

@@ -229,6 +229,6 @@ stride_returns_9 t c =
     let handed_on = if1.before in
     let start = handed_on.before.before in
     stride_none start.args.rows.now start.args.state.now start.args.row start.args.env.now start.args.depth
-    (handed_on.handed_on-part.ensures.none if1.if-part-ne0.false) (λ e. c.in_default.rest.0.0.0.1 (get.get-kind.ensures ∙ e))
-    (λ e. c.in_default.rest.0.0.1 (get.get-kind.ensures ∙ e)) (λ e. c.in_default.rest.0.1 (get.get-kind.ensures ∙ e))
-    (λ e. c.in_default.rest.1 (get.get-kind.ensures ∙ e))
+    (handed_on.handed_on-part.ensures.none if1.if-part-ne0.false) (λ e. c.in_default.in_default-own.rest.0.0.0.1 (get.get-kind.ensures ∙ e))
+    (λ e. c.in_default.in_default-own.rest.0.0.1 (get.get-kind.ensures ∙ e)) (λ e. c.in_default.in_default-own.rest.0.1 (get.get-kind.ensures ∙ e))
+    (λ e. c.in_default.in_default-own.rest.1 (get.get-kind.ensures ∙ e))

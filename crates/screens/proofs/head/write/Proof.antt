@@ -6,8 +6,7 @@ use Rattle.screens.proofs.head.write.Tie as tie
 
 returns : tie.Need-returns
 returns c =
-    let write_end = c.before.before in
-    let start_at = write_end.before.before.before.before in
+    let start_at = c.before.before.before.before.before.before in
     let entries = start_at in
     let leaves = entries.before.before.before.before in
     let valued = leaves.before.before.before.before.before in
@@ -16,9 +15,9 @@ returns c =
     let answer = strides.before.before.before.before in
     let start = answer.before.before.before in
     head_written start.args.s.now answer.write.new.s strides.write-2.new.s fails.write-3.new.s valued.write-4.new.s
-    leaves.write_numbers.new.s entries.write-5.new.s write_end.write_end.new.s start.args.h leaves.write_numbers.ensures.1
+    leaves.write_numbers.new.s entries.write-5.new.s c.write_end.new.s start.args.h leaves.write_numbers.ensures.1
     answer.write.ensures.1 strides.write-2.ensures.1 fails.write-3.ensures.1 valued.write-4.ensures.1
-    leaves.write_numbers.ensures.0 entries.write-5.ensures.1 write_end.write_end.ensures
+    leaves.write_numbers.ensures.0 entries.write-5.ensures.1 c.write_end.ensures
 
 pub write_spec : {M : Type 1} → statement M
 write_spec = tie.close (tie.spec (λ c κs. search rules) (λ c κs. search rules) (λ c. search rules) (λ c κs. search rules) (λ c. search rules) (λ c. search rules)

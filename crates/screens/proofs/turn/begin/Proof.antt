@@ -10,42 +10,29 @@ pub begin_spec : {M : Type 1} → statement M
 begin_spec = tie.close (tie.spec
     (λ c κs. search rules)
     (λ c κs.
-    let load_counted = c.before.before.before in
-    let start = load_counted.before.before.before in
-    let a = start.args in
-    let l = load_counted.load_counted-ground in
+    let a = c.args in
+    let l = c.load_counted-ground in
     omega (arith, l.ensures.0, counted_few a.n a.text.now a.rows-1.now))
     (λ c. search rules)
     (λ c.
-    let if1 = c.before.before in
-    let load_counted = if1.before.before in
-    let start = load_counted.before.before.before in
-    let a = start.args in
-    let l = load_counted.load_counted-ground in
+    let a = c.args in
+    let l = c.load_counted-ground in
     begin_refused a.n a.text.now a.rows-1.now a.state-1.now a.out.now l.result l.new.1.1.0 l.ensures.0 l.ensures.1
-    if1.if-ground-ne0.true c.refuse.result c.refuse.new.out c.refuse.ensures)
+    c.if-ground-ne0.true c.refuse.result c.refuse.new.out c.refuse.ensures)
     (λ c κs. search rules)
     (λ c κs.
-    let start = c.before.before.before.before in
-    let load_counted = start.before.before.before.before.before in
-    let start_at = load_counted.before.before.before in
-    let a = start_at.args in
-    let l = load_counted.load_counted-ground in
-    let q = start.start-a in
+    let a = c.args in
+    let l = c.load_counted-ground in
+    let q = c.start-a in
     omega (arith, (start_few l.new.1.1.0 a.state-1.now q.result q.new.1.0 q.ensures.0 q.ensures.1).0))
     (λ c. search rules)
     (λ c. search rules)
     (λ c.
-    let if2 = c.before.before in
-    let start = if2.before.before.before in
-    let if1 = start.before.before.before in
-    let load_counted = if1.before.before in
-    let start_at = load_counted.before.before.before in
-    let a = start_at.args in
-    let l = load_counted.load_counted-ground in
-    let q = start.start-a in
+    let a = c.args in
+    let l = c.load_counted-ground in
+    let q = c.start-a in
     begin_unstarted a.n a.text.now a.rows-1.now a.state-1.now a.out.now l.result l.new.1.1.0 l.ensures.0 l.ensures.1
-    if1.if-ground-ne0.false q.result q.new.1.0 q.ensures.0 if2.if-a-ne0.true c.refuse-then-a-ne0.result c.refuse-then-a-ne0.new.out
+    c.if-ground-ne0.false q.result q.new.1.0 q.ensures.0 c.if-a-ne0.true c.refuse-then-a-ne0.result c.refuse-then-a-ne0.new.out
     c.refuse-then-a-ne0.ensures)
     (λ c κs.
     let a = c.before.before.before.before.before.before.before.before.before.before.before.before.before.before.args in let l = c.before.before.before.before.before.before.before.before.before.before.before.load_counted-ground in let q = c.before.before.before.before.before.before.start-a in
@@ -54,13 +41,8 @@ begin_spec = tie.close (tie.spec
     (λ c. search rules)
     (λ c. search rules)
     (λ c.
-    let if2 = c.before.before.before.before in
-    let start = if2.before.before.before in
-    let if1 = start.before.before.before in
-    let load_counted = if1.before.before in
-    let start_at = load_counted.before.before.before in
-    let a = start_at.args in
-    let l = load_counted.load_counted-ground in
-    let q = start.start-a in
+    let a = c.args in
+    let l = c.load_counted-ground in
+    let q = c.start-a in
     begin_started a.n a.text.now a.rows-1.now a.state-1.now a.out.now l.result l.new.1.1.0 l.ensures.0 l.ensures.1
-    if1.if-ground-ne0.false q.result q.new.1.0 q.ensures.0 if2.if-a-ne0.false c.show-bytes.result c.show-bytes.new.out c.show-bytes.ensures))
+    c.if-ground-ne0.false q.result q.new.1.0 q.ensures.0 c.if-a-ne0.false c.show-bytes.result c.show-bytes.new.out c.show-bytes.ensures))

@@ -19,10 +19,6 @@ load_counted_spec = tie.close (tie.spec
     (λ c κs. search rules)
     (λ c. search rules)
     (λ c.
-    let load = c.before in
-    let if2 = load.before.before in
-    let if1 = if2.before in
-    let start = if1.before.before in
-    let a = start.args in
-    let e = met a.n a.text.now a.rows-1.now (omega (arith, if2.if-text-n.false, if1.if-text-ne0.false)) in
-    (load.load.ensures.0 ∙ ap (λ p. p.0) (sym e), load.load.ensures.1 ∙ ap (λ p. p.1) (sym e))))
+    let a = c.args in
+    let e = met a.n a.text.now a.rows-1.now (omega (arith, c.if-text-n.false, c.if-text-ne0.false)) in
+    (c.load.ensures.0 ∙ ap (λ p. p.0) (sym e), c.load.ensures.1 ∙ ap (λ p. p.1) (sym e))))

@@ -9,10 +9,6 @@ role_of_spec = tie.close (tie.spec
     (λ c. role_short c.before.before.args.event.now c.if-event-ne-EVENT_BYTES.true)
     (λ c κs. search rules)
     (λ c.
-    let read = c.before in
-    let if1 = read.before in
-    role_none if1.before.before.args.event.now if1.if-event-ne-EVENT_BYTES.false read.read_role-role.result read.read_role-role.ensures c.if-role-eq0.true)
+    role_none c.args.event.now c.if-event-ne-EVENT_BYTES.false c.read_role-role.result c.read_role-role.ensures c.if-role-eq0.true)
     (λ c.
-    let read = c.before in
-    let if1 = read.before in
-    role_some if1.before.before.args.event.now if1.if-event-ne-EVENT_BYTES.false read.read_role-role.result read.read_role-role.ensures c.if-role-eq0.false))
+    role_some c.args.event.now c.if-event-ne-EVENT_BYTES.false c.read_role-role.result c.read_role-role.ensures c.if-role-eq0.false))

@@ -16,28 +16,20 @@ show_spec = tie.close (tie.spec
     (λ c. search rules)
     (λ c κs. search rules)
     (λ c.
-    let fill = c.before.before.before.before.before.before.before in
-    let start = fill.before.before.before.before in
-    let a = start.args in
-    let q = fill.fill-seen in
-    let b = bytes_few a.rows.now a.state.now a.role a.answer a.strides a.out-1.now start.requires.0 q.result q.new.1.1.1.0 q.new.1.1.1.1.0 q.auto.1.1.1.1.0 q.ensures in
+    let a = c.args in
+    let q = c.fill-seen in
+    let b = bytes_few a.rows.now a.state.now a.role a.answer a.strides a.out-1.now c.requires.0 q.result q.new.1.1.1.0 q.new.1.1.1.1.0 q.auto.1.1.1.1.0 q.ensures in
     record { fits = omega (arith, b) })
     (λ c κs. search rules)
     (λ c.
-    let fill = c.before.before.before.before.before.before.before.before.before.before.before in
-    let start = fill.before.before.before.before in
-    let a = start.args in
-    let q = fill.fill-seen in
-    let b = bytes_few a.rows.now a.state.now a.role a.answer a.strides a.out-1.now start.requires.0 q.result q.new.1.1.1.0 q.new.1.1.1.1.0 q.auto.1.1.1.1.0 q.ensures in
+    let a = c.args in
+    let q = c.fill-seen in
+    let b = bytes_few a.rows.now a.state.now a.role a.answer a.strides a.out-1.now c.requires.0 q.result q.new.1.1.1.0 q.new.1.1.1.1.0 q.auto.1.1.1.1.0 q.ensures in
     record { fits = omega (arith, b) })
     (λ c. search rules)
     (λ c.
-    let write = c.before.before in
-    let copy_in = write.before.before.before in
-    let fill = copy_in.before.before.before.before.before.before in
-    let start = fill.before.before.before.before in
-    let a = start.args in
-    let q = fill.fill-seen in
-    drawn a.rows.now a.state.now a.role a.answer a.strides a.out-1.now start.requires.0 q.result q.new.1.1.1.0 q.new.1.1.1.1.0
-    q.auto.1.1.1.1.0 q.ensures start.requires.1 start.requires.2 q.auto.1.1.1.0 copy_in.copy_in.ensures.1
-    copy_in.copy_in.new.own write.write.new.s copy_in.copy_in.ensures.0 write.write.auto.s write.write.ensures))
+    let a = c.args in
+    let q = c.fill-seen in
+    drawn a.rows.now a.state.now a.role a.answer a.strides a.out-1.now c.requires.0 q.result q.new.1.1.1.0 q.new.1.1.1.1.0
+    q.auto.1.1.1.1.0 q.ensures c.requires.1 c.requires.2 q.auto.1.1.1.0 c.copy_in.ensures.1
+    c.copy_in.new.own c.write.new.s c.copy_in.ensures.0 c.write.auto.s c.write.ensures))

@@ -10,34 +10,27 @@ use Rattle.sheet.proofs.scan.is_line.Tie as tie
 
 returns : tie.Need-returns-then-sheet-at-ne-NEWLINE
 returns c =
-    let start = c.before.before.before in
-    line_unended start.args.sheet.now start.args.i (start.args.i * line_bytes + (line_bytes - 1)) (omega arith) c.if-sheet-at-ne-NEWLINE.true
+    line_unended c.args.sheet.now c.args.i (c.args.i * line_bytes + (line_bytes - 1)) (omega arith) c.if-sheet-at-ne-NEWLINE.true
 
 returns_2 : tie.Need-returns-in-Number
 returns_2 c =
-    let reading = c.before in
-    let start_at = reading.before.before in
+    let start_at = c.before.before.before in
     let read = start_at in
     let start = read.before.before.before.before in
     line_row start.args.sheet.now start.args.i (start.args.i * line_bytes + (line_bytes - 1)) (omega arith) read.before.if-sheet-at-ne-NEWLINE.false
-    reading.in-Number.n start.requires.0 (sym reading.in-Number.is ∙ read.read-reading.ensures)
+    c.in-Number.n start.requires.0 (sym c.in-Number.is ∙ read.read-reading.ensures)
 
 returns_3 : tie.Need-returns-in-Blank
 returns_3 c =
-    let read = c.before.before in
-    let if1 = read.before in
-    let start_at = if1.before.before.before in
+    let start_at = c.before.before.before.before.before.before in
     let start = start_at in
-    line_blank start.args.sheet.now start.args.i (start.args.i * line_bytes + (line_bytes - 1)) (omega arith) if1.if-sheet-at-ne-NEWLINE.false
-    (sym c.in-Blank.is ∙ read.read-reading.ensures)
+    line_blank start.args.sheet.now start.args.i (start.args.i * line_bytes + (line_bytes - 1)) (omega arith) c.if-sheet-at-ne-NEWLINE.false
+    (sym c.in-Blank.is ∙ c.read-reading.ensures)
 
 returns_4 : tie.Need-returns-in-Unreadable
 returns_4 c =
-    let read = c.before.before in
-    let if1 = read.before in
-    let start = if1.before.before.before in
-    line_unread start.args.sheet.now start.args.i (start.args.i * line_bytes + (line_bytes - 1)) (omega arith) if1.if-sheet-at-ne-NEWLINE.false
-    (sym c.in-Unreadable.is ∙ read.read-reading.ensures)
+    line_unread c.args.sheet.now c.args.i (c.args.i * line_bytes + (line_bytes - 1)) (omega arith) c.if-sheet-at-ne-NEWLINE.false
+    (sym c.in-Unreadable.is ∙ c.read-reading.ensures)
 
 pub is_line_spec : {M : Type 1} → statement M
 is_line_spec = tie.close (tie.spec

@@ -25,61 +25,44 @@ abbrev decreases-lines : tie.decreases-lines
 decreases-lines sheet n own₀ good₀ i₀ own good i = n - i
 
 lines_holds : tie.Need-lines-init invariant-loop decreases-loop invariant-lines decreases-lines
-lines_holds c = let start = c.before in (search rules, refl, rows_none start.args.sheet.now start.args.own.now start.requires.1)
+lines_holds c = (search rules, refl, rows_none c.args.sheet.now c.args.own.now c.requires.1)
 
 loop_holds : tie.Need-loop-k-init invariant-loop decreases-loop invariant-lines decreases-lines
 loop_holds c =
-    let is_line = c.before in
-    let start_at = is_line.before.before in
+    let start_at = c.before.before.before in
     let lines = start_at in
     let start = lines.before.before in
-    (search rules, lines.lines.invariant.1, kept_none start.args.sheet.now lines.lines.i lines.lines.own is_line.is_line.result is_line.is_line.ensures (not_from_true _ c.if-not-is_line.false))
+    (search rules, lines.lines.invariant.1, kept_none start.args.sheet.now lines.lines.i lines.lines.own c.is_line.result c.is_line.ensures (not_from_true _ c.if-not-is_line.false))
 
 loop_again : tie.Need-loop-k-preserved invariant-loop decreases-loop invariant-lines decreases-lines
 loop_again c =
-    let read = c.before.before in
-    let test = read.before.before in
-    let loop = test.before in
-    let lines = loop.before.before.before.before in
-    let start = lines.before.before in
-    let few = rows_room start.args.sheet.now lines.lines.i (omega arith) lines.lines.invariant.2 in
-    (omega arith, loop.loop-k.invariant.1, kept_more start.args.sheet.now lines.lines.i lines.lines.own test.loop-k-test.true few loop.loop-k.invariant.2 read.read_word-word.result read.read_word-word.ensures (not-false _ (not_from_true _ c.if-not-word.false)))
+    let few = rows_room c.args.sheet.now c.lines.i (omega arith) c.lines.invariant.2 in
+    (omega arith, c.loop-k.invariant.1, kept_more c.args.sheet.now c.lines.i c.lines.own c.loop-k-test.true few c.loop-k.invariant.2 c.read_word-word.result c.read_word-word.ensures (not-false _ (not_from_true _ c.if-not-word.false)))
 
 lines_again : tie.Need-lines-preserved invariant-loop decreases-loop invariant-lines decreases-lines
 lines_again c =
-    let loop = c.before in
-    let start_at = loop.before.before.before.before in
+    let start_at = c.before.before.before.before.before in
     let lines = start_at in
     let start = lines.before.before in
-    (omega arith, loop.loop-k.invariant.1, rows_more start.args.sheet.now lines.lines.i loop.loop-k.k (omega arith) (omega arith) lines.lines.invariant.2 loop.loop-k.invariant.2)
+    (omega arith, c.loop-k.invariant.1, rows_more start.args.sheet.now lines.lines.i c.loop-k.k (omega arith) (omega arith) lines.lines.invariant.2 c.loop-k.invariant.2)
 
 returns : tie.Need-returns-after-lines invariant-loop decreases-loop invariant-lines decreases-lines
 returns c =
-    let lines = c.before in
-    let start = lines.before.before in
-    rows_all start.args.sheet.now lines.lines.own lines.lines.good lines.lines.i start.args.n (omega arith) lines.lines.invariant.1 lines.lines.invariant.2
+    rows_all c.args.sheet.now c.lines.own c.lines.good c.lines.i c.args.n (omega arith) c.lines.invariant.1 c.lines.invariant.2
 
 returns_2 : tie.Need-returns-then-not-is_line invariant-loop decreases-loop invariant-lines decreases-lines
 returns_2 c =
-    let is_line = c.before in
-    let test = is_line.before in
-    let start_at = test.before in
+    let start_at = c.before.before.before in
     let lines = start_at in
     let start = lines.before.before in
-    rows_stop start.args.sheet.now lines.lines.own lines.lines.i start.args.n test.lines-test.true
-    (line_none start.args.sheet.now lines.lines.i is_line.is_line.result is_line.is_line.ensures (not_from_false _ c.if-not-is_line.true))
+    rows_stop start.args.sheet.now lines.lines.own lines.lines.i start.args.n c.lines-test.true
+    (line_none start.args.sheet.now lines.lines.i c.is_line.result c.is_line.ensures (not_from_false _ c.if-not-is_line.true))
 
 returns_3 : tie.Need-returns-then-not-word invariant-loop decreases-loop invariant-lines decreases-lines
 returns_3 c =
-    let read = c.before.before in
-    let test = read.before.before in
-    let loop = test.before in
-    let line = loop.before.before.before in
-    let lines = line.before in
-    let start = lines.before.before in
-    let few = rows_room start.args.sheet.now lines.lines.i (omega arith) lines.lines.invariant.2 in
-    rows_stop start.args.sheet.now loop.loop-k.own lines.lines.i start.args.n line.lines-test.true
-    (line_stops start.args.sheet.now lines.lines.i lines.lines.own test.loop-k-test.true few loop.loop-k.invariant.2 read.read_word-word.result read.read_word-word.ensures (not-true _ (not_from_false _ c.if-not-word.true)))
+    let few = rows_room c.args.sheet.now c.lines.i (omega arith) c.lines.invariant.2 in
+    rows_stop c.args.sheet.now c.loop-k.own c.lines.i c.args.n c.lines-test.true
+    (line_stops c.args.sheet.now c.lines.i c.lines.own c.loop-k-test.true few c.loop-k.invariant.2 c.read_word-word.result c.read_word-word.ensures (not-true _ (not_from_false _ c.if-not-word.true)))
 
 pub read_lines_spec : {M : Type 1} → statement M
 read_lines_spec = tie.close (tie.spec invariant-loop decreases-loop invariant-lines decreases-lines

@@ -7,5 +7,5 @@ use Rattle.state.proofs.lent.state_in.Tie as tie
 pub state_in_spec : {M : Type 1} → statement M
 state_in_spec = tie.close (tie.spec
     (λ c κs. search rules)
-    (λ c. let s = c.before.before in let k = c.copy_in in
-    state_in s.args.n s.args.lent.now s.args.own.now k.new.1.0 s.requires.0.0 s.requires.0.1 s.requires.1 k.ensures.0 k.ensures.1))
+    (λ c. let k = c.copy_in in
+    state_in c.args.n c.args.lent.now c.args.own.now k.new.1.0 c.requires.0.0 c.requires.0.1 c.requires.1 k.ensures.0 k.ensures.1))
