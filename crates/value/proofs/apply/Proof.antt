@@ -19,4 +19,4 @@ apply_spec = tie.close (tie.spec
     (λ c κs. search rules) (λ c κs. search rules)
     (λ c.
     other_is c.args.op (get_or c.args.a.leaves 0 0) (get_or c.args.b.leaves 0 0) c.result.result
-    (λ p q. ⊎_elim (λ z. omega arith) (λ z. omega arith) c.in_default.branch) (c.result.ensures _ c.add.ensures)))
+    (λ p q. ⊎_elim (λ z. omega arith) (λ z. omega arith) c.in_default.branch-raw) (c.result.ensures _ c.add.ensures)))

@@ -7,4 +7,4 @@ use Rattle.value.proofs.leaf.Tie as tie
 pub leaf_spec : {M : Type 1} → statement M
 leaf_spec = tie.close (tie.spec
     (λ c. search rules) (λ c. search rules) (λ c. search rules)
-    (λ c. leaf_past c.args.t1 c.args.i (search rules) c.if-i-lt-MAX_LEAVES.false))
+    (λ c. leaf_past c.args.leaves c.args.i (search rules) c.if-i-lt-MAX_LEAVES.false))
