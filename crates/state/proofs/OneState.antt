@@ -17,7 +17,7 @@ use Rattle.tophat.proofs.TypeLeaves.{type_leaves, task_type_leaves}
 use Rattle.tophat.proofs.Leaves.{type_of_lem}
 use Rattle.shape.proofs.Puts.{shape_inj}
 use Rattle.value.specs.Values.{as_value}
-use Rattle.value.proofs.Fitting.{value_in}
+use Rattle.value.proofs.Fitting.{value_in_lem}
 use Rattle.rows.specs.Kinds.{cell_k, number_of}
 use Rattle.rows.specs.Rows.{word, op_a, op_b, op_c}
 use Rattle.rows.specs.Trees.{ReadsCell, r_cell, Cells, c_none, c_truth, c_number, c_other}
@@ -34,7 +34,7 @@ unfolding as_value
 value_one {u} {v} {τ} {υ} g h e =
     let p : type_of u ≡ type_of v = shape_inj (type_of u) (type_of v) (ap (λ x. x.shape) e) in
     let q : υ ≡ τ = sym (type_of_lem h) ∙ sym p ∙ type_of_lem g in
-    some_is (sym (value_in (as_value u) τ u g refl) ∙ value_in (as_value u) τ v (subst (ValueType v) q h) e)
+    some_is (sym (value_in_lem (as_value u) τ u g refl) ∙ value_in_lem (as_value u) τ v (subst (ValueType v) q h) e)
 
 -- what a row holds
 pub row_value : {ws : List ℕ} {i x y : ℕ} {u v : Val} {τ υ : Ty} → ValueType u τ → leaves τ ≤ max_leaves → ValueType v υ → leaves υ ≤ max_leaves

@@ -18,7 +18,7 @@ read_spec = tie.close (tie.spec
     let a = c.args in
     let q = c.read_full in
     let k = front a.left a.to-1.now (le_of_lt c.if-left-to.true) in
-    (omega (arith, q.ensures.0, q.auto.0, k), counts_front q.result q.new.0 (drop a.left a.to-1.now) q.ensures))
+    (omega (arith, q.ensures.0, q.auto.to, k), counts_front q.result q.new.to (drop a.left a.to-1.now) q.ensures))
     (λ c κs. search rules)
     (λ c. search rules)
     (λ c. search rules))

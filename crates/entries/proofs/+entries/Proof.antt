@@ -107,11 +107,11 @@ entries_choice_requires t c κs =
 
 entries_offer_requires : (t : ℕ) → entries-lts.Need-offer-requires (entries_calls t) (entries_at t) entries.Post
 entries_offer_requires t c κs =
-    (fine_at c.requires.1.0 c.args.row 0 (omega arith) (omega arith), omega (arith, c.get-kind.ensures, c.if-kind-lt40.false), omega (arith, c.get-kind.ensures, c.if-kind-lt43.true), c.requires.1.1.few)
+    (fine_at c.requires.1.0 c.args.row 0 (omega arith) (omega arith), omega (arith, c.get-kind.ensures, c.in-40-to-42.if-kind-lt40-own.false), omega (arith, c.get-kind.ensures, c.in-40-to-42.if-kind-lt43-own.true), c.requires.1.1.few)
 
 entries_returns_3 : (t : ℕ) → entries-lts.Need-returns-then-unit-eq-MOST_UNIT (entries_calls t) (entries_at t) entries.Post
 entries_returns_3 t c =
-    (omega arith, entries_full (who_of c.args.who) c.args.rows.now c.args.state.now c.args.row c.args.env.now c.args.depth (path_of c.args.marks) c.args.list.now (c.handed_on-part.ensures.none c.if-part-ne0.false) (omega (arith, c.get-kind.ensures, c.if-kind-lt46.false)) (omega (arith, c.get-kind.ensures, c.if-kind-lt48.true)) (path_full c.requires.1.1 c.if-unit-eq-MOST_UNIT.true))
+    (omega arith, entries_full (who_of c.args.who) c.args.rows.now c.args.state.now c.args.row c.args.env.now c.args.depth (path_of c.args.marks) c.args.list.now (c.handed_on-part.ensures.none c.if-part-ne0.false) (omega (arith, c.get-kind.ensures, c.in-46-to-47.if-kind-lt46-own.false)) (omega (arith, c.get-kind.ensures, c.in-46-to-47.if-kind-lt48-own.true)) (path_full c.requires.1.1 c.if-unit-eq-MOST_UNIT.true))
 
 entries_mul_two : (t : ℕ) → entries-lts.Need-overflow_mul-two (entries_calls t) (entries_at t) entries.Post
 entries_mul_two t c =
@@ -124,7 +124,7 @@ entries_add_entries t c =
 entries_entries_requires_4 : (t : ℕ) → entries-lts.Need-entries-n-requires-in-46-to-47 (entries_calls t) (entries_at t) entries.Post
 entries_entries_requires_4 t c κs =
     call_at c.requires c.operand-a-2.result _ _ _
-    (low_a c.requires.1.0 c.get-kind.result c.operand-a-2.result c.get-kind.ensures c.operand-a-2.ensures (omega (arith, c.if-kind-lt46.false)) (omega (arith, c.if-kind-lt48.true)))
+    (low_a c.requires.1.0 c.get-kind.result c.operand-a-2.result c.get-kind.ensures c.operand-a-2.ensures (omega (arith, c.in-46-to-47.if-kind-lt46-own.false)) (omega (arith, c.in-46-to-47.if-kind-lt48-own.true)))
     c.requires.1.0.room (at_first c.requires.1.1 c.if-unit-eq-MOST_UNIT.false).1
 
 entries_same_length_2 : (t : ℕ) → entries-lts.Need-shape_of-list-in-43 (entries_calls t) (entries_at t) entries.Post
@@ -150,15 +150,15 @@ entries_returns_7 t c =
 
 entries_returns_9 : (t : ℕ) → entries-lts.Need-returns-in_default (entries_calls t) (entries_at t) entries.Post
 entries_returns_9 t c =
-    (omega arith, entries_none (who_of c.args.who) c.args.rows.now c.args.state.now c.args.row c.args.env.now c.args.depth (path_of c.args.marks) c.args.list.now (c.handed_on-part.ensures.none c.if-part-ne0.false) (λ h g. omega (arith, c.get-kind.ensures, c.if-kind-lt40.true, h)) (λ h g. omega (arith, c.get-kind.ensures, c.if-kind-lt40.true, h)))
+    (omega arith, entries_none (who_of c.args.who) c.args.rows.now c.args.state.now c.args.row c.args.env.now c.args.depth (path_of c.args.marks) c.args.list.now (c.handed_on-part.ensures.none c.if-part-ne0.false) (λ h g. omega (arith, c.get-kind.ensures, c.in_default.if-kind-lt40-own.true, h)) (λ h g. omega (arith, c.get-kind.ensures, c.in_default.if-kind-lt40-own.true, h)))
 
 entries_returns_10 : (t : ℕ) → entries-lts.Need-returns-in_default-2 (entries_calls t) (entries_at t) entries.Post
 entries_returns_10 t c =
-    (omega arith, entries_none (who_of c.args.who) c.args.rows.now c.args.state.now c.args.row c.args.env.now c.args.depth (path_of c.args.marks) c.args.list.now (c.handed_on-part.ensures.none c.if-part-ne0.false) (λ h g. none_mid (omega (arith, c.if-kind-lt43.false)) c.in_default-1.in_default-own.rest.0.0.1 c.in_default-1.in_default-own.rest.0.1 (omega (arith, c.get-kind.ensures, g))) (λ h g. omega (arith, c.get-kind.ensures, c.if-kind-lt46.true, h)))
+    (omega arith, entries_none (who_of c.args.who) c.args.rows.now c.args.state.now c.args.row c.args.env.now c.args.depth (path_of c.args.marks) c.args.list.now (c.handed_on-part.ensures.none c.if-part-ne0.false) (λ h g. none_mid (omega (arith, c.in_default.if-kind-lt43-own.false)) c.in_default.in_default-own.rest.0.0.1 c.in_default.in_default-own.rest.0.1 (omega (arith, c.get-kind.ensures, g))) (λ h g. omega (arith, c.get-kind.ensures, c.in_default.if-kind-lt46-own.true, h)))
 
 entries_returns_11 : (t : ℕ) → entries-lts.Need-returns-in_default-3 (entries_calls t) (entries_at t) entries.Post
 entries_returns_11 t c =
-    (omega arith, entries_none (who_of c.args.who) c.args.rows.now c.args.state.now c.args.row c.args.env.now c.args.depth (path_of c.args.marks) c.args.list.now (c.handed_on-part.ensures.none c.if-part-ne0.false) (λ h g. omega (arith, c.get-kind.ensures, c.if-kind-lt48.false, g)) (λ h g. none_high (omega (arith, c.if-kind-lt48.false)) c.in_default-1.in_default-own.rest.1 (omega (arith, c.get-kind.ensures, g))))
+    (omega arith, entries_none (who_of c.args.who) c.args.rows.now c.args.state.now c.args.row c.args.env.now c.args.depth (path_of c.args.marks) c.args.list.now (c.handed_on-part.ensures.none c.if-part-ne0.false) (λ h g. omega (arith, c.get-kind.ensures, c.in_default.if-kind-lt48-own.false, g)) (λ h g. none_high (omega (arith, c.in_default.if-kind-lt48-own.false)) c.in_default.in_default-own.rest.1 (omega (arith, c.get-kind.ensures, g))))
 
 -- ---- 44: Continue, after the left side's entries
 
@@ -200,7 +200,7 @@ entries_add_entries_2 t c =
 entries_entries_requires_5 : (t : ℕ) → entries-lts.Need-entries-m-requires (entries_calls t) (entries_at t) entries.Post
 entries_entries_requires_5 t c κs =
     call_at c.requires c.operand-b.result _ _ _
-    (low_b c.requires.1.0 c.get-kind.result c.operand-b.result c.get-kind.ensures c.operand-b.ensures (omega (arith, c.if-kind-lt46.false)))
+    (low_b c.requires.1.0 c.get-kind.result c.operand-b.result c.get-kind.ensures c.operand-b.ensures (omega (arith, c.in-46-to-47.if-kind-lt46-own.false)))
     c.requires.1.0.room (at_second c.requires.1.1 c.if-unit-eq-MOST_UNIT.false).1
 
 entries_add_least_2 : (t : ℕ) → entries-lts.Need-overflow_add-n-in-46-to-47 (entries_calls t) (entries_at t) entries.Post
@@ -215,7 +215,7 @@ entries_same_length_6 t c =
 
 entries_returns_8 : (t : ℕ) → entries-lts.Need-returns-else-unit-eq-MOST_UNIT (entries_calls t) (entries_at t) entries.Post
 entries_returns_8 t c =
-    (c.least-in-46-to-47.ensures.at_most, entries_marked (who_of c.args.who) c.args.rows.now c.args.state.now c.args.row c.args.env.now c.args.depth c.args.marks c.args.unit c.args.list.now c.operand-a-2.result c.operand-b.result c.requires.1.1 c.if-unit-eq-MOST_UNIT.false (c.handed_on-part.ensures.none c.if-part-ne0.false) (entries_both_after t c) (omega (arith, c.get-kind.ensures, c.if-kind-lt46.false)) (omega (arith, c.get-kind.ensures, c.if-kind-lt48.true)) c.operand-a-2.ensures c.operand-b.ensures c.entries-n-in-46-to-47.ensures.1 c.entries-m.ensures.1)
+    (c.least-in-46-to-47.ensures.at_most, entries_marked (who_of c.args.who) c.args.rows.now c.args.state.now c.args.row c.args.env.now c.args.depth c.args.marks c.args.unit c.args.list.now c.operand-a-2.result c.operand-b.result c.requires.1.1 c.if-unit-eq-MOST_UNIT.false (c.handed_on-part.ensures.none c.if-part-ne0.false) (entries_both_after t c) (omega (arith, c.get-kind.ensures, c.in-46-to-47.if-kind-lt46-own.false)) (omega (arith, c.get-kind.ensures, c.in-46-to-47.if-kind-lt48-own.true)) c.operand-a-2.ensures c.operand-b.ensures c.entries-n-in-46-to-47.ensures.1 c.entries-m.ensures.1)
 
 pub +entries_spec : {M : Type 1} → statement M
 +entries_spec = close μ_entries λ t. entries-lts.spec (entries_calls t) (entries_at t)

@@ -136,13 +136,13 @@ pub +eval_spec : {M : Type 1} → statement M
     (omega (arith, c.requires.0), fine_at c.requires.1 _ _ (omega arith) (omega (arith, c.if-depth-ge-MAX_BINDERS.false))))
     (λ c κs. search rules)
     (λ c κs.
-    (c.requires.1.low, c.requires.1.room, c.get-kind.ensures, c.in_default.left, omega (arith, c.if-kind-lt24.true)))
+    (c.requires.1.low, c.requires.1.room, c.get-kind.ensures, c.in-20-to-23.if-kind-lt20-own.false, omega (arith, c.in-20-to-23.if-kind-lt24-own.true)))
     (λ c κs. search rules)
     (λ c κs.
     (c.requires.1.low, omega arith))
     (λ c κs.
     call_a c.requires c.get-kind.result c.operand-in-27-to-28.result c.get-kind.ensures c.operand-in-27-to-28.ensures
-    (omega (arith, c.if-kind-lt24.false, c.in_default-1.in_default-own.rest.0.0.0.0.0.1)) (omega (arith, c.if-kind-lt29.true)))
+    (omega (arith, c.in-27-to-28.if-kind-lt24-own.false, c.in-27-to-28.in_default-own.rest.0.0.0.0.0.1)) (omega (arith, c.in-27-to-28.if-kind-lt29-own.true)))
     (λ c κs. search rules) (λ c κs. search rules) (λ c κs. search rules) (λ c κs. search rules) (λ c κs. search rules)
     (λ c.
     let x = c.eval-x.result in
@@ -192,9 +192,9 @@ pub +eval_spec : {M : Type 1} → statement M
     eval_part c.args.rows.now c.args.row c.args.env.now c.args.depth c.args.state.now
     c.eval-whole.new.state x c.part.result c.after-in-27-to-28.result (c.after-in-27-to-28.ensures ∙ ap (after_over x.over) c.sure-in-27-to-28.ensures)
     c.operand-in-27-to-28.result c.get-kind.result c.get-kind.ensures
-    (omega (arith, c.if-kind-lt24.false, c.in_default-1.in_default-own.rest.0.0.0.0.0.1, c.in_default-1.in_default-own.rest.0.0.0.0.1, c.in_default-1.in_default-own.rest.0.0.0.1))
-    c.if-kind-lt29.true c.operand-in-27-to-28.ensures c.eval-whole.ensures c.part.ensures)
+    (omega (arith, c.in-27-to-28.if-kind-lt24-own.false, c.in-27-to-28.in_default-own.rest.0.0.0.0.0.1, c.in-27-to-28.in_default-own.rest.0.0.0.0.1, c.in-27-to-28.in_default-own.rest.0.0.0.1))
+    c.in-27-to-28.if-kind-lt29-own.true c.operand-in-27-to-28.ensures c.eval-whole.ensures c.part.ensures)
     (λ c.
     let g = c.get-kind.ensures in
     eval_none c.args.rows.now c.args.row c.args.env.now c.args.depth c.args.state.now c.sure-in_default.result
-    (λ p q. ⊎_elim (λ z. let y = z.taken in omega arith) (λ z. let y = z.2.left in omega (arith, c.in_default-1.in_default-own.rest.1, c.in_default-1.in_default-own.rest.0.1, c.in_default-1.in_default-own.rest.0.0.1)) c.in_default.branch))
+    (λ p q. ⊎_elim (λ z. let y = z.taken in omega arith) (λ z. let y = z.2.left in omega (arith, c.in_default-1.rest.1, c.in_default-1.rest.0.1, c.in_default-1.rest.0.0.1)) c.in_default.branch))

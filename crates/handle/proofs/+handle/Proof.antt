@@ -88,7 +88,7 @@ pub +handle_spec : {M : Type 1} → statement M
     (c.requires.1.0, sym c.get-kind.ensures ∙ c.in-48.is, (c.handed_on-part.ensures.none c.if-part-ne0.false), c.requires.1.1))
     (λ c κs. search rules)
     (λ c κs.
-    (fine_at c.requires.1.0 c.args.row 0 (omega arith) (omega arith), omega (arith, c.get-kind.ensures, c.if-kind-lt40.false), omega (arith, c.get-kind.ensures, c.if-kind-lt43.true), c.requires.1.1.2))
+    (fine_at c.requires.1.0 c.args.row 0 (omega arith) (omega arith), omega (arith, c.get-kind.ensures, c.in-40-to-42.if-kind-lt40-own.false), omega (arith, c.get-kind.ensures, c.in-40-to-42.if-kind-lt43-own.true), c.requires.1.1.2))
     (λ c κs. search rules)
     (λ c κs.
     (c.requires.1.0.low, omega arith))
@@ -97,13 +97,13 @@ pub +handle_spec : {M : Type 1} → statement M
     (λ c. search rules)
     (λ c κs. search rules)
     (λ c κs.
-    let q = call_a (c.requires.0, c.requires.1.0) c.get-kind.result c.operand-a.result c.get-kind.ensures c.operand-a.ensures (omega (arith, c.if-kind-lt46.false))
-    (omega (arith, c.if-kind-lt48.true)) in
+    let q = call_a (c.requires.0, c.requires.1.0) c.get-kind.result c.operand-a.result c.get-kind.ensures c.operand-a.ensures (omega (arith, c.in-46-to-47.if-kind-lt46-own.false))
+    (omega (arith, c.in-46-to-47.if-kind-lt48-own.true)) in
     (q.0, (q.1, subst KnownEvent (sym c.inside.ensures) c.requires.1.1)))
     (λ c. search rules)
     (λ c κs. search rules)
     (λ c κs.
-    let q = call_b (c.requires.0, c.requires.1.0) c.get-kind.result c.operand-b.result c.get-kind.ensures c.operand-b.ensures (omega (arith, c.if-kind-lt46.false)) in
+    let q = call_b (c.requires.0, c.requires.1.0) c.get-kind.result c.operand-b.result c.get-kind.ensures c.operand-b.ensures (omega (arith, c.in-46-to-47.if-kind-lt46-own.false)) in
     (q.0, (q.1, subst KnownEvent (sym c.inside-in-Second.ensures) c.requires.1.1)))
     (λ c.
     handle_then c.args.rows.now c.args.state.now c.handle.new.state c.args.row c.args.env.now
@@ -124,35 +124,35 @@ pub +handle_spec : {M : Type 1} → statement M
     (λ c.
     handle_unmarked c.args.rows.now c.args.state.now c.args.row c.args.env.now c.args.depth c.args.e.role
     (event_path c.args.e) (event_action c.args.e) (c.handed_on-part.ensures.none c.if-part-ne0.false)
-    (omega (arith, c.get-kind.ensures, c.if-kind-lt46.false)) (omega (arith, c.get-kind.ensures, c.if-kind-lt48.true))
-    (front_empty (event_path c.args.e) (sym c.in-Empty.is ∙ c.front_mark-front.ensures)))
+    (omega (arith, c.get-kind.ensures, c.in-46-to-47.if-kind-lt46-own.false)) (omega (arith, c.get-kind.ensures, c.in-46-to-47.if-kind-lt48-own.true))
+    (front_empty (event_path c.args.e) (sym c.in-Empty.in-Empty-own.in-Empty-own.in-Empty-own.is ∙ c.front_mark-front.ensures)))
     (λ c.
     handle_first c.args.rows.now c.args.state.now c.handle-in-First.new.state c.args.row c.args.env.now
     c.args.depth c.handle-in-First.result c.args.e.role (event_path c.args.e) (event_action c.args.e)
-    (c.handed_on-part.ensures.none c.if-part-ne0.false) (omega (arith, c.get-kind.ensures, c.if-kind-lt46.false))
-    (omega (arith, c.get-kind.ensures, c.if-kind-lt48.true)) c.operand-a.result (path_of c.in-First.rest)
+    (c.handed_on-part.ensures.none c.if-part-ne0.false) (omega (arith, c.get-kind.ensures, c.in-46-to-47.if-kind-lt46-own.false))
+    (omega (arith, c.get-kind.ensures, c.in-46-to-47.if-kind-lt48-own.true)) c.operand-a.result (path_of c.in-First.in-First-own.in-First-own.in-First-own.rest)
     c.operand-a.ensures
-    (front_one (event_path c.args.e) c.in-First.rest (sym c.in-First.is ∙ c.front_mark-front.ensures))
+    (front_one (event_path c.args.e) c.in-First.in-First-own.in-First-own.in-First-own.rest (sym c.in-First.in-First-own.in-First-own.in-First-own.is ∙ c.front_mark-front.ensures))
     (subst (λ f. HandleOk c.args.rows.now c.args.state.now c.handle-in-First.new.state c.operand-a.result c.args.env.now c.args.depth f.role (event_path f) (event_action f) c.handle-in-First.result) c.inside.ensures c.handle-in-First.ensures))
     (λ c.
     handle_second c.args.rows.now c.args.state.now c.handle-in-Second.new.state c.args.row c.args.env.now
     c.args.depth c.handle-in-Second.result c.args.e.role (event_path c.args.e) (event_action c.args.e)
-    (c.handed_on-part.ensures.none c.if-part-ne0.false) (omega (arith, c.get-kind.ensures, c.if-kind-lt46.false))
-    (omega (arith, c.get-kind.ensures, c.if-kind-lt48.true)) c.operand-b.result (path_of c.in-Second.rest)
+    (c.handed_on-part.ensures.none c.if-part-ne0.false) (omega (arith, c.get-kind.ensures, c.in-46-to-47.if-kind-lt46-own.false))
+    (omega (arith, c.get-kind.ensures, c.in-46-to-47.if-kind-lt48-own.true)) c.operand-b.result (path_of c.in-Second.in-Second-own.in-Second-own.in-Second-own.rest)
     c.operand-b.ensures
-    (front_two (event_path c.args.e) c.in-Second.rest (sym c.in-Second.is ∙ c.front_mark-front.ensures))
+    (front_two (event_path c.args.e) c.in-Second.in-Second-own.in-Second-own.in-Second-own.rest (sym c.in-Second.in-Second-own.in-Second-own.in-Second-own.is ∙ c.front_mark-front.ensures))
     (subst (λ f. HandleOk c.args.rows.now c.args.state.now c.handle-in-Second.new.state c.operand-b.result c.args.env.now c.args.depth f.role (event_path f) (event_action f) c.handle-in-Second.result) c.inside-in-Second.ensures c.handle-in-Second.ensures))
     (λ c.
     handle_none c.args.rows.now c.args.state.now c.args.row c.args.env.now c.args.depth c.args.e.role
     (event_path c.args.e) (event_action c.args.e) (c.handed_on-part.ensures.none c.if-part-ne0.false)
-    (λ l h. omega (arith, c.get-kind.ensures, c.if-kind-lt40.true)) (λ l h. omega (arith, c.get-kind.ensures, c.if-kind-lt40.true)))
+    (λ l h. omega (arith, c.get-kind.ensures, c.in_default.if-kind-lt40-own.true)) (λ l h. omega (arith, c.get-kind.ensures, c.in_default.if-kind-lt40-own.true)))
     (λ c.
     handle_none c.args.rows.now c.args.state.now c.args.row c.args.env.now c.args.depth c.args.e.role
     (event_path c.args.e) (event_action c.args.e) (c.handed_on-part.ensures.none c.if-part-ne0.false)
-    (λ l h. let k = c.get-kind.ensures in let x = c.if-kind-lt43.false in let m = c.in_default-1.in_default-own.rest.0.0.1 in let n = c.in_default-1.in_default-own.rest.0.1 in omega arith)
-    (λ l h. omega (arith, c.get-kind.ensures, c.if-kind-lt46.true)))
+    (λ l h. let k = c.get-kind.ensures in let x = c.in_default.if-kind-lt43-own.false in let m = c.in_default.in_default-own.rest.0.0.1 in let n = c.in_default.in_default-own.rest.0.1 in omega arith)
+    (λ l h. omega (arith, c.get-kind.ensures, c.in_default.if-kind-lt46-own.true)))
     (λ c.
     handle_none c.args.rows.now c.args.state.now c.args.row c.args.env.now c.args.depth c.args.e.role
     (event_path c.args.e) (event_action c.args.e) (c.handed_on-part.ensures.none c.if-part-ne0.false)
-    (λ l h. omega (arith, c.get-kind.ensures, c.if-kind-lt48.false))
-    (λ l h. let k = c.get-kind.ensures in let x = c.if-kind-lt48.false in let m = c.in_default-1.in_default-own.rest.1 in omega arith))
+    (λ l h. omega (arith, c.get-kind.ensures, c.in_default.if-kind-lt48-own.false))
+    (λ l h. let k = c.get-kind.ensures in let x = c.in_default.if-kind-lt48-own.false in let m = c.in_default.in_default-own.rest.1 in omega arith))

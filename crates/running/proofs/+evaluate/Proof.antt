@@ -94,7 +94,7 @@ pub +evaluate_spec : {M : Type 1} → statement M
     (λ c κs.
     (c.requires.1.low, omega arith))
     (λ c κs.
-    call_a c.requires c.get-kind.result c.operand-in-43-to-44.result c.get-kind.ensures c.operand-in-43-to-44.ensures (omega (arith, c.in_default.left)) (omega (arith, c.if-kind-lt45.true)))
+    call_a c.requires c.get-kind.result c.operand-in-43-to-44.result c.get-kind.ensures c.operand-in-43-to-44.ensures (omega (arith, c.in-43-to-44.if-kind-lt43-own.false)) (omega (arith, c.in-43-to-44.if-kind-lt45-own.true)))
     (λ c κs.
     c.requires.1.low)
     (λ c κs.
@@ -103,10 +103,10 @@ pub +evaluate_spec : {M : Type 1} → statement M
     (c.requires.1.low, omega arith))
     (λ c κs.
     call_a c.requires c.get-kind.result c.operand-a.result c.get-kind.ensures c.operand-a.ensures
-    (omega (arith, c.in_default.left)) (omega (arith, c.if-kind-lt48.true)))
+    (omega (arith, c.in-46-to-47.if-kind-lt43-own.false)) (omega (arith, c.in-46-to-47.if-kind-lt48-own.true)))
     (λ c κs.
     call_b c.requires c.get-kind.result c.operand-b.result c.get-kind.ensures c.operand-b.ensures
-    (omega (arith, c.in_default.left)))
+    (omega (arith, c.in-46-to-47.if-kind-lt43-own.false)))
     (λ c κs.
     c.requires.1.low)
     (λ c κs.
@@ -134,18 +134,18 @@ pub +evaluate_spec : {M : Type 1} → statement M
     (λ c.
     evaluate_step c.args.rows.now c.args.row c.args.env.now c.args.depth c.args.state.now
     c.evaluate-over-in-43-to-44.new.state c.put_tag-in-43-to-44.new.state c.operand-in-43-to-44.result c.evaluate-over-in-43-to-44.result c.operand-in-43-to-44.ensures
-    c.evaluate-over-in-43-to-44.ensures c.put_tag-in-43-to-44.ensures (omega (arith, c.get-kind.ensures, c.in_default.left))
-    (omega (arith, c.get-kind.ensures, c.if-kind-lt45.true)))
+    c.evaluate-over-in-43-to-44.ensures c.put_tag-in-43-to-44.ensures (omega (arith, c.get-kind.ensures, c.in-43-to-44.if-kind-lt43-own.false))
+    (omega (arith, c.get-kind.ensures, c.in-43-to-44.if-kind-lt45-own.true)))
     (λ c.
     evaluate_two c.args.rows.now c.args.row c.args.env.now c.args.depth c.args.state.now
     c.evaluate-left.new.state c.evaluate-right.new.state c.put_tag-in-46-to-47.new.state c.operand-a.result
     c.operand-b.result c.evaluate-left.result c.evaluate-right.result c.operand-a.ensures c.operand-b.ensures c.evaluate-left.ensures
-    c.evaluate-right.ensures c.put_tag-in-46-to-47.ensures (omega (arith, c.get-kind.ensures, c.if-kind-lt46.false))
-    (omega (arith, c.get-kind.ensures, c.if-kind-lt48.true)))
+    c.evaluate-right.ensures c.put_tag-in-46-to-47.ensures (omega (arith, c.get-kind.ensures, c.in-46-to-47.if-kind-lt46-own.false))
+    (omega (arith, c.get-kind.ensures, c.in-46-to-47.if-kind-lt48-own.true)))
     (λ c.
     let k = c.get-kind.ensures in
     evaluate_tag c.args.rows.now c.args.row c.args.env.now c.args.depth c.args.state.now
-    c.put_tag-in_default.new.state c.put_tag-in_default.ensures (λ e. c.in_default-1.in_default-own.rest.0.0.0.1 (k ∙ e)) (λ e. c.in_default-1.in_default-own.rest.0.0.1 (k ∙ e))
-    (λ e. c.in_default-1.in_default-own.rest.0.1 (subst (OneOf content_kinds) (sym k) e)) (λ e. c.in_default-1.in_default-own.rest.1 (k ∙ e))
+    c.put_tag-in_default.new.state c.put_tag-in_default.ensures (λ e. c.in_default-1.rest.0.0.0.1 (k ∙ e)) (λ e. c.in_default-1.rest.0.0.1 (k ∙ e))
+    (λ e. c.in_default-1.rest.0.1 (subst (OneOf content_kinds) (sym k) e)) (λ e. c.in_default-1.rest.1 (k ∙ e))
     (λ p q. ⊎_elim (λ z. omega (arith, k, z.taken)) (⊎_elim (λ z. omega (arith, k, z.1.left)) (λ z. omega (arith, k, z.1.left))) c.in_default.branch)
     (λ p q. ⊎_elim (λ z. omega (arith, k, z.taken)) (⊎_elim (λ z. omega (arith, k, z.2.taken)) (λ z. omega (arith, k, z.3.left))) c.in_default.branch))

@@ -18,7 +18,7 @@ enclose_spec = tie.close (tie.spec
     under_step (omega arith) (omega arith) c.bind-in-43-to-44.ensures)
     (λ c.
     let g = c.get-kind.ensures in
-    under_none c.requires.1 (λ z. c.in_default-1.in_default-own.rest.1 (g ∙ z)) (λ z y. omega arith))
+    under_none c.requires.1 (λ z. c.in_default.in_default-own.rest.1 (g ∙ z)) (λ z y. omega arith))
     (λ c.
     let g = c.get-kind.ensures in
     under_none c.requires.1 (λ z. omega arith) (λ z y. omega arith)))

@@ -19,7 +19,7 @@ handed_on_spec = tie.close (tie.spec
     (λ c.
     let g = c.get-kind.ensures in
     let t = c.read-tag.ensures in
-    handed_none (λ e z. c.in_default-1.in_default-own.rest.1 (inl (g ∙ z))) (λ e z. c.in_default-1.in_default-own.rest.1 (inr (g ∙ z))) (λ e z y. omega arith)
+    handed_none (λ e z. c.in_default-kind.in_default-own.rest.1 (inl (g ∙ z))) (λ e z. c.in_default-kind.in_default-own.rest.1 (inr (g ∙ z))) (λ e z y. omega arith)
     (λ e z y. omega arith) (λ e z. omega arith) (λ e z y. omega arith) (λ z. c.if-kind-eq-GATE.false (g ∙ z)))
     (λ c.
     let g = c.get-kind.ensures in
@@ -49,7 +49,7 @@ handed_on_spec = tie.close (tie.spec
     (λ c.
     let g = c.get-kind.ensures in
     let t = c.read-tag.ensures in
-    handed_none (λ e z. omega arith) (λ e z. omega arith) (λ e z y. omega arith) (λ e z y. omega arith) (λ e z. c.in_default-1.in_default-own.rest.1 (g ∙ z))
+    handed_none (λ e z. omega arith) (λ e z. omega arith) (λ e z y. omega arith) (λ e z y. omega arith) (λ e z. c.in_default-kind-2.in_default-own.rest.1 (g ∙ z))
     (λ e z y. omega arith) (λ z. c.if-kind-eq-GATE.false (g ∙ z)))
     (λ c.
     let g = c.get-kind.ensures in

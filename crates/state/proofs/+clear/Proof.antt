@@ -72,22 +72,22 @@ pub +clear_spec : {M : Type 1} → statement M
     clear_leaf c.args.rows.now c.args.row (λ z. omega arith) (λ z. omega arith) (λ z. omega arith) (λ x y z. z e) c.clear_row-in-45.ensures)
     (λ c κs. search rules)
     (λ c κs.
-    let h = low_a c.requires.1 c.get-kind.result c.operand-a.result c.get-kind.ensures c.operand-a.ensures (omega (arith, c.in_default.left)) (omega (arith, c.if-kind-lt49.true)) in
+    let h = low_a c.requires.1 c.get-kind.result c.operand-a.result c.get-kind.ensures c.operand-a.ensures (omega (arith, c.in-43-to-48.if-kind-lt43-own.false)) (omega (arith, c.in-43-to-48.if-kind-lt49-own.true)) in
     (omega (arith, c.requires.0), fine_at c.requires.1 _ _ (omega arith) c.requires.1.room))
     (λ c κs. search rules)
     (λ c κs.
-    let h = low_b c.requires.1 c.get-kind.result c.operand-b-in-43-to-48.result c.get-kind.ensures c.operand-b-in-43-to-48.ensures (omega (arith, c.in_default.left)) in
+    let h = low_b c.requires.1 c.get-kind.result c.operand-b-in-43-to-48.result c.get-kind.ensures c.operand-b-in-43-to-48.ensures (omega (arith, c.in-43-to-48.if-kind-lt43-own.false)) in
     (omega (arith, c.requires.0), fine_at c.requires.1 _ _ (omega arith) c.requires.1.room))
     (λ c κs.
     c.requires.1.low)
     (λ c.
-    clear_fork c.args.rows.now c.args.row c.get-kind.result c.get-kind.ensures c.in_default.left (omega (arith, c.if-kind-lt49.true))
-    (λ e. c.in_default-1.in_default-own.rest.1 e) c.operand-a.ensures c.operand-b-in-43-to-48.ensures c.clear-in-43-to-48.ensures c.clear-in-43-to-48-2.ensures
+    clear_fork c.args.rows.now c.args.row c.get-kind.result c.get-kind.ensures c.in-43-to-48.if-kind-lt43-own.false (omega (arith, c.in-43-to-48.if-kind-lt49-own.true))
+    (λ e. c.in-43-to-48.in_default-own.rest.1 e) c.operand-a.ensures c.operand-b-in-43-to-48.ensures c.clear-in-43-to-48.ensures c.clear-in-43-to-48-2.ensures
     c.clear_row-in-43-to-48.ensures)
     (λ c κs.
     c.requires.1.low)
     (λ c.
-    clear_leaf c.args.rows.now c.args.row (λ e. c.in_default-1.in_default-own.rest.0.0.1 (c.get-kind.ensures ∙ e))
-    (λ e. c.in_default-1.in_default-own.rest.0.1 (inl (c.get-kind.ensures ∙ e)))
-    (λ e. c.in_default-1.in_default-own.rest.0.1 (inr (c.get-kind.ensures ∙ e)))
-    (λ x y z. ⊎_elim (λ a. omega (arith, c.get-kind.ensures)) (λ a. omega (arith, c.get-kind.ensures)) c.in_default.branch) c.clear_row-in_default.ensures)
+    clear_leaf c.args.rows.now c.args.row (λ e. c.in_default-1.rest.0.0.1 (c.get-kind.ensures ∙ e))
+    (λ e. c.in_default-1.rest.0.1 (inl (c.get-kind.ensures ∙ e)))
+    (λ e. c.in_default-1.rest.0.1 (inr (c.get-kind.ensures ∙ e)))
+    (λ x y z. ⊎_elim (λ a. omega (arith, c.get-kind.ensures)) (λ a. omega (arith, c.get-kind.ensures)) c.in_default.branch-raw) c.clear_row-in_default.ensures)

@@ -24,8 +24,8 @@ part_from_spec = tie.close (tie.spec
     (λ c. let q = c.before.before.args in let e = c.by_tag-in-50.ensures in part_one q.tag q.a q.b q.c (50 ∷ []) q.kind (e, tt) c.before.in-50.is)
     (λ c.
     let q = c.args in
-    part_step q.tag q.a q.b q.c q.kind c.if-kind-lt40.false c.if-kind-lt45.true c.in_default-1.in_default-own.rest c.by_tag-in-43-to-44.ensures)
-    (λ c. let q = c.before.before.args in part_low q.tag q.a q.b q.c q.kind c.if-kind-lt40.true c.before.in_default-1.in_default-own.rest)
+    part_step q.tag q.a q.b q.c q.kind c.in-43-to-44.if-kind-lt40-own.false c.in-43-to-44.if-kind-lt45-own.true c.in-43-to-44.in_default-own.rest c.by_tag-in-43-to-44.ensures)
+    (λ c. let q = c.before.before.args in part_low q.tag q.a q.b q.c q.kind c.in_default.if-kind-lt40-own.true c.in_default.in_default-own.rest)
     (λ c.
     let q = c.args in
-    part_high q.tag q.a q.b q.c q.kind c.if-kind-lt45.false c.in_default-1.in_default-own.rest))
+    part_high q.tag q.a q.b q.c q.kind c.in_default.if-kind-lt45-own.false c.in_default.in_default-own.rest))

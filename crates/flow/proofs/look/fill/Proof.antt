@@ -26,7 +26,7 @@ returns_3 c =
     let o = c.«open» in
     let h = c.show_failed in
     fill_failed c.args.rows.now c.args.state.now c.args.role c.args.value.now c.args.list.now o.new.1.1.1.0
-    o.new.1.1.1.1.0 o.result o.ensures c.if-rest-ne0.false (sym c.is_role.ensures ∙ not-false _ (not_from_true _ c.if-not-is_role.false)) c.if-rest.true h.result h.new.0 h.ensures
+    o.new.1.1.1.1.0 o.result o.ensures c.if-rest-ne0.false (sym c.is_role.ensures ∙ not-false _ (not_from_true _ c.if-not-is_role.false)) c.if-rest.true h.result h.new.value h.ensures
 
 show_requires : tie.Need-show-requires
 show_requires c κs =
@@ -39,7 +39,7 @@ returns_4 c =
     let o = c.«open» in
     let h = c.show in
     fill_ready c.args.rows.now c.args.state.now c.args.role c.args.value.now c.args.list.now o.new.1.1.1.0
-    o.new.1.1.1.1.0 o.result o.ensures c.if-rest-ne0.false (sym c.is_role.ensures ∙ not-false _ (not_from_true _ c.if-not-is_role.false)) c.if-rest.false h.result h.new.1.1.1.1.0 h.new.1.1.1.1.1.0 h.ensures
+    o.new.1.1.1.1.0 o.result o.ensures c.if-rest-ne0.false (sym c.is_role.ensures ∙ not-false _ (not_from_true _ c.if-not-is_role.false)) c.if-rest.false h.result h.new.value h.new.list h.ensures
 
 pub fill_spec : {M : Type 1} → statement M
 fill_spec = tie.close (tie.spec (λ c κs. search rules) returns (λ c κs. search rules) returns_2 (λ c κs. search rules) (λ c. search rules) returns_3 show_requires (λ c. search rules) (λ c. search rules) returns_4)

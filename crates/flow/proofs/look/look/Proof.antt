@@ -9,16 +9,16 @@ slice_aggregate_result c =
     let start_at = c.before.before.before.before.before.before.before.before in
     let start = start_at in
     let f = c.fill-seen in
-    part_long start.args.rows.now start.args.state.now start.args.role start.args.value.now start.args.list.now f.result f.new.1.1.1.0
-    f.new.1.1.1.1.0 f.ensures
+    part_long start.args.rows.now start.args.state.now start.args.role start.args.value.now start.args.list.now f.result f.new.value
+    f.new.list f.ensures
 
 returns : tie.Need-returns
 returns c =
     let start_at = c.before.before.before.before.before.before.before.before in
     let start = start_at in
     let f = c.fill-seen in
-    look_is start.args.rows.now start.args.state.now start.args.role start.args.value.now start.args.list.now f.result f.new.1.1.1.0
-    f.new.1.1.1.1.0 f.ensures
+    look_is start.args.rows.now start.args.state.now start.args.role start.args.value.now start.args.list.now f.result f.new.value
+    f.new.list f.ensures
 
 pub look_spec : {M : Type 1} → statement M
 look_spec = tie.close (tie.spec (λ c κs. search rules) slice_aggregate_result (λ c. search rules) returns)

@@ -21,8 +21,8 @@ use Rattle.flow.proofs.open.not_failed.Reads as not-failed-reads
 returns : tie.Need-returns-then-n-eq0
 returns c =
     let q = c.accepted_rows-n in
-    subst (OpenOk c.args.rows.now c.args.state.now c.args.fits q.new.1.0 c.args.words.now) (sym c.not_failed.ensures)
-    (open_20 c.args.rows.now c.args.state.now q.new.1.0 c.args.words.now c.args.fits q.result q.ensures.0 c.if-n-eq0.true)
+    subst (OpenOk c.args.rows.now c.args.state.now c.args.fits q.new.own c.args.words.now) (sym c.not_failed.ensures)
+    (open_20 c.args.rows.now c.args.state.now q.new.own c.args.words.now c.args.fits q.result q.ensures.0 c.if-n-eq0.true)
 
 mul_if2 : tie.Need-overflow_mul-n
 mul_if2 c =
@@ -39,16 +39,16 @@ returns_2 c =
     let q = c.accepted_rows-n in
     let z = (site_of c.args.rows.now q.result q.ensures.0 q.ensures.1.0 q.ensures.1.1.0 c.if-n-eq0.false).3 in
     let wr = some_words c.args.rows.now q.result q.ensures.0 q.ensures.1.1.0 c.if-n-eq0.false in
-    subst (OpenOk c.args.rows.now c.args.state.now c.args.fits q.new.1.0 c.args.words.now) (sym c.not_failed-then-state-n.ensures)
-    (open_length c.args.rows.now c.args.state.now q.new.1.0 c.args.words.now c.args.fits q.result z wr c.if-state-n.true)
+    subst (OpenOk c.args.rows.now c.args.state.now c.args.fits q.new.own c.args.words.now) (sym c.not_failed-then-state-n.ensures)
+    (open_length c.args.rows.now c.args.state.now q.new.own c.args.words.now c.args.fits q.result z wr c.if-state-n.true)
 
 returns_3 : tie.Need-returns-then-not-fits
 returns_3 c =
     let q = c.accepted_rows-n in
     let z = (site_of c.args.rows.now q.result q.ensures.0 q.ensures.1.0 q.ensures.1.1.0 c.if-n-eq0.false).3 in
     let wr = some_words c.args.rows.now q.result q.ensures.0 q.ensures.1.1.0 c.if-n-eq0.false in
-    subst (OpenOk c.args.rows.now c.args.state.now c.args.fits q.new.1.0 c.args.words.now) (sym c.not_failed-then-not-fits.ensures)
-    (open_misfit c.args.rows.now c.args.state.now q.new.1.0 c.args.words.now c.args.fits q.result z wr (not_from_false _ c.if-not-fits.true))
+    subst (OpenOk c.args.rows.now c.args.state.now c.args.fits q.new.own c.args.words.now) (sym c.not_failed-then-not-fits.ensures)
+    (open_misfit c.args.rows.now c.args.state.now q.new.own c.args.words.now c.args.fits q.result z wr (not_from_false _ c.if-not-fits.true))
 
 state_in_requires : tie.Need-state_in-requires
 state_in_requires c κs =
@@ -72,7 +72,7 @@ held_requires c κs =
     let z = (site_of start.args.rows.now q.result q.ensures.0 q.ensures.1.0 q.ensures.1.1.0 if1.if-n-eq0.false).3 in
     let wr = some_words start.args.rows.now q.result q.ensures.0 q.ensures.1.1.0 if1.if-n-eq0.false in
     let w = c.state_in in
-    ((some_rows z, is_fine z), (ends start.args.rows.now start.args.state.now q.new.1.0 w.new.1.1.0 start.args.fits q.result z wr (not_from_true _ if3.if-not-fits.false) if2.if-state-n.false w.ensures.1 w.ensures.0, refl))
+    ((some_rows z, is_fine z), (ends start.args.rows.now start.args.state.now q.new.own w.new.own start.args.fits q.result z wr (not_from_true _ if3.if-not-fits.false) if2.if-state-n.false w.ensures.1 w.ensures.0, refl))
 
 is_failed_requires : tie.Need-is_failed-requires
 is_failed_requires c κs =
@@ -82,7 +82,7 @@ is_failed_requires c κs =
     let w = c.state_in in (
       (some_rows z, is_fine z),
       (
-        ends c.args.rows.now c.args.state.now q.new.1.0 w.new.1.1.0 c.args.fits q.result z wr
+        ends c.args.rows.now c.args.state.now q.new.own w.new.own c.args.fits q.result z wr
             (not_from_true _ c.if-not-fits.false) c.if-state-n.false w.ensures.1 w.ensures.0,
         c.held.ensures.1 (not-true c.held.result (not_from_false _ c.if-not-held.true)),
       ),
@@ -96,8 +96,8 @@ returns_4 c =
     let w = c.state_in in
     let h = c.held in
     let k = c.is_failed in
-    open_failed c.args.rows.now c.args.state.now q.new.1.0 w.new.1.1.0 c.args.fits q.result z wr
-    (not_from_true _ c.if-not-fits.false) c.if-state-n.false w.ensures.1 w.ensures.0 h.result h.new.1.1.1.0 h.ensures.0 (not_from_false _ c.if-not-held.true)
+    open_failed c.args.rows.now c.args.state.now q.new.own w.new.own c.args.fits q.result z wr
+    (not_from_true _ c.if-not-fits.false) c.if-state-n.false w.ensures.1 w.ensures.0 h.result h.new.work h.ensures.0 (not_from_false _ c.if-not-held.true)
     k.result k.ensures c.if-is_failed.true
 
 returns_5 : tie.Need-returns-then-not-held
@@ -108,9 +108,9 @@ returns_5 c =
     let w = c.state_in in
     let h = c.held in
     let k = c.is_failed in
-    subst (OpenOk c.args.rows.now c.args.state.now c.args.fits q.new.1.0 w.new.1.1.0) (sym c.not_failed-then-not-held.ensures)
-    (open_22 c.args.rows.now c.args.state.now q.new.1.0 w.new.1.1.0 c.args.fits q.result z wr
-    (not_from_true _ c.if-not-fits.false) c.if-state-n.false w.ensures.1 w.ensures.0 h.result h.new.1.1.1.0 h.ensures.0 (not_from_false _ c.if-not-held.true)
+    subst (OpenOk c.args.rows.now c.args.state.now c.args.fits q.new.own w.new.own) (sym c.not_failed-then-not-held.ensures)
+    (open_22 c.args.rows.now c.args.state.now q.new.own w.new.own c.args.fits q.result z wr
+    (not_from_true _ c.if-not-fits.false) c.if-state-n.false w.ensures.1 w.ensures.0 h.result h.new.work h.ensures.0 (not_from_false _ c.if-not-held.true)
     k.result k.ensures c.if-is_failed.false)
 
 sub_stride : tie.Need-overflow_sub-n
@@ -139,10 +139,10 @@ returns_6 c =
     let w = c.state_in in
     let h = c.held in
     let m = c.stride in
-    subst (OpenOk c.args.rows.now c.args.state.now c.args.fits q.new.1.0 w.new.1.1.0) (sym c.not_failed-then-stride.ensures)
-    (open_23 c.args.rows.now c.args.state.now q.new.1.0 w.new.1.1.0 c.args.fits q.result z wr
-    (not_from_true _ c.if-not-fits.false) c.if-state-n.false w.ensures.1 w.ensures.0 h.result h.new.1.1.1.0 h.ensures.0 (not_from_true _ c.if-not-held.false) m.result
-    m.new.1.0 _ m.ensures c.if-stride.true)
+    subst (OpenOk c.args.rows.now c.args.state.now c.args.fits q.new.own w.new.own) (sym c.not_failed-then-stride.ensures)
+    (open_23 c.args.rows.now c.args.state.now q.new.own w.new.own c.args.fits q.result z wr
+    (not_from_true _ c.if-not-fits.false) c.if-state-n.false w.ensures.1 w.ensures.0 h.result h.new.work h.ensures.0 (not_from_true _ c.if-not-held.false) m.result
+    m.new.state _ m.ensures c.if-stride.true)
 
 returns_7 : tie.Need-returns
 returns_7 c =
@@ -152,10 +152,10 @@ returns_7 c =
     let w = c.state_in in
     let h = c.held in
     let m = c.stride in
-    subst (OpenOk c.args.rows.now c.args.state.now c.args.fits q.new.1.0 w.new.1.1.0) (sym c.not_failed-2.ensures)
-    (open_0 c.args.rows.now c.args.state.now q.new.1.0 w.new.1.1.0 c.args.fits q.result z wr
-    (not_from_true _ c.if-not-fits.false) c.if-state-n.false w.ensures.1 w.ensures.0 h.result h.new.1.1.1.0 h.ensures.0 (not_from_true _ c.if-not-held.false) m.result
-    m.new.1.0 _ m.ensures c.if-stride.false)
+    subst (OpenOk c.args.rows.now c.args.state.now c.args.fits q.new.own w.new.own) (sym c.not_failed-2.ensures)
+    (open_0 c.args.rows.now c.args.state.now q.new.own w.new.own c.args.fits q.result z wr
+    (not_from_true _ c.if-not-fits.false) c.if-state-n.false w.ensures.1 w.ensures.0 h.result h.new.work h.ensures.0 (not_from_true _ c.if-not-held.false) m.result
+    m.new.state _ m.ensures c.if-stride.false)
 
 pub open_spec : {M : Type 1} → statement M
 open_spec = tie.close (tie.spec (λ c κs. c.before.requires.0) (λ c κs. search rules) returns mul_if2 (λ c κs. search rules) returns_2 (λ c κs. search rules) returns_3 state_in_requires held_requires

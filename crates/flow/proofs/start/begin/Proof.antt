@@ -32,7 +32,7 @@ normalise_requires' = λ c κs. search rules
 returns_2' : tie.Need-returns
 returns_2' c =
     let m = c.normalise in
-    begins c.args.rows.now c.args.n c.args.words.now c.first_cells.new.work c.evaluate.new.state m.new.1.0 _ c.evaluate.result m.result
+    begins c.args.rows.now c.args.n c.args.words.now c.first_cells.new.work c.evaluate.new.state m.new.state _ c.evaluate.result m.result
     c.requires.1 c.first_cells.ensures c.evaluate.ensures c.if-evaluate.false m.ensures
 
 pub begin_spec : {M : Type 1} → statement M

@@ -58,7 +58,7 @@ returns_4 c =
     let o = c.«open» in
     let h = c.handle-number in
     take_no c.args.rows.now c.args.state.now o.new.1.1.1.0 o.new.1.1.1.1.0 o.result c.args.e c.if-opening-ne0.false c.if-opening.false (not_from_true _ c.if-not-e.false)
-    h.new.1.0 _ h.result h.ensures o.ensures c.if-number-ne0.true c.refused-then-number-ne0.result c.refused-then-number-ne0.ensures
+    h.new.state _ h.result h.ensures o.ensures c.if-number-ne0.true c.refused-then-number-ne0.result c.refused-then-number-ne0.ensures
 
 normalise_requires : tie.Need-normalise-strides-requires
 normalise_requires c κs =
@@ -81,7 +81,7 @@ returns_5 c =
     let m = c.normalise-strides in
     let w = c.state_out in
     take_0 c.args.rows.now c.args.state.now o.new.1.1.1.0 o.new.1.1.1.1.0 o.result c.args.e c.if-opening-ne0.false c.if-opening.false (not_from_true _ c.if-not-e.false)
-    h.new.1.0 _ h.result h.ensures m.new.1.0 _ m.result w.new.1.1.0 m.ensures w.ensures.1 w.ensures.0
+    h.new.state _ h.result h.ensures m.new.state _ m.result w.new.lent m.ensures w.ensures.1 w.ensures.0
     o.ensures c.if-number-ne0.false
 
 pub take_spec : {M : Type 1} → statement M

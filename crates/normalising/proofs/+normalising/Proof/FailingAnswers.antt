@@ -85,7 +85,7 @@ failing_failing_requires_2 t c κs =
     let get = if3.before.before in
     let start = get.before.before.before in
     call_a start.args.rows.now start.args.row start.args.depth t 0 start.requires 0 (omega arith) get.get-kind.result c.operand-in-43-to-44.result
-    get.get-kind.ensures c.operand-in-43-to-44.ensures (omega (arith, if3.if-kind-lt43.false)) (omega (arith, c.before.if-kind-lt45.true))
+    get.get-kind.ensures c.operand-in-43-to-44.ensures (omega (arith, if3.if-kind-lt43.false)) (omega (arith, c.in-43-to-44.if-kind-lt45-own.true))
 
 pub failing_operand_requires_5 : (t : ℕ) → failing-lts.Need-operand-requires-in-46-to-47 (failing_calls t) (failing_at t) failing.Post
 failing_operand_requires_5 t c κs =
@@ -98,7 +98,7 @@ failing_failing_requires_3 t c κs =
     let get = if3.before.before in
     let start = get.before.before.before in
     call_a start.args.rows.now start.args.row start.args.depth t 0 start.requires 0 (omega arith) get.get-kind.result c.operand-in-46-to-47.result
-    get.get-kind.ensures c.operand-in-46-to-47.ensures (omega (arith, if3.if-kind-lt43.false)) (omega (arith, c.before.if-kind-lt48.true))
+    get.get-kind.ensures c.operand-in-46-to-47.ensures (omega (arith, if3.if-kind-lt43.false)) (omega (arith, c.in-46-to-47.if-kind-lt48-own.true))
 
 pub failing_operand_requires_6 : (t : ℕ) → failing-lts.Need-operand-requires-then-failing (failing_calls t) (failing_at t) failing.Post
 failing_operand_requires_6 t c κs =
@@ -178,7 +178,7 @@ failing_returns_6 t c =
     let start = handed_on.before in
     failing_both start.args.rows.now start.args.state.now start.args.row start.args.env.now start.args.depth
     (handed_on.handed_on-part.ensures.none if1.if-part-ne0.false) operand5.operand-in-46-to-47.result operand6.operand-then-failing.result failing3.failing-in-46-to-47.result
-    c.failing-then-failing.result (let p = past if4.if-kind-lt45.false match_at.in_default-1.in_default-own.rest.0.1 in omega (arith, get.get-kind.ensures))
+    c.failing-then-failing.result (let p = past if4.if-kind-lt45.false match_at.in_default-1.rest.0.1 in omega (arith, get.get-kind.ensures))
     (omega (arith, get.get-kind.ensures, if5.if-kind-lt48.true)) operand5.operand-in-46-to-47.ensures failing3.failing-in-46-to-47.ensures
     (inl (if6.if-failing.true, (operand6.operand-then-failing.ensures, c.failing-then-failing.ensures)))
 
@@ -195,7 +195,7 @@ failing_returns_7 t c =
     let start = handed_on.before in
     failing_both start.args.rows.now start.args.state.now start.args.row start.args.env.now start.args.depth
     (handed_on.handed_on-part.ensures.none if1.if-part-ne0.false) operand5.operand-in-46-to-47.result 0 failing3.failing-in-46-to-47.result failing3.failing-in-46-to-47.result
-    (let p = past if4.if-kind-lt45.false match_at.in_default-1.in_default-own.rest.0.1 in omega (arith, get.get-kind.ensures))
+    (let p = past if4.if-kind-lt45.false match_at.in_default-1.rest.0.1 in omega (arith, get.get-kind.ensures))
     (omega (arith, get.get-kind.ensures, if5.if-kind-lt48.true)) operand5.operand-in-46-to-47.ensures failing3.failing-in-46-to-47.ensures
     (inr (c.if-failing.false, c.if-failing.false))
 
@@ -206,7 +206,7 @@ failing_returns_8 t c =
     let handed_on = if1.before in
     let start = handed_on.before in
     failing_editor start.args.rows.now start.args.state.now start.args.row start.args.env.now start.args.depth
-    (handed_on.handed_on-part.ensures.none if1.if-part-ne0.false) (λ p q. omega (arith, get.get-kind.ensures, c.if-kind-lt43.true))
+    (handed_on.handed_on-part.ensures.none if1.if-part-ne0.false) (λ p q. omega (arith, get.get-kind.ensures, c.in_default.if-kind-lt43-own.true))
 
 pub failing_returns_9 : (t : ℕ) → failing-lts.Need-returns-in_default-2 (failing_calls t) (failing_at t) failing.Post
 failing_returns_9 t c =
@@ -217,4 +217,4 @@ failing_returns_9 t c =
     let start = handed_on.before in
     failing_editor start.args.rows.now start.args.state.now start.args.row start.args.env.now start.args.depth
     (handed_on.handed_on-part.ensures.none if1.if-part-ne0.false)
-    (λ p q. let h = past c.if-kind-lt48.false match_at.in_default-1.in_default-own.rest.1 in omega (arith, get.get-kind.ensures))
+    (λ p q. let h = past c.in_default.if-kind-lt48-own.false match_at.in_default-1.rest.1 in omega (arith, get.get-kind.ensures))

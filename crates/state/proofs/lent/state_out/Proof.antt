@@ -13,4 +13,4 @@ state_out_spec = tie.close (tie.spec
     (λ c. search rules)
     (λ c. let s = c.before.before.before.before in let k = c.copy_out in
     let l : length s.args.own.now ≡ state_size = let g = s.well_formed in search rules in
-    (state_out s.args.n s.args.own.now s.args.lent.now k.new.1.0 l s.requires.0 s.requires.1 k.ensures, l)))
+    (state_out s.args.n s.args.own.now s.args.lent.now k.new.lent l s.requires.0 s.requires.1 k.ensures, l)))
