@@ -13,7 +13,7 @@ use mir.Syntax.{w32}
 use mir.Val.{to_z}
 use Rattle.tophat.specs.Syntax.{max_leaves, Ty, pair, leaves, Op, Exp, ebinder, eop, eif, epair, efst, esnd, ederef, eassign, elet}
 use Rattle.tophat.specs.Syntax.{Val, vunit, vtruth, vnumber, vpair, Env, Store}
-use Rattle.tophat.specs.Typing.{At, here, there, HasType, t_var, t_op, t_if, t_pair, t_fst, t_snd, t_deref, t_assign, t_let, ValueType, v_pair, ValueTypes, v_cons, type_of}
+use Rattle.tophat.specs.Typing.{At, here, there, HasType, t_var, t_op, t_if, t_pair, t_fst, t_snd, t_deref, t_assign, t_let, ValueType, v_pair, ValueTypes, v_cons, type_of, v_nil}
 use Rattle.tophat.proofs.ComputeEvaluation.{is_true, first_part, second_part, branch, eval, overflows}
 use Rattle.tophat.proofs.EvaluationAgrees.{look_up, eval_good}
 use Rattle.tophat.proofs.Leaves.{type_of_lem}
@@ -82,6 +82,7 @@ or_none false = refl
 
 -- a typed place is in the list
 pub in_list : {vs : List Val} {τs : List Ty} {n : ℕ} {τ : Ty} → ValueTypes vs τs → At τs n τ → n < length vs
+in_list v_nil d = elim d [ ]
 in_list (v_cons h hs) here = omega arith
 in_list (v_cons h hs) (there d) = let l = in_list hs d in omega arith
 
@@ -184,11 +185,17 @@ module _ (rs : List ℕ) (i : ℕ) (env : List ℕ) (d : ℕ) where
 
     first_of_pair : (u : Val) {τ υ : Ty} → ValueType u (pair τ υ) → leaves (pair τ υ) ≤ max_leaves → x.value ≡ as_value u → v ≡ first_value x.value → v ≡ as_value (first_part u)
     unfolding first_part leaves
+    first_of_pair vunit d l e f = elim d [ ]
+    first_of_pair (vtruth _) d l e f = elim d [ ]
+    first_of_pair (vnumber _) d l e f = elim d [ ]
     first_of_pair (vpair u w) (v_pair g h) l e f =
         f ∙ ap first_value e ∙ first_value_lem u w (small_parts g h l)
 
     second_of_pair : (u : Val) {τ υ : Ty} → ValueType u (pair τ υ) → leaves (pair τ υ) ≤ max_leaves → x.value ≡ as_value u → v ≡ second_value x.value → v ≡ as_value (second_part u)
     unfolding second_part leaves
+    second_of_pair vunit d l e f = elim d [ ]
+    second_of_pair (vtruth _) d l e f = elim d [ ]
+    second_of_pair (vnumber _) d l e f = elim d [ ]
     second_of_pair (vpair u w) (v_pair g h) l e f =
         f ∙ ap second_value e ∙ second_value_lem u w (small_parts g h l)
 

@@ -44,10 +44,10 @@ abbrev entries_calls : ℕ → entries-lts.Claims
 entries_calls t = (handed_on-reads.Asked, handed_on-reads.Learnt, shut-reads.Asked, shut-reads.Learnt, enclose-reads.Asked, enclose-reads.Learnt, operand-reads.Asked, operand-reads.Learnt, entries_below t, entries.Post, get-reads.Asked, get-reads.Learnt, goes-on-reads.Asked, goes-on-reads.Learnt, least-reads.Asked, least-reads.Learnt, button-reads.Asked, button-reads.Learnt, choice-reads.Asked, choice-reads.Learnt, offer-reads.Asked, offer-reads.Learnt)
 
 entries_handed_on_requires : (t : ℕ) → entries-lts.Need-handed_on-part-requires (entries_calls t) (entries_at t) entries.Post
-entries_handed_on_requires t c κs = c.before.requires.1.0.low
+entries_handed_on_requires t c κs = c.requires.1.0.low
 
 entries_shut_requires : (t : ℕ) → entries-lts.Need-shut-requires (entries_calls t) (entries_at t) entries.Post
-entries_shut_requires t c κs = c.before.before.before.requires.1.0.low
+entries_shut_requires t c κs = c.requires.1.0.low
 
 entries_returns : (t : ℕ) → entries-lts.Need-returns-then-shut (entries_calls t) (entries_at t) entries.Post
 entries_returns t c =
@@ -68,14 +68,14 @@ entries_entries_requires t c κs =
     c.enclose-under.ensures.room c.requires.1.1
 
 entries_same_length : (t : ℕ) → entries-lts.Need-shape_of-list-then-part-ne0 (entries_calls t) (entries_at t) entries.Post
-entries_same_length t c = c.before.before.entries.auto.list
+entries_same_length t c = c.entries.auto.list
 
 entries_returns_2 : (t : ℕ) → entries-lts.Need-returns-then-part-ne0 (entries_calls t) (entries_at t) entries.Post
 entries_returns_2 t c =
     (c.entries.ensures.0, entries_part c.args.who c.args.rows.now c.args.state.now c.args.row c.args.env.now c.args.depth (path_of c.args.marks) c.args.list.now c.shut.result c.shut.ensures c.if-shut.false (c.handed_on-part.ensures.on c.if-part-ne0.true) c.operand-a.ensures c.enclose-under.new.env c.enclose-under.result c.enclose-under.ensures c.entries.new.list c.entries.result c.entries.ensures.1)
 
 entries_get_requires : (t : ℕ) → entries-lts.Need-get-kind-requires (entries_calls t) (entries_at t) entries.Post
-entries_get_requires t c κs = (c.before.before.before.requires.1.0.low, omega arith)
+entries_get_requires t c κs = (c.requires.1.0.low, omega arith)
 
 entries_operand_requires_2 : (t : ℕ) → entries-lts.Need-operand-a-requires-2 (entries_calls t) (entries_at t) entries.Post
 entries_operand_requires_2 t c κs =
@@ -128,21 +128,21 @@ entries_entries_requires_4 t c κs =
     c.requires.1.0.room (at_first c.requires.1.1 c.if-unit-eq-MOST_UNIT.false).1
 
 entries_same_length_2 : (t : ℕ) → entries-lts.Need-shape_of-list-in-43 (entries_calls t) (entries_at t) entries.Post
-entries_same_length_2 t c = c.before.before.entries-in-43.auto.list
+entries_same_length_2 t c = c.entries-in-43.auto.list
 
 entries_returns_4 : (t : ℕ) → entries-lts.Need-returns-in-43 (entries_calls t) (entries_at t) entries.Post
 entries_returns_4 t c =
     (c.entries-in-43.ensures.0, entries_then (who_of c.args.who) c.args.rows.now c.args.state.now c.args.row c.args.env.now c.args.depth (path_of c.args.marks) c.args.list.now (c.handed_on-part.ensures.none c.if-part-ne0.false) c.entries-in-43.new.list c.operand-a-2.result c.entries-in-43.result (sym c.get-kind.ensures ∙ c.in-43.is) c.operand-a-2.ensures c.entries-in-43.ensures.1)
 
 entries_same_length_4 : (t : ℕ) → entries-lts.Need-shape_of-list-in-48 (entries_calls t) (entries_at t) entries.Post
-entries_same_length_4 t c = c.before.before.choice.auto.list
+entries_same_length_4 t c = c.choice.auto.list
 
 entries_returns_6 : (t : ℕ) → entries-lts.Need-returns-in-48 (entries_calls t) (entries_at t) entries.Post
 entries_returns_6 t c =
     (c.choice.ensures.0, c.choice.ensures.1 (who_of c.args.who))
 
 entries_same_length_5 : (t : ℕ) → entries-lts.Need-shape_of-list-in-40-to-42 (entries_calls t) (entries_at t) entries.Post
-entries_same_length_5 t c = c.before.before.offer.auto.list
+entries_same_length_5 t c = c.offer.auto.list
 
 entries_returns_7 : (t : ℕ) → entries-lts.Need-returns-in-40-to-42 (entries_calls t) (entries_at t) entries.Post
 entries_returns_7 t c =

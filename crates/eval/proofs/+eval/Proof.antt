@@ -71,7 +71,7 @@ pub +eval_spec : {M : Type 1} → statement M
 )
     (eval_at t)
     eval.Post
-    (λ c κs. (c.requires.1.low, omega arith)) (λ c κs. (c.before.before.before.requires.1.low, omega arith))
+    (λ c κs. (c.requires.1.low, omega arith)) (λ c κs. (c.requires.1.low, omega arith))
     (λ c κs.
     call_b c.requires c.get-kind.result c.operand.result c.get-kind.ensures c.operand.ensures (omega (arith, c.in-24.is)))
     (λ c κs.
@@ -79,8 +79,8 @@ pub +eval_spec : {M : Type 1} → statement M
     (λ c κs.
     call_c c.requires c.get-kind.result c.operand-in-24.result c.get-kind.ensures c.operand-in-24.ensures (omega (arith, c.in-24.is)) (omega (arith, c.in-24.is)))
     (λ c κs.
-    (start.requires.1.low, omega arith)) (λ c κs. search rules) (λ c κs. search rules) (λ c κs. search rules)
-    (λ c κs. (c.before.before.before.requires.1.low, omega arith))
+    (c.requires.1.low, omega arith)) (λ c κs. search rules) (λ c κs. search rules) (λ c κs. search rules)
+    (λ c κs. (c.requires.1.low, omega arith))
     (λ c κs.
     call_a c.requires c.get-kind.result c.operand-in-25.result c.get-kind.ensures c.operand-in-25.ensures (omega (arith, c.in-25.is)) (omega (arith, c.in-25.is)))
     (λ c κs. search rules)
@@ -100,19 +100,19 @@ pub +eval_spec : {M : Type 1} → statement M
     (λ c κs.
     call_c c.requires c.get-kind.result c.operand-in-25-2.result c.get-kind.ensures c.operand-in-25-2.ensures (omega (arith, c.in-25.is)) (omega (arith, c.in-25.is)))
     (λ c κs. search rules)
-    (λ c κs. (c.before.before.before.requires.1.low, omega arith))
+    (λ c κs. (c.requires.1.low, omega arith))
     (λ c κs.
     call_a c.requires c.get-kind.result c.operand-in-26.result c.get-kind.ensures c.operand-in-26.ensures (omega (arith, c.in-26.is)) (omega (arith, c.in-26.is)))
     (λ c κs.
     (c.requires.1.low, omega arith))
     (λ c κs.
     call_b c.requires c.get-kind.result c.operand-in-26-2.result c.get-kind.ensures c.operand-in-26-2.ensures (omega (arith, c.in-26.is)))
-    (λ c κs. search rules) (λ c κs. search rules) (λ c κs. search rules) (λ c κs. search rules) (λ c κs. (c.before.before.before.requires.1.low, omega arith))
+    (λ c κs. search rules) (λ c κs. search rules) (λ c κs. search rules) (λ c κs. search rules) (λ c κs. (c.requires.1.low, omega arith))
     (λ c κs.
     let h = low_a c.requires.1 c.get-kind.result c.operand-in-29.result c.get-kind.ensures c.operand-in-29.ensures (omega (arith, c.in-29.is)) (omega (arith, c.in-29.is)) in
     omega (arith, c.requires.1.low))
     (λ c κs. search rules)
-    (λ c κs. (c.before.before.before.requires.1.low, omega arith))
+    (λ c κs. (c.requires.1.low, omega arith))
     (λ c κs.
     call_b c.requires c.get-kind.result c.operand-in-30.result c.get-kind.ensures c.operand-in-30.ensures (omega (arith, c.in-30.is)))
     (λ c κs.
@@ -121,7 +121,7 @@ pub +eval_spec : {M : Type 1} → statement M
     let h = low_a c.requires.1 c.get-kind.result c.operand-in-30-2.result c.get-kind.ensures c.operand-in-30-2.ensures (omega (arith, c.in-30.is)) (omega (arith, c.in-30.is)) in
     omega (arith, c.requires.1.low))
     (λ c κs. search rules) (λ c κs. search rules)
-    (λ c κs. search rules) (λ c κs. (c.before.before.before.requires.1.low, omega arith))
+    (λ c κs. search rules) (λ c κs. (c.requires.1.low, omega arith))
     (λ c κs.
     call_a c.requires c.get-kind.result c.operand-in-31.result c.get-kind.ensures c.operand-in-31.ensures (omega (arith, c.in-31.is)) (omega (arith, c.in-31.is)))
     (λ c κs. search rules) (λ c κs. search rules)
@@ -130,7 +130,7 @@ pub +eval_spec : {M : Type 1} → statement M
     c.eval-bound.new.state c.sure-then-depth-ge-MAX_BINDERS.result (sym c.get-kind.ensures ∙ c.in-31.is) c.if-depth-ge-MAX_BINDERS.true)
     (λ c κs. c.if-depth-ge-MAX_BINDERS.false)
     (λ c κs.
-    (start.requires.1.low, omega arith)) (λ c. search rules)
+    (c.requires.1.low, omega arith)) (λ c. search rules)
     (λ c κs.
     let h = low_b c.requires.1 c.get-kind.result c.operand-in-31-2.result c.get-kind.ensures c.operand-in-31-2.ensures (omega (arith, c.in-31.is)) in
     (omega (arith, c.requires.0), fine_at c.requires.1 _ _ (omega arith) (omega (arith, c.if-depth-ge-MAX_BINDERS.false))))
@@ -197,4 +197,4 @@ pub +eval_spec : {M : Type 1} → statement M
     (λ c.
     let g = c.get-kind.ensures in
     eval_none c.args.rows.now c.args.row c.args.env.now c.args.depth c.args.state.now c.sure-in_default.result
-    (λ p q. ⊎_elim (λ z. let y = z.taken in omega arith) (λ z. let y = z.2.left in omega (arith, c.in_default-1.rest.1, c.in_default-1.rest.0.1, c.in_default-1.rest.0.0.1)) c.in_default.branch))
+    (λ p q. ⊎_elim (λ z. omega arith) (λ z. omega (arith, c.in_default-1.rest.1, c.in_default-1.rest.0.1, c.in_default-1.rest.0.0.1)) c.in_default.branch-raw))

@@ -10,7 +10,7 @@ same_length : tie.Need-shape_of-state
 same_length c = search rules
 
 returns : tie.Need-returns
-returns c = let (answered, bounded) = c.before.handle-handled.ensures in (answered.0, (answered.1, (answered.2, bounded)))
+returns c = let (answered, bounded) = c.handle-handled.ensures in (answered.0, (answered.1, (answered.2, bounded)))
 
 pub nannyjiffy_handle_spec : {M : Type 1} → statement M
 nannyjiffy_handle_spec = tie.close (tie.spec handle_requires same_length returns)

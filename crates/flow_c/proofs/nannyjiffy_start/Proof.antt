@@ -10,7 +10,7 @@ same_length : tie.Need-shape_of-state
 same_length c = search rules
 
 returns : tie.Need-returns
-returns c = let (answered, bounded) = c.before.start-started.ensures in (answered.0, (answered.1, (answered.2, bounded)))
+returns c = let (answered, bounded) = c.start-started.ensures in (answered.0, (answered.1, (answered.2, bounded)))
 
 pub nannyjiffy_start_spec : {M : Type 1} → statement M
 nannyjiffy_start_spec = tie.close (tie.spec start_requires same_length returns)

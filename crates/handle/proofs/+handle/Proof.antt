@@ -49,7 +49,7 @@ handle_calls t = (handed_on-reads.Asked, handed_on-reads.Learnt, enclose-reads.A
 pub +handle_spec : {M : Type 1} → statement M
 +handle_spec = close μ_handle λ t. handle-lts.spec (handle_calls t) (handle_at t)
     handle.Post
-    (λ c κs. c.before.requires.1.0.low)
+    (λ c κs. c.requires.1.0.low)
     (λ c κs.
     (c.requires.1.0.low, c.requires.1.0.room))
     (λ c κs.
@@ -64,7 +64,7 @@ pub +handle_spec : {M : Type 1} → statement M
     c.args.depth c.args.e.role (event_path c.args.e) (event_action c.args.e) c.handle-told.result c.pass.result c.pass.ensures
     (c.handed_on-part.ensures.on c.if-part-ne0.true) c.operand.ensures c.enclose-under.new.env c.enclose-under.result
     c.enclose-under.ensures c.handle-told.ensures)
-    (λ c κs. (c.before.before.before.requires.1.0.low, omega arith))
+    (λ c κs. (c.requires.1.0.low, omega arith))
     (λ c κs.
     (c.requires.1.0.low, omega arith))
     (λ c κs.

@@ -11,7 +11,7 @@ use Rattle.handle.proofs.edit.Tie as tie
 pub edit_spec : {M : Type 1} → statement M
 edit_spec = tie.close (tie.spec
     (λ c κs. (c.requires.0.low, omega arith))
-    (λ c κs. (c.before.requires.0.low, omega arith))
+    (λ c κs. (c.requires.0.low, omega arith))
     (λ c κs.
     (c.requires.0.low, omega arith))
     (λ c κs.

@@ -5,7 +5,7 @@ use Rattle.handle.proofs.gate_verdict.Tie as tie
 
 pub gate_verdict_spec : {M : Type 1} → statement M
 gate_verdict_spec = tie.close (tie.spec
-    (λ c. let s = c.before.args in verdict_other s.role s.own s.touches s.verdict c.if-role-own.true)
+    (λ c. let s = c.args in verdict_other s.role s.own s.touches s.verdict c.if-role-own.true)
     (λ c. let s = c.args in verdict_below s.role s.own s.touches s.verdict c.if-role-own.false c.if-verdict-eq-OTHER_ROLE.true)
     (λ c.
     let s = c.args in

@@ -15,7 +15,7 @@ going_on_spec = tie.close (tie.spec
     (λ c.
     subst (GoingOk c.args.rows.now c.args.state.now c.args.row c.args.e) (sym c.none.ensures)
     (going_none c.args.rows.now c.args.state.now c.args.row c.args.e (c.ends.ensures.no (not-true _ (not_from_false _ c.if-not-ends.true)))))
-    (λ c κs. c.before.before.requires)
+    (λ c κs. c.requires)
     (λ c.
     going_value c.args.rows.now c.args.state.now c.args.row c.args.e c.value.result
     (c.ends.ensures.yes (not-false _ (not_from_true _ c.if-not-ends.false))) c.value.ensures))

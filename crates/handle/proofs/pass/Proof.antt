@@ -9,7 +9,7 @@ use Rattle.handle.proofs.pass.Tie as tie
 pub pass_spec : {M : Type 1} → statement M
 pass_spec = tie.close (tie.spec
     (λ c κs. (c.requires, omega arith))
-    (λ c. pass_other (λ e. c.if-get-ne-GATE.true (c.before.get.ensures ∙ e)))
+    (λ c. pass_other (λ e. c.if-get-ne-GATE.true (c.get.ensures ∙ e)))
     (λ c. pass_none c.if-answer-eq-NOT_HANDLED.true)
     (λ c κs. search rules)
     (λ c κs. search rules)

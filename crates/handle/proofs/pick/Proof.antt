@@ -11,7 +11,7 @@ use Rattle.rows.specs.Kinds.{task_k, xor_k, number_of}
 pub pick_spec : {M : Type 1} → statement M
 pick_spec = tie.close (tie.spec
     (λ c κs. search rules)
-    (λ c κs. (c.before.before.before.requires.0.low, omega arith))
+    (λ c κs. (c.requires.0.low, omega arith))
     (λ c κs.
     let f = c.requires.0 in
     let h = low_a f (number_of (task_k xor_k)) c.operand.result (sym c.requires.1) c.operand.ensures (omega arith) (omega arith) in

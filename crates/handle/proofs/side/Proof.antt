@@ -5,7 +5,7 @@ use Rattle.handle.proofs.side.Tie as tie
 
 pub side_spec : {M : Type 1} → statement M
 side_spec = tie.close (tie.spec
-    (λ c κs. c.before.before.requires.1)
+    (λ c κs. c.requires.1)
     (λ c.
     side_fails c.args.rows.now c.args.state.now c.settle.new.state c.args.row c.args.a c.args.tag
     c.args.env.now c.args.depth c.settle.result c.settle.ensures c.if-settle.true)

@@ -9,5 +9,5 @@ use Rattle.rows.proofs.is_role.Tie as tie
 pub is_role_spec : {M : Type 1} → statement M
 unfolding is_role
 is_role_spec = tie.close (tie.spec
-    (λ c. let w = c.before.args.w in let e = c.if-w-eq0.true in sym (rw e))
-    (λ c. let w = c.before.args.w in sym (rw (le-leb 1 w (omega (arith, c.if-w-eq0.false))))))
+    (λ c. let w = c.args.w in let e = c.if-w-eq0.true in sym (rw e))
+    (λ c. let w = c.args.w in sym (rw (le-leb 1 w (omega (arith, c.if-w-eq0.false))))))

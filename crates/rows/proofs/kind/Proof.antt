@@ -9,5 +9,5 @@ kind_spec = tie.close (tie.spec
     (λ c. search rules)
     (λ c. search rules)
     (λ c. search rules)
-    (λ c. let s = c.before.before.args in first_word s.rows.now s.row)
+    (λ c. let s = c.args in first_word s.rows.now s.row)
     (λ c. word_past c.args.rows.now c.args.row 0 c.requires c.if-row-lt-MAX_ROWS.false))

@@ -42,7 +42,7 @@ pub +evaluate_spec : {M : Type 1} → statement M
 +evaluate_spec = close μ_evaluate λ t. evaluate-lts.spec (evaluate_calls t) (evaluate_at t)
     evaluate.Post
     (λ c κs. (c.requires.1.low, omega arith))
-    (λ c κs. (c.before.before.before.requires.1.low, omega arith))
+    (λ c κs. (c.requires.1.low, omega arith))
     (λ c κs.
     (call_a c.requires c.get-kind.result c.operand.result c.get-kind.ensures c.operand.ensures (omega (arith, c.in-25.is)) (omega (arith, c.in-25.is))).1)
     (λ c κs. search rules)
@@ -64,7 +64,7 @@ pub +evaluate_spec : {M : Type 1} → statement M
     call_c c.requires c.get-kind.result c.operand-in-25.result c.get-kind.ensures c.operand-in-25.ensures (omega (arith, c.in-25.is)) (omega (arith, c.in-25.is)))
     (λ c κs.
     c.requires.1.low)
-    (λ c κs. (c.before.before.before.requires.1.low, omega arith))
+    (λ c κs. (c.requires.1.low, omega arith))
     (λ c κs.
     (call_a c.requires c.get-kind.result c.operand-in-31.result c.get-kind.ensures c.operand-in-31.ensures (omega (arith, c.in-31.is)) (omega (arith, c.in-31.is))
     ).1)
@@ -77,7 +77,7 @@ pub +evaluate_spec : {M : Type 1} → statement M
     (λ c κs.
     let h = low_b c.requires.1 c.get-kind.result c.operand-in-31-2.result c.get-kind.ensures c.operand-in-31-2.ensures (omega (arith, c.in-31.is)) in
     (omega (arith, c.requires.0), fine_at c.requires.1 c.operand-in-31-2.result c.bind-deeper.result (omega arith) c.bind-deeper.ensures.room))
-    (λ c κs. (c.before.before.before.requires.1.low, omega arith))
+    (λ c κs. (c.requires.1.low, omega arith))
     (λ c κs.
     (call_a c.requires c.get-kind.result c.operand-in-40.result c.get-kind.ensures c.operand-in-40.ensures (⊎_elim (λ e. omega (arith, e)) (λ e. omega (arith, e)) c.in-40.is)
     (⊎_elim (λ e. omega (arith, e)) (λ e. omega (arith, e)) c.in-40.is)).1)

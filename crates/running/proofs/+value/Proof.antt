@@ -43,14 +43,14 @@ pub +value_spec : {M : Type 1} → statement M
 +value_spec = close μ_value λ t. value-lts.spec (value_calls t) (value_at_lem t)
     value.Post
     (λ c κs. c.requires.1.low)
-    (λ c κs. (c.before.before.requires.1.low, c.before.handed_on-k.ensures.low))
+    (λ c κs. (c.requires.1.low, c.handed_on-k.ensures.low))
     (λ c κs.
     let l = low_part c.args.rows.now c.args.row c.requires.1 (c.handed_on-k.ensures.on c.if-k-ne0.true) c.operand.ensures in
     (omega (arith, c.requires.0), fine_part c.args.rows.now c.args.row c.requires.1 (c.handed_on-k.ensures.on c.if-k-ne0.true) c.operand.ensures c.requires.1.room))
     (λ c.
     value_hands c.args.rows.now c.args.state.now c.args.row (c.handed_on-k.ensures.on c.if-k-ne0.true)
     c.operand.ensures c.value.result c.value.ensures)
-    (λ c κs. (c.before.before.requires.1.low, omega arith))
+    (λ c κs. (c.requires.1.low, omega arith))
     (λ c κs.
     c.requires.1.low)
     (λ c κs. search rules)

@@ -11,7 +11,7 @@ pub handed_on_spec : {M : Type 1} → statement M
 handed_on_spec = tie.close (tie.spec
     (λ c κs. search rules)
     (λ c κs. search rules)
-    (λ c. handed_gate (sym c.before.before.get-kind.ensures ∙ c.if-kind-eq-GATE.true))
+    (λ c. handed_gate (sym c.get-kind.ensures ∙ c.if-kind-eq-GATE.true))
     (λ c.
     let g = c.get-kind.ensures in
     let t = c.read-tag.ensures in

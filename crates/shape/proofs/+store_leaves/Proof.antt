@@ -33,7 +33,7 @@ pub +store_leaves_spec : {M : Type 1} → statement M
 )
     (store_leaves_at t)
     store-leaves.Post
-    (λ c. let q = c.before.args in store_end q.d q.c q.i q.kinds c.if-d-eq0.true)
+    (λ c. let q = c.args in store_end q.d q.c q.i q.kinds c.if-d-eq0.true)
     (λ c. search rules)
     (λ c κs.
     let q = c.args in

@@ -28,10 +28,10 @@ pub +width_of_spec : {M : Type 1} → statement M
     (width_of_below t, width_of_lem.Post)
     (width_of_at t)
     width_of_lem.Post
-    (λ c. (width_one c.before.args.n c.if-n-lt2.true, omega arith))
+    (λ c. (width_one c.args.n c.if-n-lt2.true, omega arith))
     (λ c. search rules)
     (λ c κs. search rules)
     (λ c.
     omega
     (arith, width_fits c.args.n c.requires.1, width_more c.args.n c.width_of.result c.if-n-lt2.false c.width_of.ensures.0))
-    (λ c. (width_more c.before.before.args.n c.width_of.result c.before.if-n-lt2.false c.width_of.ensures.0, omega arith))
+    (λ c. (width_more c.args.n c.width_of.result c.if-n-lt2.false c.width_of.ensures.0, omega arith))

@@ -8,7 +8,7 @@ pub first_shape_spec : {M : Type 1} → statement M
 first_shape_spec =
     tie.close (tie.spec
     (λ c κs. search rules)
-    (λ c. first_no c.before.before.args.shape (omega (arith, c.if-leaves_of-lt2.true, c.before.leaves_of.ensures.0)))
+    (λ c. first_no c.args.shape (omega (arith, c.if-leaves_of-lt2.true, c.leaves_of.ensures.0)))
     (λ c κs. search rules)
     (λ c. search rules)
     (λ c.

@@ -10,5 +10,5 @@ use Rattle.shape.proofs.first_width.Tie as tie
 pub first_width_spec : {M : Type 1} → statement M
 first_width_spec = tie.close (tie.spec
     (λ c κs. search rules)
-    (λ c κs. omega (arith, first_leaves c.before.args.c c.before.requires, c.count_leaves.ensures.0))
-    (λ c. (c.width_of.ensures.0 ∙ ap width c.before.count_leaves.ensures.0, c.width_of.ensures.1)))
+    (λ c κs. omega (arith, first_leaves c.args.c c.requires, c.count_leaves.ensures.0))
+    (λ c. (c.width_of.ensures.0 ∙ ap width c.count_leaves.ensures.0, c.width_of.ensures.1)))

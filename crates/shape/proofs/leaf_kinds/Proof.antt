@@ -8,7 +8,7 @@ use Rattle.shape.proofs.leaf_kinds.Tie as tie
 pub leaf_kinds_spec : {M : Type 1} → statement M
 leaf_kinds_spec = tie.close (tie.spec
     (λ c κs. search rules)
-    (λ c. kinds_none c.before.before.args.shape (sym c.before.leaves_of.ensures.0 ∙ c.if-leaves_of-eq0.true))
-    (λ c κs. omega (arith, kinds_room c.before.before.args.shape (λ e. c.if-leaves_of-eq0.false (c.before.leaves_of.ensures.0 ∙ e))))
+    (λ c. kinds_none c.args.shape (sym c.leaves_of.ensures.0 ∙ c.if-leaves_of-eq0.true))
+    (λ c κs. omega (arith, kinds_room c.args.shape (λ e. c.if-leaves_of-eq0.false (c.leaves_of.ensures.0 ∙ e))))
     (λ c.
     c.store_leaves.ensures ∙ kinds_yes c.args.shape (λ e. c.if-leaves_of-eq0.false (c.leaves_of.ensures.0 ∙ e))))

@@ -66,7 +66,7 @@ pub +clear_spec : {M : Type 1} → statement M
     (λ e. clear_let rs i (q ∙ e) c.operand-b-in-31.ensures c.clear-in-31.ensures c.clear_row-in-31.ensures)
     (λ e. clear_gate rs i (q ∙ e) c.operand-b-in-31.ensures c.clear-in-31.ensures c.clear_row-in-31.ensures)
     c.in-31.is)
-    (λ c κs. c.before.before.before.requires.1.low)
+    (λ c κs. c.requires.1.low)
     (λ c.
     let e = sym c.get-kind.ensures ∙ c.in-45.is in
     clear_leaf c.args.rows.now c.args.row (λ z. omega arith) (λ z. omega arith) (λ z. omega arith) (λ x y z. z e) c.clear_row-in-45.ensures)

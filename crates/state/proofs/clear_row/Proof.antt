@@ -20,6 +20,6 @@ clear_row_spec = tie.close (tie.spec
     (λ c. (search rules, clear_none _ _))
     (λ c κs. search rules) (λ c. search rules) (λ c. search rules)
     (λ c.
-    let l = c.before.before.before.loop-m in
+    let l = c.loop-m in
     (omega arith, clear_more (search rules) (put_is (search rules) c.put.ensures.0 c.put.ensures.1) l.invariant.1))
-    (λ c. clear_all c.loop-m-test.false c.before.loop-m.invariant.1))
+    (λ c. clear_all c.loop-m-test.false c.loop-m.invariant.1))

@@ -22,7 +22,7 @@ pub env_get_spec : {M : Type 1} → statement M
 env_get_spec = tie.close (tie.spec
     invariant-loop
     decreases-loop
-    (λ c. let a = c.before.args in binder_out a.env.now a.depth a.k c.if-depth-k.true)
+    (λ c. let a = c.args in binder_out a.env.now a.depth a.k c.if-depth-k.true)
     (λ c. search rules) (λ c. search rules) (λ c κs. search rules)
     (λ c. search rules)
     (λ c. search rules) (λ c κs. search rules) (λ c. search rules) (λ c. search rules) (λ c. search rules) (λ c. search rules)

@@ -9,4 +9,4 @@ use Rattle.state.proofs.put_tag.Tie as tie
 pub put_tag_spec : {M : Type 1} → statement M
 put_tag_spec = tie.close (tie.spec
     (λ c κs. search rules) (λ c κs. search rules)
-    (λ c. laid_more refl (put_is (omega arith) c.put.ensures.0 c.put.ensures.1) c.before.before.clear_row.ensures))
+    (λ c. laid_more refl (put_is (omega arith) c.put.ensures.0 c.put.ensures.1) c.clear_row.ensures))

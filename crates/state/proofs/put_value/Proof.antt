@@ -21,7 +21,7 @@ put_value_spec = tie.close (tie.spec
     invariant-loop
     decreases-loop
     (λ c κs. search rules) (λ c κs. search rules)
-    (λ c. (search rules, leaves_none _ _ _ c.before.before.before.before.before.args.v.leaves))
+    (λ c. (search rules, leaves_none _ _ _ c.args.v.leaves))
     (λ c. search rules) (λ c. search rules) (λ c. search rules) (λ c κs. search rules) (λ c. search rules) (λ c. search rules)
     (λ c.
     let l = c.loop-k in

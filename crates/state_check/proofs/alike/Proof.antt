@@ -21,7 +21,7 @@ alike_spec = tie.close (tie.spec invariant-loop decreases-loop
     let s = c.args in
     alike_no s.x.now s.y.now c.loop-k.k s.m c.loop-k-test.true c.if-x-k.true)
     (λ c. search rules)
-    (λ c. let l = c.before.before.before.loop-k-test.true in omega arith)
+    (λ c. let l = c.loop-k-test.true in omega arith)
     (λ c.
     let s = c.args in
     let l = c.loop-k-test.true in

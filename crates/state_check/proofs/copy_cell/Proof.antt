@@ -11,4 +11,4 @@ copy_cell_spec = tie.close (tie.spec
     let s = c.args in
     copy_cell_is s.rows.now s.row s.state.now c.get.ensures c.if-get-eq-CELL.true c.cell_shape-t.ensures
     c.copy_value.ensures)
-    (λ c. let s = c.before.before.args in copy_cell_none s.rows.now s.row s.state.now c.before.get.ensures c.if-get-eq-CELL.false))
+    (λ c. let s = c.args in copy_cell_none s.rows.now s.row s.state.now c.get.ensures c.if-get-eq-CELL.false))

@@ -28,7 +28,7 @@ copy_cells_spec = tie.close (tie.spec invariant-loop decreases-loop
     no_more_cells s.rows.now s.state.now c.loop-i.i s.n c.loop-i.invariant.1 c.loop-i-test.true c.copy_cell.ensures
     (not_from_false _ c.if-not-copy_cell.true))
     (λ c. search rules)
-    (λ c. let l = c.before.before.before.loop-i-test.true in omega arith)
+    (λ c. let l = c.loop-i-test.true in omega arith)
     (λ c.
     let l = c.loop-i-test.true in
     (omega arith, next_cells c.args.state.now c.loop-i.invariant.1 c.copy_cell.ensures (not_from_true _ c.if-not-copy_cell.false)))

@@ -8,5 +8,5 @@ use Rattle.state_check.proofs.held.Tie as tie
 pub held_spec : {M : Type 1} → statement M
 held_spec = tie.close (tie.spec
     (λ c κs. search rules)
-    (λ c. held_yes c.before.written.ensures c.if-written.true)
-    (λ c. (held_no c.before.before.written.ensures c.before.if-written.false, (λ e. refl))))
+    (λ c. held_yes c.written.ensures c.if-written.true)
+    (λ c. (held_no c.written.ensures c.if-written.false, (λ e. refl))))

@@ -8,9 +8,9 @@ use Rattle.state_check.proofs.part_at.Tie as tie
 pub part_at_spec : {M : Type 1} → statement M
 part_at_spec = tie.close (tie.spec
     (λ c κs. (c.requires.low, omega arith))
-    (λ c κs. (c.before.requires.low, omega arith))
-    (λ c κs. (c.before.before.requires.low, omega arith))
-    (λ c κs. (c.before.before.before.requires.low, omega arith))
+    (λ c κs. (c.requires.low, omega arith))
+    (λ c κs. (c.requires.low, omega arith))
+    (λ c κs. (c.requires.low, omega arith))
     (λ c κs. search rules)
     (λ c.
     part_is c.args.tag c.get-kind.result c.operand-a.result c.operand-b.result c.operand-c.result

@@ -17,8 +17,8 @@ written_spec = tie.close (tie.spec
     let h = c.requires.0.1.low in
     record { fits = omega arith })
     (λ c κs.
-    let l = c.before.before.before.before.before.before.before.before.before.requires.0.0 in let h = c.before.before.before.before.before.before.before.before.before.requires.0.1.low in
-    let x : length c.before.before.before.before.before.before.before.before.before.args.state.now ≡ state_size = search rules in let y : length c.before.before.before.before.copy_task.new.work ≡ state_size = search rules in
+    let l = c.requires.0.0 in let h = c.requires.0.1.low in
+    let x : length c.args.state.now ≡ state_size = search rules in let y : length c.copy_task.new.work ≡ state_size = search rules in
     (omega (arith, l, h, x), omega (arith, l, h, y)))
     (λ c. let s = c.before.before.before.before.before.before.before.before.before.before in
     let x : length s.args.state.now ≡ state_size = search rules in let y : length c.copy_task.new.work ≡ state_size = search rules in

@@ -13,9 +13,9 @@ pub apply_spec : {M : Type 1} → statement M
 apply_spec = tie.close (tie.spec
     (λ c. search rules) (λ c. search rules) (λ c κs. search rules) (λ c. search rules)
     (λ c κs. search rules) (λ c κs. search rules) (λ c κs. search rules)
-    (λ c. c.sure.ensures ∙ ap sure_of c.before.truth.ensures ∙ c.before.before.compared.ensures)
+    (λ c. c.sure.ensures ∙ ap sure_of c.truth.ensures ∙ c.compared.ensures)
     (λ c κs. search rules) (λ c κs. search rules) (λ c κs. search rules)
-    (λ c. c.sure-in-7-to-8.ensures ∙ ap sure_of c.before.truth-in-7-to-8.ensures ∙ c.before.before.connected.ensures)
+    (λ c. c.sure-in-7-to-8.ensures ∙ ap sure_of c.truth-in-7-to-8.ensures ∙ c.connected.ensures)
     (λ c κs. search rules) (λ c κs. search rules)
     (λ c.
     other_is c.args.op (get_or c.args.a.leaves 0 0) (get_or c.args.b.leaves 0 0) c.result.result

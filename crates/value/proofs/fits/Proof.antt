@@ -25,9 +25,9 @@ pub fits_spec : {M : Type 1} → statement M
 fits_spec = tie.close (tie.spec
     invariant-loop
     decreases-loop
-    (λ c. let a = c.before.before.args in (fits_other a.v a.shape c.if-v-shape.true, λ z. absurd (false≢true z)))
+    (λ c. let a = c.args in (fits_other a.v a.shape c.if-v-shape.true, λ z. absurd (false≢true z)))
     (λ c κs. search rules) (λ c. search rules)
-    (λ c. let a = c.before.before.before.before.args in (fits_none a.v a.shape c.before.leaf_kinds-kinds.result c.before.leaf_kinds-kinds.ensures c.if-kinds-eq-NO_LEAF.true, λ z. absurd (false≢true z)))
+    (λ c. let a = c.args in (fits_none a.v a.shape c.leaf_kinds-kinds.result c.leaf_kinds-kinds.ensures c.if-kinds-eq-NO_LEAF.true, λ z. absurd (false≢true z)))
     (λ c. (omega arith, (λ j h. absurd (omega arith)), (λ j h. absurd (omega arith))))
     (λ c. search rules) (λ c. search rules) (λ c. search rules) (λ c. search rules) (λ c κs. search rules)
     (λ c.

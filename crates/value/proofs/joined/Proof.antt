@@ -30,6 +30,6 @@ joined_spec = tie.close (tie.spec
     let x = ⊎_elim (λ w. joined_front a.xs a.ys a.n l.i c.if-i-n.leaves w.if-i-n.true w.leaves-is) (λ w. joined_back a.xs a.ys a.n l.i c.if-i-n.leaves w.if-i-n.false (w.leaves-is ∙ w.leaf.ensures)) c.if-i-n.branch-raw in
     (omega arith, length-set l.leaves l.i c.if-i-n.leaves ∙ l.invariant.1, filled_more (joined_at a.n a.xs a.ys) 0 l.leaves l.i c.if-i-n.leaves (omega arith) x l.invariant.2))
     (λ c.
-    let l = c.before.loop-i in
-    let a = c.before.before.args in
+    let l = c.loop-i in
+    let a = c.args in
     filled_all (joined_at a.n a.xs a.ys) 0 max_leaves l.i l.leaves l.invariant.1 c.loop-i-test.false l.invariant.2))

@@ -27,6 +27,6 @@ leaves_from_spec = tie.close (tie.spec
     let x = c.leaf.result in
     (omega arith, length-set l.leaves l.i x ∙ l.invariant.1, filled_more (λ j. get_or a.xs (a.n + j) 0) 0 l.leaves l.i x (omega arith) c.leaf.ensures l.invariant.2))
     (λ c.
-    let l = c.before.loop-i in
-    let a = c.before.before.args in
+    let l = c.loop-i in
+    let a = c.args in
     filled_all (λ j. get_or a.xs (a.n + j) 0) 0 max_leaves l.i l.leaves l.invariant.1 c.loop-i-test.false l.invariant.2))

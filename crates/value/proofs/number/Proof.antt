@@ -7,4 +7,4 @@ use Rattle.value.proofs.number.Tie as tie
 
 pub number_spec : {M : Type 1} → statement M
 number_spec = tie.close (tie.spec
-    (λ c κs. search rules) (λ c. c.single.ensures ∙ number_is c.before.args.w (search rules)))
+    (λ c κs. search rules) (λ c. c.single.ensures ∙ number_is c.args.w (search rules)))

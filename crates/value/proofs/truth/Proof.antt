@@ -7,5 +7,5 @@ use Rattle.value.proofs.truth.Tie as tie
 
 pub truth_spec : {M : Type 1} → statement M
 truth_spec = tie.close (tie.spec
-    (λ c κs. search rules) (λ c. c.single.ensures ∙ true_is c.before.if-b.true)
-    (λ c κs. search rules) (λ c. c.single-2.ensures ∙ false_is c.before.if-b.false))
+    (λ c κs. search rules) (λ c. c.single.ensures ∙ true_is c.if-b.true)
+    (λ c κs. search rules) (λ c. c.single-2.ensures ∙ false_is c.if-b.false))

@@ -13,20 +13,20 @@ use Rattle.word.proofs.bits.Tie as tie
 
 -- x is negative, and y is -1 - x
 module _ (c : tie.Then-x-lt0) where
-  facts : (negsuc 0 -ℤ to_z w32 (of_z w32 c.before.args.x) ≡ pos (4294967295 - of_z w32 c.before.args.x)) × (half ≤ of_z w32 c.before.args.x) × (of_z w32 c.before.args.x < words)
+  facts : (negsuc 0 -ℤ to_z w32 (of_z w32 c.args.x) ≡ pos (4294967295 - of_z w32 c.args.x)) × (half ≤ of_z w32 c.args.x) × (of_z w32 c.args.x < words)
   facts =
-      let b = number_bits c.before.args.x c.before.ranges.x.sfits in
-      let n = negative c.before.args.x c.before.ranges.x.sfits (rw b at c.if-x-lt0.true) in
+      let b = number_bits c.args.x c.ranges.x.sfits in
+      let n = negative c.args.x c.ranges.x.sfits (rw b at c.if-x-lt0.true) in
       (rw b n.0, n.1, n.2)
 
-  fits_y : SFits w32 (negsuc 0 -ℤ to_z w32 (of_z w32 c.before.args.x))
+  fits_y : SFits w32 (negsuc 0 -ℤ to_z w32 (of_z w32 c.args.x))
   fits_y = rw facts.0 (record { sfits = omega (arith, facts.1, facts.2) })
 
-  y_is : to_z w32 (of_z w32 (negsuc 0 -ℤ to_z w32 (of_z w32 c.before.args.x))) ≡ pos (4294967295 - of_z w32 c.before.args.x)
-  y_is = number_bits (negsuc 0 -ℤ to_z w32 (of_z w32 c.before.args.x)) fits_y.sfits ∙ facts.0
+  y_is : to_z w32 (of_z w32 (negsuc 0 -ℤ to_z w32 (of_z w32 c.args.x))) ≡ pos (4294967295 - of_z w32 c.args.x)
+  y_is = number_bits (negsuc 0 -ℤ to_z w32 (of_z w32 c.args.x)) fits_y.sfits ∙ facts.0
 
 -- x is not, and is its bits
-x_is : (c : tie.Else-x-lt0) → (to_z w32 (of_z w32 c.before.args.x) ≡ pos (of_z w32 c.before.args.x)) × (of_z w32 c.before.args.x < half)
+x_is : (c : tie.Else-x-lt0) → (to_z w32 (of_z w32 c.args.x) ≡ pos (of_z w32 c.args.x)) × (of_z w32 c.args.x < half)
 x_is c =
     let b = number_bits c.args.x c.ranges.x.sfits in
     let n = natural c.args.x c.ranges.x.sfits (rw b at c.if-x-lt0.false) in

@@ -27,8 +27,8 @@ decreases-loop lent own₀ i₀ i-end own i = i-end - i
 
 pub copy_in_spec : {M : Type 1} → statement M
 copy_in_spec = tie.close (tie.spec invariant-loop decreases-loop
-    (λ c. (refl, search rules, search rules, refl, refl, below_none (λ k. IsWord (get_or c.before.args.lent.now k (pos 0)))))
-    (λ c. c.before.before.loop-i.invariant.3)
+    (λ c. (refl, search rules, search rules, refl, refl, below_none (λ k. IsWord (get_or c.args.lent.now k (pos 0)))))
+    (λ c. c.loop-i.invariant.3)
     (λ c.
     let a = c.args in
     let l = c.loop-i in
@@ -46,7 +46,7 @@ copy_in_spec = tie.close (tie.spec invariant-loop decreases-loop
     let l = c.loop-i in
     let w : IsWord (get_or a.lent.now l.i (pos 0)) = c.bits-arg-1.given in
     (l.invariant.0, omega arith, omega arith, simp length-set l.invariant.3, laid_more (of_z w32) a.lent.now a.own.now l.own l.i (pos 0) 0 c.bits.result (omega arith) (omega arith) l.invariant.4 (c.bits.ensures ∙ ap (of_z w32) (number_bits (get_or a.lent.now l.i (pos 0)) w)), below_more (λ k. IsWord (get_or a.lent.now k (pos 0))) l.i l.invariant.5 w))
-    (λ c. c.before.loop-i.invariant.3)
+    (λ c. c.loop-i.invariant.3)
     (λ c.
     let a = c.args in
     let l = c.loop-i in

@@ -24,7 +24,7 @@ decreases-loop own lent₀ i₀ i-end lent i = i-end - i
 pub copy_out_spec : {M : Type 1} → statement M
 copy_out_spec = tie.close (tie.spec invariant-loop decreases-loop
     (λ c. (refl, search rules, search rules, refl, refl))
-    (λ c. c.before.before.loop-i.invariant.3)
+    (λ c. c.loop-i.invariant.3)
     (λ c.
     let a = c.args in
     let l = c.loop-i in
@@ -41,7 +41,7 @@ copy_out_spec = tie.close (tie.spec invariant-loop decreases-loop
     let a = c.args in
     let l = c.loop-i in
     (l.invariant.0, omega arith, omega arith, simp length-set l.invariant.3, laid_more (to_z w32) a.own.now a.lent.now l.lent l.i 0 (pos 0) (to_z w32 (of_z w32 c.number-z.result)) (omega arith) (omega arith) l.invariant.4 (number_bits c.number-z.result c.number-z.type_inv ∙ c.number-z.ensures)))
-    (λ c. c.before.loop-i.invariant.3)
+    (λ c. c.loop-i.invariant.3)
     (λ c.
     let a = c.args in
     let l = c.loop-i in

@@ -13,7 +13,7 @@ use Rattle.word.proofs.reckoned.Tie as tie
 back : (s : tie.Start) → to_z w64 (of_z w64 s.args.z) ≡ s.args.z
 back s = wide_is s.args.z s.ranges.z
 
-z_word : (c : tie.Else-z-gt-GREATEST) → IsWord c.before.before.args.z
+z_word : (c : tie.Else-z-gt-GREATEST) → IsWord c.args.z
 z_word c =
     let s = c.before.before in
     within s.args.z (rw (back s) at c.if-z-lt-LEAST.false) (rw (back s) at c.if-z-gt-GREATEST.false)

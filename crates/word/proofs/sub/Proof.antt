@@ -9,12 +9,12 @@ use Rattle.word.proofs.Results.{difference_wide, result_fits, result_exact}
 use Rattle.word.proofs.sub.Statement.{statement}
 use Rattle.word.proofs.sub.Tie as tie
 
-fits : (c : tie.After-wide-2) → SFits w64 (c.before.wide.result -ℤ c.wide-2.result)
-fits c = difference_wide c.before.wide.result c.wide-2.result c.before.wide.ensures.1 c.wide-2.ensures.1
+fits : (c : tie.After-wide-2) → SFits w64 (c.wide.result -ℤ c.wide-2.result)
+fits c = difference_wide c.wide.result c.wide-2.result c.wide.ensures.1 c.wide-2.ensures.1
 
 pub sub_spec : {M : Type 1} → statement M
 sub_spec = tie.close (tie.spec (λ c κs. search rules) (λ c κs. search rules)
-    (λ c. result_fits (λ x y. x -ℤ y) c.before.wide.result c.wide-2.result c.before.wide.ensures.1 c.wide-2.ensures.1 (fits c))
+    (λ c. result_fits (λ x y. x -ℤ y) c.wide.result c.wide-2.result c.wide.ensures.1 c.wide-2.ensures.1 (fits c))
     (λ c κs. search rules)
     (λ c.
     let d = c.before in

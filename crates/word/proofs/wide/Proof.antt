@@ -13,11 +13,11 @@ use Rattle.word.proofs.wide.Tie as tie
 
 module _ (c : tie.After-number) where
   z : ℤ
-  z = to_z w32 c.before.args.u
+  z = to_z w32 c.args.u
 
   z_word : IsWord z
   unfolding z
-  z_word = number_word c.before.args.u (omega arith)
+  z_word = number_word c.args.u (omega arith)
 
   result_is : to_z w32 (of_z w32 c.number.result) ≡ z
   unfolding z

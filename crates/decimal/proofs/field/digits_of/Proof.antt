@@ -19,5 +19,5 @@ digits_of_spec = tie.close (tie.spec invariant-loop decreases-loop
     (λ c. omega arith)
     (λ c. let l = c.loop-m in omega (arith, l.invariant, decimal_count l.m c.loop-m-test.true, length_digits c.args.n c.args.n))
     (λ c. omega arith)
-    (λ c. let l = c.before.loop-m in omega (arith, l.invariant, decimal_count l.m c.loop-m-test.true))
+    (λ c. let l = c.loop-m in omega (arith, l.invariant, decimal_count l.m c.loop-m-test.true))
     (λ c. let l = c.loop-m in let z = ap length (decimal_0 l.m (omega arith)) in (omega (arith, l.invariant, z), omega (arith, l.invariant, z, length_digits c.args.n c.args.n))))

@@ -24,5 +24,5 @@ put_spaces_spec = tie.close (tie.spec invariant-loop decreases-loop
     (λ c. search rules)
     (λ c. search rules)
     (λ c. let l = c.loop-i in (omega arith, length-set l.s (c.args.at + l.i) space ∙ l.invariant.1, spaces_more c.args.s.now c.args.at l.i l.s l.invariant.2))
-    (λ c. let l = c.before.loop-i in l.invariant.1)
+    (λ c. let l = c.loop-i in l.invariant.1)
     (λ c. let s = c.before.before in let l = c.loop-i in let e : l.i ≡ s.args.n = omega arith in l.invariant.2 ∙ ap (λ k. sets s.args.s.now s.args.at (replicate k space)) e))

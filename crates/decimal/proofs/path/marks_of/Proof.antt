@@ -21,5 +21,5 @@ marks_of_spec = tie.close (tie.spec invariant-loop decreases-loop
     (λ c. search rules)
     (λ c. let l = c.loop-p in omega (arith, l.invariant, length_front l.p c.loop-p-test.true, length_path c.args.path))
     (λ c. search rules)
-    (λ c. let l = c.before.loop-p in omega (arith, l.invariant, length_front l.p c.loop-p-test.true))
-    (λ c. let l = c.before.loop-p in omega (arith, l.invariant, ap length (path_0 l.p (omega arith)))))
+    (λ c. let l = c.loop-p in omega (arith, l.invariant, length_front l.p c.loop-p-test.true))
+    (λ c. let l = c.loop-p in omega (arith, l.invariant, ap length (path_0 l.p (omega arith)))))

@@ -27,5 +27,5 @@ put_marks_spec = tie.close (tie.spec invariant-loop decreases-loop
     (λ c. let l = c.loop-p in omega (arith, c.requires, l.invariant.0, laid_room c.args.path l.p c.args.at l.i c.args.s.now l.s l.invariant.1, length_front l.p c.loop-p-test.true))
     (λ c. search rules)
     (λ c. let l = c.loop-p in (length-set l.s l.i (nought + 2 - l.p % 2) ∙ l.invariant.0, laid_more c.args.path l.p c.args.at l.i c.args.s.now l.s c.loop-p-test.true l.invariant.1))
-    (λ c. let l = c.before.loop-p in l.invariant.0)
+    (λ c. let l = c.loop-p in l.invariant.0)
     (λ c. let l = c.loop-p in laid_all c.args.path l.p c.args.at l.i c.args.s.now l.s (omega arith) l.invariant.1))

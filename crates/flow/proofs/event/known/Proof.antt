@@ -7,7 +7,7 @@ use Rattle.flow.proofs.event.known.Statement.{statement}
 use Rattle.flow.proofs.event.known.Tie as tie
 
 returns : tie.Need-returns-then-action-eq-GIVE
-returns c = λ blank z. known_value c.before.args.action (leaves_by c.before.args.leaves blank) c.before.ranges.action.fits c.if-action-eq-GIVE.true
+returns c = λ blank z. known_value c.args.action (leaves_by c.args.leaves blank) c.ranges.action.fits c.if-action-eq-GIVE.true
 
 returns_2 : tie.Need-returns-then-action-lt-CONTINUE
 returns_2 c =

@@ -10,10 +10,10 @@ use Rattle.flow.proofs.failed.is_failed.Statement.{statement}
 use Rattle.flow.proofs.failed.is_failed.Tie as tie
 
 -- the two arrays are of one length
-long : (c : tie.After-alike-arg-3-1) → length c.before.before.before.before.before.args.words.now ≡ length c.before.before.before.write_failed.new.words
+long : (c : tie.After-alike-arg-3-1) → length c.args.words.now ≡ length c.write_failed.new.words
 long c =
-    let x : length c.before.before.before.before.before.args.words.now ≡ state_size = search rules in
-    let y : length c.before.before.before.write_failed.new.words ≡ state_size = search rules in
+    let x : length c.args.words.now ≡ state_size = search rules in
+    let y : length c.write_failed.new.words ≡ state_size = search rules in
     x ∙ sym y
 
 returns : tie.Need-returns-then-not-alike
@@ -27,7 +27,7 @@ returns_2 c =
 
 pub is_failed_spec : {M : Type 1} → statement M
 is_failed_spec = tie.close (tie.spec
-    (λ c κs. let p = c.before.requires in (p.0, p.1.1))
+    (λ c κs. let p = c.requires in (p.0, p.1.1))
     (λ c. let l = c.requires.0.0 in let h = c.requires.0.1.low in record { fits = omega arith })
     (λ c κs.
     let written = c.before.before.before in

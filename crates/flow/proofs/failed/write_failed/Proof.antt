@@ -7,7 +7,7 @@ use Rattle.flow.proofs.failed.write_failed.Tie as tie
 
 pub write_failed_spec : {M : Type 1} → statement M
 write_failed_spec = tie.close (tie.spec
-    (λ c κs. let l = c.before.requires.0.0 in let h = c.before.requires.0.1.low in omega arith)
+    (λ c κs. let l = c.requires.0.0 in let h = c.requires.0.1.low in omega arith)
     (λ c. search rules)
     (λ c κs. search rules)
     (λ c.

@@ -18,19 +18,19 @@ loop_holds' : tie.Need-loop-i-init invariant-loop decreases-loop
 loop_holds' = λ c. (omega arith, no_firsts c.args.rows.now c.args.work.now)
 
 first_cell_requires' : tie.Need-first_cell-requires invariant-loop decreases-loop
-first_cell_requires' = λ c κs. let l = c.before.loop-i-test.true in let h = c.before.before.before.requires in omega arith
+first_cell_requires' = λ c κs. let l = c.loop-i-test.true in let h = c.requires in omega arith
 
 add_i' : tie.Need-overflow_step-i invariant-loop decreases-loop
 add_i' = λ c. search rules
 
 loop_less' : tie.Need-loop-i-smaller invariant-loop decreases-loop
-loop_less' = λ c. let l = c.before.before.loop-i-test.true in omega arith
+loop_less' = λ c. let l = c.loop-i-test.true in omega arith
 
 loop_again' : tie.Need-loop-i-preserved invariant-loop decreases-loop
-loop_again' = λ c. let l = c.before.before.loop-i-test.true in (omega arith, more_firsts c.before.before.before.loop-i.invariant.1 c.first_Cell.ensures)
+loop_again' = λ c. let l = c.loop-i-test.true in (omega arith, more_firsts c.loop-i.invariant.1 c.first_Cell.ensures)
 
 returns' : tie.Need-returns invariant-loop decreases-loop
-returns' = λ c. let l = c.loop-i-test.false in let k = c.before.loop-i.invariant.0 in all_firsts (let e : c.before.loop-i.i ≡ c.before.before.args.n = omega arith in e) c.before.loop-i.invariant.1
+returns' = λ c. let l = c.loop-i-test.false in let k = c.loop-i.invariant.0 in all_firsts (let e : c.loop-i.i ≡ c.args.n = omega arith in e) c.loop-i.invariant.1
 
 pub first_cells_spec : {M : Type 1} → statement M
 first_cells_spec = tie.close (tie.spec invariant-loop decreases-loop loop_holds' first_cell_requires' add_i' loop_less' loop_again' returns')

@@ -20,5 +20,5 @@ returns_2 c =
     v.result v.ensures c.value_out.ensures.1 c.fails.ensures c.flag-failed.ensures c.flag-has_value.ensures c.value_out.ensures.0
 
 pub show_spec : {M : Type 1} → statement M
-show_spec = tie.close (tie.spec (λ c κs. search rules) returns (λ c. search rules) (λ c κs. (c.before.before.before.before.before.requires.1, at_start)) (λ c. search rules) (λ c κs. search rules) (λ c. search rules)
+show_spec = tie.close (tie.spec (λ c κs. search rules) returns (λ c. search rules) (λ c κs. (c.requires.1, at_start)) (λ c. search rules) (λ c κs. search rules) (λ c. search rules)
     (λ c κs. search rules) (λ c κs. search rules) (λ c κs. search rules) (λ c κs. search rules) (λ c. search rules) (λ c. search rules) returns_2)

@@ -158,5 +158,5 @@ returns_7 c =
     m.new.state _ m.ensures c.if-stride.false)
 
 pub open_spec : {M : Type 1} → statement M
-open_spec = tie.close (tie.spec (λ c κs. c.before.requires.0) (λ c κs. search rules) returns mul_if2 (λ c κs. search rules) returns_2 (λ c κs. search rules) returns_3 state_in_requires held_requires
+open_spec = tie.close (tie.spec (λ c κs. c.requires.0) (λ c κs. search rules) returns mul_if2 (λ c κs. search rules) returns_2 (λ c κs. search rules) returns_3 state_in_requires held_requires
     is_failed_requires returns_4 (λ c κs. search rules) returns_5 sub_stride stride_requires (λ c κs. search rules) returns_6 (λ c κs. search rules) returns_7)

@@ -7,7 +7,7 @@ use Rattle.flow.proofs.start.begin.Statement.{statement}
 use Rattle.flow.proofs.start.begin.Tie as tie
 
 first_cells_requires' : tie.Need-first_cells-requires
-first_cells_requires' = λ c κs. let l = c.before.requires.0.0 in let h = c.before.requires.0.1.low in omega arith
+first_cells_requires' = λ c κs. let l = c.requires.0.0 in let h = c.requires.0.1.low in omega arith
 
 sub_evaluate' : tie.Need-overflow_sub-n
 sub_evaluate' = λ c. search rules

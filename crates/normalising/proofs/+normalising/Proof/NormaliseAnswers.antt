@@ -41,7 +41,7 @@ normalise_returns t c =
     test.loop-strides-test.true start.requires.1 (not_t _ (not_from_false _ c.if-not-moved.true))
 
 pub normalise_loop_less : (t : ℕ) → normalise-lts.Need-loop-strides-smaller (normalise_calls t) (normalise_at t) normalise.Post normalise_Inv_loop normalise_μ_loop
-normalise_loop_less t c = let l = c.before.before.before.loop-strides-test.true in omega arith
+normalise_loop_less t c = let l = c.loop-strides-test.true in omega arith
 
 pub normalise_loop_again : (t : ℕ) → normalise-lts.Need-loop-strides-preserved (normalise_calls t) (normalise_at t) normalise.Post normalise_Inv_loop normalise_μ_loop
 normalise_loop_again t c =

@@ -10,7 +10,7 @@ use Rattle.screens.proofs.count.read.Tie as tie
 
 pub read_spec : {M : Type 1} → statement M
 read_spec = tie.close (tie.spec
-    (λ c. (no_count c.before.before.args.s.now c.if-s-ne-COUNT_BYTES.true, omega arith))
+    (λ c. (no_count c.args.s.now c.if-s-ne-COUNT_BYTES.true, omega arith))
     (λ c. search rules)
     (λ c.
     (no_end c.args.s.now c.if-s-ne-COUNT_BYTES.false c.if-s-ne-NEWLINE.true, omega arith))

@@ -13,4 +13,4 @@ write_end_spec = tie.close (tie.spec
     (λ c. search rules)
     (λ c. search rules)
     (λ c. search rules)
-    (λ c. sym (set_out c.before.args.s.now (total head_columns) newline c.if-s-gt-END_AT.false)))
+    (λ c. sym (set_out c.args.s.now (total head_columns) newline c.if-s-gt-END_AT.false)))

@@ -35,7 +35,7 @@ begin_spec = tie.close (tie.spec
     c.if-ground-ne0.false q.result q.new.state q.ensures.0 c.if-a-ne0.true c.refuse-then-a-ne0.result c.refuse-then-a-ne0.new.out
     c.refuse-then-a-ne0.ensures)
     (λ c κs.
-    let a = c.before.before.before.before.before.before.before.before.before.before.before.before.before.before.args in let l = c.before.before.before.before.before.before.before.before.before.before.before.load_counted-ground in let q = c.before.before.before.before.before.before.start-a in
+    let a = c.args in let l = c.load_counted-ground in let q = c.start-a in
     let f = start_few l.new.rows a.state-1.now q.result q.new.state q.ensures.0 q.ensures.1 in
     (search rules, omega (arith, f.0), omega (arith, f.1)))
     (λ c. search rules)

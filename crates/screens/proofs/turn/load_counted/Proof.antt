@@ -9,11 +9,11 @@ use Rattle.screens.proofs.turn.load_counted.Tie as tie
 pub load_counted_spec : {M : Type 1} → statement M
 load_counted_spec = tie.close (tie.spec
     (λ c.
-    let a = c.before.before.args in
+    let a = c.args in
     let e = not_met a.n a.text.now a.rows-1.now (λ h. c.if-text-ne0.true (omega (arith, h))) in
     (ap (λ p. p.0) (sym e), ap (λ p. p.1) (sym e)))
     (λ c.
-    let a = c.before.before.before.args in
+    let a = c.args in
     let e = not_met a.n a.text.now a.rows-1.now (λ h. c.if-text-n.true (omega (arith, h))) in
     (ap (λ p. p.0) (sym e), ap (λ p. p.1) (sym e)))
     (λ c κs. search rules)

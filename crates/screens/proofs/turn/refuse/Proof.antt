@@ -9,5 +9,5 @@ pub refuse_spec : {M : Type 1} → statement M
 refuse_spec = tie.close (tie.spec
     (λ c κs. search rules)
     (λ c.
-    let a = c.before.before.args in
-    (refl, drawn_refused a.number a.out.now c.write.new.s c.before.before.requires (search rules) c.write.auto.s c.write.ensures)))
+    let a = c.args in
+    (refl, drawn_refused a.number a.out.now c.write.new.s c.requires (search rules) c.write.auto.s c.write.ensures)))

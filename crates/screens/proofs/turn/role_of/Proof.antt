@@ -6,7 +6,7 @@ use Rattle.screens.proofs.turn.role_of.Tie as tie
 
 pub role_of_spec : {M : Type 1} → statement M
 role_of_spec = tie.close (tie.spec
-    (λ c. role_short c.before.before.args.event.now c.if-event-ne-EVENT_BYTES.true)
+    (λ c. role_short c.args.event.now c.if-event-ne-EVENT_BYTES.true)
     (λ c κs. search rules)
     (λ c.
     role_none c.args.event.now c.if-event-ne-EVENT_BYTES.false c.read_role-role.result c.read_role-role.ensures c.if-role-eq0.true)
