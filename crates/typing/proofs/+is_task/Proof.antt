@@ -44,10 +44,10 @@ pub +is_task_spec : {M : Type 1} → statement M
     c.operand-b.ensures c.if-b-row.false)
     (λ c.
     let q = c.args in
-    task_own q.rows.now q.row c.get-k.result c.get-k.ensures c.if-k-lt40.false c.if-k-lt51.true)
+    task_own q.rows.now q.row c.get-k.result c.get-k.ensures c.in-40-to-50.if-k-lt40-own.false c.in-40-to-50.if-k-lt51-own.true)
     (λ c.
     let q = c.args in
-    task_none q.rows.now q.row c.get-k.result c.get-k.ensures c.if-k-lt40.true c.in_default-1.in_default-own.rest)
+    task_none q.rows.now q.row c.get-k.result c.get-k.ensures c.in_default.if-k-lt40-own.true c.in_default.in_default-own.rest)
     (λ c.
     let q = c.args in
-    task_past q.rows.now q.row c.get-k.result c.get-k.ensures c.if-k-lt51.false)
+    task_past q.rows.now q.row c.get-k.result c.get-k.ensures c.in_default.if-k-lt51-own.false)

@@ -11,6 +11,6 @@ binder_shape_spec =
     (λ c. search rules)
     (λ c. search rules)
     (λ c. search rules)
-    (λ c. simp (lt-ltb _ _ c.before.if-a-n.true, le-leb _ _ c.if-n-le-MAX_BINDERS.true))
-    (λ c. simp (lt-ltb _ _ c.before.if-a-n.true, lt-leb _ _ c.if-n-le-MAX_BINDERS.false))
+    (λ c. simp (lt-ltb _ _ c.if-a-n.true, le-leb _ _ c.if-n-le-MAX_BINDERS.true))
+    (λ c. simp (lt-ltb _ _ c.if-a-n.true, lt-leb _ _ c.if-n-le-MAX_BINDERS.false))
     (λ c. simp (le-ltb _ _ c.if-a-n.false)))

@@ -6,5 +6,5 @@ use Rattle.typing.proofs.named2.Tie as tie
 pub named2_spec : {M : Type 1} → statement M
 named2_spec = tie.close (tie.spec
     (λ c κs. search rules)
-    (λ c. simp (lt-ltb _ _ c.before.if-a-i.true) c.named1.ensures)
+    (λ c. simp (lt-ltb _ _ c.if-a-i.true) c.named1.ensures)
     (λ c. simp (le-ltb _ _ c.if-a-i.false)))

@@ -6,5 +6,5 @@ use Rattle.typing.proofs.named3.Tie as tie
 pub named3_spec : {M : Type 1} → statement M
 named3_spec = tie.close (tie.spec
     (λ c κs. search rules)
-    (λ c. simp (lt-ltb _ _ c.before.if-a-i.true) c.named2.ensures)
+    (λ c. simp (lt-ltb _ _ c.if-a-i.true) c.named2.ensures)
     (λ c. simp (le-ltb _ _ c.if-a-i.false)))

@@ -11,13 +11,13 @@ op_shape_spec =
     (λ c κs. search rules)
     (λ c κs. search rules)
     (λ c κs. search rules)
-    (λ c. let q = c.before.before.args in op_number q.o q.t q.u c.both_are.result c.before.if-o-lt4.true c.both_are.ensures)
+    (λ c. let q = c.args in op_number q.o q.t q.u c.both_are.result c.in-0-to-3.if-o-lt4-own.true c.both_are.ensures)
     (λ c.
     let q = c.args in
-    op_test q.o q.t q.u c.both_are-in-4-to-6.result c.if-o-lt4.false c.if-o-lt7.true c.both_are-in-4-to-6.ensures)
+    op_test q.o q.t q.u c.both_are-in-4-to-6.result c.in-4-to-6.if-o-lt4-own.false c.in-4-to-6.if-o-lt7-own.true c.both_are-in-4-to-6.ensures)
     (λ c.
     let q = c.args in
-    op_truth q.o q.t q.u c.both_are-in-7-to-8.result c.if-o-lt7.false c.if-o-lt9.true c.both_are-in-7-to-8.ensures)
+    op_truth q.o q.t q.u c.both_are-in-7-to-8.result c.in-7-to-8.if-o-lt7-own.false c.in-7-to-8.if-o-lt9-own.true c.both_are-in-7-to-8.ensures)
     (λ c.
     let q = c.args in
-    op_past q.o q.t q.u c.both_are-in_default.result c.if-o-lt9.false c.both_are-in_default.ensures))
+    op_past q.o q.t q.u c.both_are-in_default.result c.in_default.if-o-lt9-own.false c.both_are-in_default.ensures))
