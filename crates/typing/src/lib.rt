@@ -1,5 +1,7 @@
 // Typing of rows by shapes: each row is decoded once to what typing does with it, then typed by recursion on lower rows.
 
+#![tactic(auto)]
+
 ghost use Rattle.std.specs.Prelude.{◌≡◌, true, ◌+◌, ◌<◌, ◌≤◌, set};
 ghost use Rattle.shape.specs.Shape.{as_shape, maybe_shape};
 ghost use Rattle.rows.specs.Rows.{max_rows};
