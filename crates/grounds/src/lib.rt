@@ -1,5 +1,7 @@
 // Grounds 3 to 7 over rows of words, each over all rows before the next (01, "Grounds in the input").
 
+#![tactic(auto)]
+
 use match_laws;
 use rows::ground_numbers::{NOT_LISTED, NOT_NAMED, NOT_SMALL, NOT_SORTED, NOT_TYPED};
 use rows::{ROW_WORDS, ROWS_WORDS};

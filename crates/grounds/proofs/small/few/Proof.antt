@@ -24,7 +24,7 @@ few_spec = tie.close (tie.spec
     decreases-loop
     (λ c κs. search rules)
     (λ c. (omega arith, refl, counts_none c.args.w c.args.rows.now (replicate max_rows 0), every_none (few_at c.args.w c.args.rows.now)))
-    (λ c κs. (omega arith, c.before.before.loop-i.invariant.2))
+    (λ c κs. (omega arith, c.loop-i.invariant.2))
     (λ c.
     every_not (few_at c.args.w c.args.rows.now) c.args.n c.loop-i.i c.loop-i-test.true
     (few_not c.args.w c.args.rows.now c.loop-i.i c.row_count-x.result c.row_count-x.ensures.0 (omega (arith, c.most_of-most.ensures))))

@@ -8,5 +8,5 @@ use Rattle.grounds.proofs.small.if_named.Tie as tie
 pub if_named_spec : {M : Type 1} → statement M
 if_named_spec = tie.close (tie.spec
     (λ c κs. search rules)
-    (λ c. ap (λ b. cond b c.before.before.args.a 0) (sym c.if-names_row.true ∙ c.before.names_row.ensures))
-    (λ c. ap (λ b. cond b c.before.before.args.a 0) (sym c.if-names_row.false ∙ c.before.names_row.ensures)))
+    (λ c. ap (λ b. cond b c.args.a 0) (sym c.if-names_row.true ∙ c.names_row.ensures))
+    (λ c. ap (λ b. cond b c.args.a 0) (sym c.if-names_row.false ∙ c.names_row.ensures)))

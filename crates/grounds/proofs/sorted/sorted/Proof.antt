@@ -23,7 +23,7 @@ sorted_spec = tie.close (tie.spec
     invariant-loop
     decreases-loop
     (λ c. (omega arith, refl, sorts_none c.args.rows.now (replicate max_rows 0), every_none (row_sorted c.args.rows.now)))
-    (λ c κs. (omega arith, c.before.before.loop-i.invariant.2))
+    (λ c κs. (omega arith, c.loop-i.invariant.2))
     (λ c.
     every_broken (row_sorted c.args.rows.now) c.args.n c.loop-i.i c.row_sorted.result c.loop-i-test.true
     c.row_sorted.ensures (not_from_false _ c.if-not-row_sorted.true))

@@ -9,4 +9,4 @@ pub asks_at_spec : {M : Type 1} → statement M
 asks_at_spec = tie.close (tie.spec
     (λ c κs. search rules)
     (λ c κs. search rules)
-    (λ c. c.asks_of.ensures ∙ ap asks_of c.before.get.ensures))
+    (λ c. c.asks_of.ensures ∙ ap asks_of c.get.ensures))

@@ -47,19 +47,19 @@ asks_of_spec = tie.close (tie.spec
     (λ c. at_key c.in-45.is)
     (λ c. at_key c.in-48.is)
     (λ c. at_key c.in-50.is)
-    (λ c. in_asks 1 3 (tt, (refl, (refl, tt))) c.before.if-k-lt1.false c.if-k-lt4.true c.before.before.in_default-1.in_default-own.rest)
+    (λ c. in_asks 1 3 (tt, (refl, (refl, tt))) c.in-2-to-3.if-k-lt1-own.false c.in-2-to-3.if-k-lt4-own.true c.in-2-to-3.in_default-own.rest)
     (λ c.
-    in_asks 20 4 (tt, (tt, (refl, (refl, tt)))) c.if-k-lt20.false c.if-k-lt24.true c.in_default-1.in_default-own.rest)
+    in_asks 20 4 (tt, (tt, (refl, (refl, tt)))) c.in-22-to-23.if-k-lt20-own.false c.in-22-to-23.if-k-lt24-own.true c.in-22-to-23.in_default-own.rest)
     (λ c.
-    in_asks 24 5 (tt, (tt, (tt, (refl, (refl, tt))))) c.if-k-lt24.false c.if-k-lt29.true c.in_default-1.in_default-own.rest)
+    in_asks 24 5 (tt, (tt, (tt, (refl, (refl, tt))))) c.in-27-to-28.if-k-lt24-own.false c.in-27-to-28.if-k-lt29-own.true c.in-27-to-28.in_default-own.rest)
     (λ c.
-    in_asks 40 5 (tt, (tt, (tt, (refl, (refl, tt))))) c.if-k-lt40.false c.if-k-lt45.true c.in_default-1.in_default-own.rest)
+    in_asks 40 5 (tt, (tt, (tt, (refl, (refl, tt))))) c.in-43-to-44.if-k-lt40-own.false c.in-43-to-44.if-k-lt45-own.true c.in-43-to-44.in_default-own.rest)
     (λ c.
-    in_asks 45 3 (tt, (refl, (refl, tt))) c.if-k-lt45.false c.if-k-lt48.true c.in_default-1.in_default-own.rest)
-    (λ c. gap 0 1 c.before.before.args.k refl (omega arith) c.if-k-lt1.true c.before.in_default-1.in_default-own.rest)
+    in_asks 45 3 (tt, (refl, (refl, tt))) c.in-46-to-47.if-k-lt45-own.false c.in-46-to-47.if-k-lt48-own.true c.in-46-to-47.in_default-own.rest)
+    (λ c. gap 0 1 c.args.k refl (omega arith) c.in_default.if-k-lt1-own.true c.in_default.in_default-own.rest)
     (λ c.
-    gap 4 16 c.args.k refl c.if-k-lt4.false c.if-k-lt20.true c.in_default-1.in_default-own.rest)
+    gap 4 16 c.args.k refl c.in_default.if-k-lt4-own.false c.in_default.if-k-lt20-own.true c.in_default.in_default-own.rest)
     (λ c.
-    gap 29 11 c.args.k refl c.if-k-lt29.false c.if-k-lt40.true c.in_default-1.in_default-own.rest)
+    gap 29 11 c.args.k refl c.in_default.if-k-lt29-own.false c.in_default.if-k-lt40-own.true c.in_default.in_default-own.rest)
     (λ c.
-    beyond c.args.k c.if-k-lt48.false c.in_default-1.in_default-own.rest))
+    beyond c.args.k c.in_default.if-k-lt48-own.false c.in_default.in_default-own.rest))
