@@ -1,5 +1,8 @@
 // Sheets: lines of text read into rows, and the call `load` (01, "The sheet", "Four calls"). What it answers and leaves stands in
 // specs/Sheet.antt.
+
+#![tactic(auto)]
+
 ghost use Rattle.std.specs.Prelude.{◌≡◌, ◌≤◌, replicate};
 ghost use Rattle.std.specs.Int.{w32};
 ghost use Rattle.std.proofs.Common.{of_z};

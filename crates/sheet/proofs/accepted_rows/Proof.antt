@@ -12,10 +12,10 @@ accepted_rows_spec = tie.close (tie.spec
     (λ c.
     let i = c.copy_in in
     let r = c.accepted_rows in
-    let t = counts_none c.args.rows.now c.args.own.now i.new.1.0 c.requires i.ensures.0 r.result r.ensures (not_from_false _ c.if-not-accepted_rows.true) in
+    let t = counts_none c.args.rows.now c.args.own.now i.new.own c.requires i.ensures.0 r.result r.ensures (not_from_false _ c.if-not-accepted_rows.true) in
     (t.0, (t.1.0, (t.1.1, i.ensures.0))))
     (λ c.
     let i = c.copy_in in
     let r = c.accepted_rows in
-    let t = counts_all c.args.rows.now c.args.own.now i.new.1.0 c.requires i.ensures.0 r.result r.ensures (not_from_true _ c.if-not-accepted_rows.false) i.ensures.1 in
+    let t = counts_all c.args.rows.now c.args.own.now i.new.own c.requires i.ensures.0 r.result r.ensures (not_from_true _ c.if-not-accepted_rows.false) i.ensures.1 in
     (t.0, (t.1.0, (t.1.1, i.ensures.0)))))

@@ -5,6 +5,6 @@ use Rattle.sheet.proofs.is_sized.Tie as tie
 
 pub is_sized_spec : {M : Type 1} → statement M
 is_sized_spec = tie.close (tie.spec
-    (λ c. sized_uneven c.before.args.len c.if-len-ne0.true)
-    (λ c. sized_none c.before.before.args.len c.before.if-len-ne0.false c.if-len-lt1.true)
-    (λ c. sized_some c.before.before.args.len c.before.if-len-ne0.false c.if-len-lt1.false))
+    (λ c. sized_uneven c.args.len c.if-len-ne0.true)
+    (λ c. sized_none c.args.len c.if-len-ne0.false c.if-len-lt1.true)
+    (λ c. sized_some c.args.len c.if-len-ne0.false c.if-len-lt1.false))

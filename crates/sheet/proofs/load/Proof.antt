@@ -20,74 +20,39 @@ returns c =
 
 returns_2 : tie.Need-returns-then-rows-n
 returns_2 c =
-    let start_at = c.before.before.before.before in
-    let start = start_at in
-    answers_21 start.args.sheet.now start.args.rows.now (yes c.is_sized.ensures (not_from_true _ c.if-not-is_sized.false)) c.if-rows-n.true
+    answers_21 c.args.sheet.now c.args.rows.now (yes c.is_sized.ensures (not_from_true _ c.if-not-is_sized.false)) c.if-rows-n.true
 
 read_lines_requires : tie.Need-read_lines-requires
 read_lines_requires c κs =
-    let start_at = c.before.before.before in
-    let sized = start_at in
-    let start = sized.before.before in
-    let z = is_sized (length start.args.sheet.now) (yes sized.is_sized.ensures (not_from_true _ c.if-not-is_sized.false)) in
+    let z = is_sized (length c.args.sheet.now) (yes c.is_sized.ensures (not_from_true _ c.if-not-is_sized.false)) in
     ((z.few, omega (arith, z.whole)), refl)
 
 returns_3 : tie.Need-returns-then-not-read_lines
 returns_3 c =
-    let start_at = c.before.before.before in
-    let room = start_at in
-    let left = room.before in
-    let sized = left.before in
-    let start = sized.before.before in
-    answers_2 start.args.sheet.now start.args.rows.now (yes sized.is_sized.ensures (not_from_true _ left.if-not-is_sized.false)) room.if-rows-n.false
+    answers_2 c.args.sheet.now c.args.rows.now (yes c.is_sized.ensures (not_from_true _ c.if-not-is_sized.false)) c.if-rows-n.false
     c.read_lines.new.own c.read_lines.result c.read_lines.ensures (not_from_false _ c.if-not-read_lines.true)
 
 ground_of_rows_requires : tie.Need-ground_of_rows-ground-requires
 ground_of_rows_requires c κs =
-    let start_at = c.before.before.before.before.before.before in
-    let sized = start_at in
-    let start = sized.before.before in
-    let z = is_sized (length start.args.sheet.now) (yes sized.is_sized.ensures (not_from_true _ c.if-not-is_sized.false)) in
+    let z = is_sized (length c.args.sheet.now) (yes c.is_sized.ensures (not_from_true _ c.if-not-is_sized.false)) in
     (z.some_lines, z.few)
 
 returns_4 : tie.Need-returns-then-ground-ne0
 returns_4 c =
-    let start_at = c.before.before.before in
-    let scanned = start_at in
-    let read = scanned.before in
-    let room = read.before.before in
-    let left = room.before in
-    let sized = left.before in
-    let start = sized.before.before in
-    answers_rows start.args.sheet.now start.args.rows.now (yes sized.is_sized.ensures (not_from_true _ left.if-not-is_sized.false)) room.if-rows-n.false
-    read.read_lines.new.own read.read_lines.result read.read_lines.ensures (not_from_true _ scanned.if-not-read_lines.false)
+    answers_rows c.args.sheet.now c.args.rows.now (yes c.is_sized.ensures (not_from_true _ c.if-not-is_sized.false)) c.if-rows-n.false
+    c.read_lines.new.own c.read_lines.result c.read_lines.ensures (not_from_true _ c.if-not-read_lines.false)
     c.ground_of_rows-ground.result c.ground_of_rows-ground.ensures c.if-ground-ne0.true
 
 slice_aggregate_copy_out : tie.Need-slice_bounds-copy_out-end
 slice_aggregate_copy_out c =
-    let start_at = c.before.before.before.before.before in
-    let read = start_at in
-    let room = read.before.before in
-    let left = room.before in
-    let sized = left.before in
-    let start = sized.before.before in
     sym
-    (own_long start.args.sheet.now start.args.rows.now (yes sized.is_sized.ensures (not_from_true _ left.if-not-is_sized.false)) room.if-rows-n.false read.read_lines.new.own read.read_lines.result read.read_lines.ensures (not_from_true _ c.if-not-read_lines.false))
+    (own_long c.args.sheet.now c.args.rows.now (yes c.is_sized.ensures (not_from_true _ c.if-not-is_sized.false)) c.if-rows-n.false c.read_lines.new.own c.read_lines.result c.read_lines.ensures (not_from_true _ c.if-not-read_lines.false))
 
 returns_5 : tie.Need-returns
 returns_5 c =
-    let start_at = c.before.before.before.before in
-    let accepted = start_at in
-    let ground = accepted.before in
-    let scanned = ground.before.before in
-    let read = scanned.before in
-    let room = read.before.before in
-    let left = room.before in
-    let sized = left.before in
-    let start = sized.before.before in
-    answers_0 start.args.sheet.now start.args.rows.now (yes sized.is_sized.ensures (not_from_true _ left.if-not-is_sized.false)) room.if-rows-n.false
-    read.read_lines.new.own read.read_lines.result read.read_lines.ensures (not_from_true _ scanned.if-not-read_lines.false) ground.ground_of_rows-ground.result
-    c.copy_out.new.lent ground.ground_of_rows-ground.ensures accepted.if-ground-ne0.false c.copy_out.ensures
+    answers_0 c.args.sheet.now c.args.rows.now (yes c.is_sized.ensures (not_from_true _ c.if-not-is_sized.false)) c.if-rows-n.false
+    c.read_lines.new.own c.read_lines.result c.read_lines.ensures (not_from_true _ c.if-not-read_lines.false) c.ground_of_rows-ground.result
+    c.copy_out.new.lent c.ground_of_rows-ground.ensures c.if-ground-ne0.false c.copy_out.ensures
 
 pub load_spec : {M : Type 1} → statement M
 load_spec = tie.close (tie.spec (λ c κs. search rules) returns (λ c. search rules) returns_2 read_lines_requires returns_3 ground_of_rows_requires returns_4

@@ -14,17 +14,12 @@ returns c =
 
 returns_2 : tie.Need-returns-in-Number
 returns_2 c =
-    let start_at = c.before.before.before in
-    let read = start_at in
-    let start = read.before.before.before.before in
-    line_row start.args.sheet.now start.args.i (start.args.i * line_bytes + (line_bytes - 1)) (omega arith) read.before.if-sheet-at-ne-NEWLINE.false
-    c.in-Number.n start.requires.0 (sym c.in-Number.is ∙ read.read-reading.ensures)
+    line_row c.args.sheet.now c.args.i (c.args.i * line_bytes + (line_bytes - 1)) (omega arith) c.if-sheet-at-ne-NEWLINE.false
+    c.in-Number.n c.requires.0 (sym c.in-Number.is ∙ c.read-reading.ensures)
 
 returns_3 : tie.Need-returns-in-Blank
 returns_3 c =
-    let start_at = c.before.before.before.before.before.before in
-    let start = start_at in
-    line_blank start.args.sheet.now start.args.i (start.args.i * line_bytes + (line_bytes - 1)) (omega arith) c.if-sheet-at-ne-NEWLINE.false
+    line_blank c.args.sheet.now c.args.i (c.args.i * line_bytes + (line_bytes - 1)) (omega arith) c.if-sheet-at-ne-NEWLINE.false
     (sym c.in-Blank.is ∙ c.read-reading.ensures)
 
 returns_4 : tie.Need-returns-in-Unreadable

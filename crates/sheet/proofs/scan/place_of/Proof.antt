@@ -6,9 +6,9 @@ use Rattle.sheet.proofs.scan.place_of.Tie as tie
 
 pub place_of_spec : {M : Type 1} → statement M
 place_of_spec = tie.close (tie.spec
-    (λ c. place_kind c.before.args.k c.if-k-eq0.true)
+    (λ c. place_kind c.args.k c.if-k-eq0.true)
     (λ c. search rules)
     (λ c. search rules)
     (λ c. search rules)
     (λ c. search rules)
-    (λ c. place_operand c.before.args.k c.if-k-eq0.false c.before.requires))
+    (λ c. place_operand c.args.k c.if-k-eq0.false c.requires))

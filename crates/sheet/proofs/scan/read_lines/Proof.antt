@@ -29,22 +29,16 @@ lines_holds c = (search rules, refl, rows_none c.args.sheet.now c.args.own.now c
 
 loop_holds : tie.Need-loop-k-init invariant-loop decreases-loop invariant-lines decreases-lines
 loop_holds c =
-    let start_at = c.before.before.before in
-    let lines = start_at in
-    let start = lines.before.before in
-    (search rules, lines.lines.invariant.1, kept_none start.args.sheet.now lines.lines.i lines.lines.own c.is_line.result c.is_line.ensures (not_from_true _ c.if-not-is_line.false))
+    (search rules, c.lines.invariant.1, kept_none c.args.sheet.now c.lines.i c.lines.own c.is_line.result c.is_line.ensures (not_from_true _ c.if-not-is_line.false))
 
 loop_again : tie.Need-loop-k-preserved invariant-loop decreases-loop invariant-lines decreases-lines
 loop_again c =
     let few = rows_room c.args.sheet.now c.lines.i (omega arith) c.lines.invariant.2 in
-    (omega arith, c.loop-k.invariant.1, kept_more c.args.sheet.now c.lines.i c.lines.own c.loop-k-test.true few c.loop-k.invariant.2 c.read_word-word.result c.read_word-word.ensures (not-false _ (not_from_true _ c.if-not-word.false)))
+    (omega arith, c.loop-k.invariant.1, kept_more c.args.sheet.now c.lines.i c.lines.own c.loop-k-test.true few c.loop-k.invariant.2 c.read_word-word.result c.read_word-word.ensures (not-false _ c.if-not-word.false))
 
 lines_again : tie.Need-lines-preserved invariant-loop decreases-loop invariant-lines decreases-lines
 lines_again c =
-    let start_at = c.before.before.before.before.before in
-    let lines = start_at in
-    let start = lines.before.before in
-    (omega arith, c.loop-k.invariant.1, rows_more start.args.sheet.now lines.lines.i c.loop-k.k (omega arith) (omega arith) lines.lines.invariant.2 c.loop-k.invariant.2)
+    (omega arith, c.loop-k.invariant.1, rows_more c.args.sheet.now c.lines.i c.loop-k.k (omega arith) (omega arith) c.lines.invariant.2 c.loop-k.invariant.2)
 
 returns : tie.Need-returns-after-lines invariant-loop decreases-loop invariant-lines decreases-lines
 returns c =
@@ -52,17 +46,14 @@ returns c =
 
 returns_2 : tie.Need-returns-then-not-is_line invariant-loop decreases-loop invariant-lines decreases-lines
 returns_2 c =
-    let start_at = c.before.before.before in
-    let lines = start_at in
-    let start = lines.before.before in
-    rows_stop start.args.sheet.now lines.lines.own lines.lines.i start.args.n c.lines-test.true
-    (line_none start.args.sheet.now lines.lines.i c.is_line.result c.is_line.ensures (not_from_false _ c.if-not-is_line.true))
+    rows_stop c.args.sheet.now c.lines.own c.lines.i c.args.n c.lines-test.true
+    (line_none c.args.sheet.now c.lines.i c.is_line.result c.is_line.ensures (not_from_false _ c.if-not-is_line.true))
 
 returns_3 : tie.Need-returns-then-not-word invariant-loop decreases-loop invariant-lines decreases-lines
 returns_3 c =
     let few = rows_room c.args.sheet.now c.lines.i (omega arith) c.lines.invariant.2 in
     rows_stop c.args.sheet.now c.loop-k.own c.lines.i c.args.n c.lines-test.true
-    (line_stops c.args.sheet.now c.lines.i c.lines.own c.loop-k-test.true few c.loop-k.invariant.2 c.read_word-word.result c.read_word-word.ensures (not-true _ (not_from_false _ c.if-not-word.true)))
+    (line_stops c.args.sheet.now c.lines.i c.lines.own c.loop-k-test.true few c.loop-k.invariant.2 c.read_word-word.result c.read_word-word.ensures (not-true _ c.if-not-word.true))
 
 pub read_lines_spec : {M : Type 1} → statement M
 read_lines_spec = tie.close (tie.spec invariant-loop decreases-loop invariant-lines decreases-lines
