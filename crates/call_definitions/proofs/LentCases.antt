@@ -57,10 +57,10 @@ Look = ℕ × ℕ × ℕ × List ℤ × List ℕ × List ℕ
 
 unfoldable start : List ℤ → List ℤ → Answer
 unfolding
-    dec_le option.bind word.isWord tabulate.tabulate field.digits field.text field.justified field.trimmed field.counted field.numeral field.readsAt
-    paths.marksText paths.path_text paths.marks paths.pathIn paths.readsPathAt syntax.leaves syntax.moves syntax.taskRows
-    normalising.pair_of normalising.first_of normalising.value typing.type_of leaves.leavesOf leaves.padded leaves.leafKinds leaves.meetsLeaf leaves.meets
-    leaves.value_of leaves.numberGiven leaves.given showing.marked showing.offers showing.buttonIf showing.entriesIf computeTyping.ask computeTyping.nth
+    dec_le option.bind word.is_word tabulate.tabulate field.digits field.text field.justified field.trimmed field.counted field.numeral field.reads_at
+    paths.marks_text paths.path_text paths.marks paths.path_in paths.reads_path_at syntax.leaves syntax.moves syntax.task_rows
+    normalising.pair_of normalising.first_of normalising.value typing.type_of leaves.leaves_of leaves.padded leaves.leaf_kinds leaves.meets_leaf leaves.meets
+    leaves.value_of leaves.number_given leaves.given showing.marked showing.offers showing.button_if showing.entries_if computeTyping.ask computeTyping.nth
     computeTyping.takes computeTyping.gives computeTyping.numberTo computeTyping.opTo computeTyping.sameTo computeTyping.ifTo computeTyping.typeTo
     computeTyping.firstTo computeTyping.secondTo computeTyping.assignTo computeTyping.infer computeTyping.inferTask computeEvaluation.leaf
     computeEvaluation.isTrue computeEvaluation.kept computeEvaluation.exact computeEvaluation.exceeds computeEvaluation.apply computeEvaluation.firstPart
@@ -69,29 +69,29 @@ unfolding
     computeNormalising.chooseRight computeNormalising.chooseLeft computeNormalising.failing computeNormalising.stride computeNormalising.normalise
     computeNormalising.settle computeNormalising.remaining computeHandling.mapTask computeHandling.passGate computeHandling.thenSome
     computeHandling.atEditor computeHandling.atMark computeHandling.atSides computeHandling.atContinue computeHandling.unlessFailing
-    computeHandling.handle computeEntries.continueIf computeEntries.entries kinds.kind_of kinds.asksOf rules.every rules.listedAs rules.listed
-    rules.truthCell rules.rowListed rules.sortBy rules.sorts rules.sortNumber rules.sortedAs rules.sorted rules.rowSorted rules.names rules.namesBy
-    rules.namesIn rules.namings rules.namedOnce rules.lastFits enclosing.bindersBy enclosing.marksBy enclosing.mostBinders enclosing.mostMarks
-    enclosing.counts enclosing.leavesBy enclosing.rowSmall trees.operatorOf computeTrees.contentOf computeTrees.type_at computeTrees.expAt
-    computeTrees.code_at computeTrees.cellType computeTrees.cellTypes computeTrees.firstStore ground.passes3 ground.passes4 ground.passes5
-    ground.passes6 ground.flowType ground.is_some ground.passes7 ground.groundOfRows groundsAccepted.groundOfForm groundsAccepted.acceptedRows
-    sheetAccepted.acceptsRows shape.put shape.asShape shape.maybeShape shape.leafOf shape.front shape.asType
-    layout.valueWords layout.putWords layout.writeTask layout.writeCells layout.encode layout.encodeFailed lent.own_of lent.lent_of reading.readValue
-    reading.readTouches reading.by_tag reading.readTask reading.readStore reading.same reading.decode values.leafBits values.asValue fits.valueIn
-    records.isRecord records.fields_at records.numberSaid records.each records.text_of records.itemsText touching.numbered touching.touchIn roles.isRole
-    roles.ofRole roles.touchesLeft roles.verdict roles.opens touching.roleSaid touching.leafSaid touching.isNothing touching.allNothing touching.allowed
-    touching.eventSays touching.actionOf touching.eventOf lists.offerAct lists.offerKinds lists.entryText lists.listText lists.under
-    memories.state_of memories.failedOf memories.valueMemory memories.hasOne calls.startWith calls.startCall calls.atRest calls.failedAs calls.decoded
-    calls.readWith calls.opened calls.settled calls.handled calls.handleRead calls.handleIn calls.handleCall calls.lookRest calls.lookIn calls.lookCall
-start rows state = let a = calls.startCall rows state in (a.number, a.strides, a.state)
+    computeHandling.handle computeEntries.continueIf computeEntries.entries kinds.kind_of kinds.asks_of rules.every rules.listed_as rules.listed
+    rules.truth_cell rules.row_listed rules.sort_by rules.sorts rules.sort_number rules.sorted_as rules.sorted rules.row_sorted rules.names rules.names_by
+    rules.names_in rules.namings rules.named_once rules.last_fits enclosing.binders_by enclosing.marks_by enclosing.most_binders enclosing.most_marks
+    enclosing.counts enclosing.leaves_by enclosing.row_small trees.operator_of computeTrees.content_of computeTrees.type_at computeTrees.exp_at
+    computeTrees.code_at computeTrees.cell_type computeTrees.cell_types computeTrees.first_store ground.passes3 ground.passes4 ground.passes5
+    ground.passes6 ground.flow_type ground.is_some ground.passes7 ground.ground_of_rows groundsAccepted.ground_of_form groundsAccepted.accepted_rows
+    sheetAccepted.accepts_rows shape.put shape.as_shape shape.maybe_shape shape.leaf_of shape.front shape.as_type
+    layout.value_words layout.put_words layout.write_task layout.write_cells layout.encode layout.encode_failed lent.own_of lent.lent_of reading.read_value
+    reading.read_touches reading.by_tag reading.read_task reading.read_store reading.same reading.decode values.leaf_bits values.as_value fits.value_in
+    records.is_record records.fields_at records.number_said records.each records.text_of records.items_text touching.numbered touching.touch_in roles.is_role
+    roles.of_role roles.touches_left roles.verdict roles.opens touching.role_said touching.leaf_said touching.is_nothing touching.all_nothing touching.allowed
+    touching.event_says touching.action_of touching.event_of lists.offer_act lists.offer_kinds lists.entry_text lists.list_text lists.under
+    memories.state_of memories.failed_of memories.value_memory memories.has_one calls.start_with calls.start_call calls.at_rest calls.failed_as calls.decoded
+    calls.read_with calls.opened calls.settled calls.handled calls.handle_read calls.handle_in calls.handle_call calls.look_rest calls.look_in calls.look_call
+start rows state = let a = calls.start_call rows state in (a.number, a.strides, a.state)
 
 unfoldable look : List ℤ → List ℤ → ℕ → List ℤ → List ℕ → Look
 unfolding start
-look rows state role values list = let a = calls.lookCall rows state role values list in (a.number, a.has_value, a.fails, a.value, a.part, a.list)
+look rows state role values list = let a = calls.look_call rows state role values list in (a.number, a.has_value, a.fails, a.value, a.part, a.list)
 
 unfoldable handle : List ℤ → List ℤ → List ℕ → Answer
 unfolding start
-handle rows state event = let a = calls.handleCall rows state event in (a.number, a.strides, a.state)
+handle rows state event = let a = calls.handle_call rows state event in (a.number, a.strides, a.state)
 
 -- ---- literals
 

@@ -106,7 +106,7 @@ module _ (a : ℕ) (zs : List Given) (h : a < words) where
       by false false false false = refl
 
   pub known_value : a ≡ give_number → KnownOk a zs true
-  unfolding engine.actionBy
+  unfolding engine.action_by
   known_value e =
       let p = eq-eqb a give_number e in
       let t = tests in
@@ -132,16 +132,16 @@ module _ (a : ℕ) (zs : List Given) (h : a < words) where
 
   -- an action without leaves
   pub known_other : (a ≡ give_number → ⊥) → continue_number ≤ a → a ≤ right_number → (b : Bool) → b ≡ all_nothing zs → KnownOk a zs b
-  unfolding engine.actionBy
+  unfolding engine.action_by
   known_other p l m b e =
       let p₁ = ne_eqb a give_number p in
-      let t : action_at (to_z w32 a) zs ≡ cond b (some (engine.actionBy a zs)) none =
+      let t : action_at (to_z w32 a) zs ≡ cond b (some (engine.action_by a zs)) none =
       tests ∙ ap (λ x. tested x (eqb a continue_number) (eqb a left_number) (eqb a right_number)) p₁ ∙ others l m (eqb a continue_number) (eqb a left_number) refl refl
       ∙ ap (λ b. cond b (some (cond (eqb a continue_number) (press continue) (cond (eqb a left_number) (press left) (press right)))) none) (sym e)
       ∙ ap (λ x. cond b (some (cond x (give zs) (cond (eqb a continue_number) (press continue) (cond (eqb a left_number) (press left) (press right))))) none) (sym p₁) in
       record {
-        yes = λ y. (t ∙ ap (λ b. cond b (some (engine.actionBy a zs)) none) y, omega arith, m);
-        no = λ y. t ∙ ap (λ b. cond b (some (engine.actionBy a zs)) none) y;
+        yes = λ y. (t ∙ ap (λ b. cond b (some (engine.action_by a zs)) none) y, omega arith, m);
+        no = λ y. t ∙ ap (λ b. cond b (some (engine.action_by a zs)) none) y;
       }
 
 -- ---- leaves that were read: they are those of their bits and flags
@@ -206,7 +206,7 @@ module _ (k p a : ℕ) (ls : Leaves) where
     says_event z n =
         let g = not-false ls.readable f in
         let (q, l, m) = h.yes (not-false b n) in
-        let o : touch ≡ some (k, path_of p, engine.actionBy a (leaves_by ls.words ls.blank)) = rw (g, q) in
+        let o : touch ≡ some (k, path_of p, engine.action_by a (leaves_by ls.words ls.blank)) = rw (g, q) in
         subst (Says event) (sym o) (refl, refl, refl, refl, (l, m, z))
 
 -- ---- the fields

@@ -105,10 +105,10 @@ computed : (ground_of_rows (own_rows one) 10 ≡ 0) × (code_at (own_rows one) 1
 unfolding
     dec_le bind syntax.leaves computeTyping.ask computeTyping.nth computeTyping.takes computeTyping.gives computeTyping.numberTo computeTyping.opTo computeTyping.sameTo
     computeTyping.ifTo computeTyping.typeTo computeTyping.firstTo computeTyping.secondTo computeTyping.assignTo computeTyping.infer computeTyping.inferTask
-    kinds.kind_of kinds.asksOf rules.every rules.listedAs rules.listed rules.truthCell rules.rowListed rules.sortBy rules.sorts rules.sortNumber rules.sortedAs
-    rules.sorted rules.rowSorted rules.names rules.namesBy rules.namesIn rules.namings rules.namedOnce rules.lastFits enclosing.bindersBy enclosing.marksBy
-    enclosing.mostBinders enclosing.mostMarks enclosing.counts enclosing.leavesBy enclosing.rowSmall operator_of content_of type_at exp_at code_at cell_type cell_types first_store
-    ground.passes3 ground.passes4 ground.passes5 ground.passes6 ground.flowType ground.is_some ground.passes7 ground_of_rows
+    kinds.kind_of kinds.asks_of rules.every rules.listed_as rules.listed rules.truth_cell rules.row_listed rules.sort_by rules.sorts rules.sort_number rules.sorted_as
+    rules.sorted rules.row_sorted rules.names rules.names_by rules.names_in rules.namings rules.named_once rules.last_fits enclosing.binders_by enclosing.marks_by
+    enclosing.most_binders enclosing.most_marks enclosing.counts enclosing.leaves_by enclosing.row_small operator_of content_of type_at exp_at code_at cell_type cell_types first_store
+    ground.passes3 ground.passes4 ground.passes5 ground.passes6 ground.flow_type ground.is_some ground.passes7 ground_of_rows
 computed = (refl, refl, refl, refl, refl, refl)
 
 -- ---- accepted, of this code

@@ -49,7 +49,7 @@ else_found (some v) p h = differ h
 
 -- what `both` returns, way by way
 module _ (x y : Found) where
-  pub both_two : {v : Value} {r : Found} → x.has ≡ true → y.has ≡ true → v ≡ values.pairValue x.value y.value → r ≡ some_found v → r ≡ both_found x y
+  pub both_two : {v : Value} {r : Found} → x.has ≡ true → y.has ≡ true → v ≡ values.pair_value x.value y.value → r ≡ some_found v → r ≡ both_found x y
   both_two e f p q = q ∙ ap some_found p ∙ sym (rw (e, f))
 
   pub both_none_right : {r : Found} → x.has ≡ true → y.has ≡ false → r ≡ none_found → r ≡ both_found x y

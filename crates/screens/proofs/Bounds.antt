@@ -78,17 +78,17 @@ either P false x y p q = q
 abbrev Low : CallAnswer → Type 0
 Low a = a.number < four_digits
 
-started_low : (rows ws : List ℤ) (o : Option Code) → Low (calls.startWith rows ws o)
-unfolding calls.startWith
+started_low : (rows ws : List ℤ) (o : Option Code) → Low (calls.start_with rows ws o)
+unfolding calls.start_with
 started_low rows ws none = omega arith
 started_low rows ws (some c) = either Low (overflows_task c [] (calls.first_of rows)) _ _ (omega arith) (omega arith)
 
-start_low : (rows ws : List ℤ) → Low (calls.startCall rows ws)
-unfolding calls.startCall
+start_low : (rows ws : List ℤ) → Low (calls.start_call rows ws)
+unfolding calls.start_call
 start_low rows ws = either Low (accepts_rows rows) _ _ (either Low (eqb (length ws) (row_count rows * state_words)) _ _ (started_low rows ws (calls.code_of rows)) (omega arith)) (omega arith)
 
-pub start_few : (rows ws : List ℤ) (a : Answer) (ws₁ : List ℤ) → Answered (calls.startCall rows ws) a ws₁ → Bounded rows a.strides → (a.number < four_digits) × (a.strides < four_digits)
-unfolding calls.startCall
+pub start_few : (rows ws : List ℤ) (a : Answer) (ws₁ : List ℤ) → Answered (calls.start_call rows ws) a ws₁ → Bounded rows a.strides → (a.number < four_digits) × (a.strides < four_digits)
+unfolding calls.start_call
 start_few rows ws a ws₁ q b = (
   subst (λ n. n < four_digits) (sym q.0) (start_low rows ws),
   cases (accepts_rows rows) (λ e. strides_few rows a.strides e b) (λ e. let z : a.strides ≡ 0 = rw e at q.1 in omega (arith, z)),
@@ -97,27 +97,27 @@ start_few rows ws a ws₁ q b = (
 -- ---- handle
 
 abbrev LowGround : calls.Opened → Type 0
-LowGround (calls.refusedBy g) = g < four_digits
+LowGround (calls.refused_by g) = g < four_digits
 LowGround (calls.rest_of z) = Unit {0}
 
-rest_low : (c : Code) (t : TaskOf c) (s : Store) → LowGround (calls.atRest c t s)
-unfolding calls.atRest
+rest_low : (c : Code) (t : TaskOf c) (s : Store) → LowGround (calls.at_rest c t s)
+unfolding calls.at_rest
 rest_low c t s = either LowGround (stride c [] s t).2 _ _ (omega arith) tt
 
-failed_low : (rows ws : List ℤ) (c : Code) (o : Option Ty) → LowGround (calls.failedAs rows ws c o)
-unfolding calls.failedAs
+failed_low : (rows ws : List ℤ) (c : Code) (o : Option Ty) → LowGround (calls.failed_as rows ws c o)
+unfolding calls.failed_as
 failed_low rows ws c none = omega arith
 failed_low rows ws c (some τ) =
     let held = overflows_task c [] (calls.first_of rows) && same (encode_failed (own_rows rows) (row_count rows) (calls.first_of rows)) (own_of (row_count rows) ws) in
-    either LowGround held (calls.rest_of (failed_state τ (calls.first_of rows))) (calls.refusedBy not_state) tt (omega arith)
+    either LowGround held (calls.rest_of (failed_state τ (calls.first_of rows))) (calls.refused_by not_state) tt (omega arith)
 
 decoded_low : (rows ws : List ℤ) (c : Code) (o : Option (TaskOf c × Store)) → LowGround (calls.decoded rows ws c o)
 unfolding calls.decoded
 decoded_low rows ws c none = failed_low rows ws c _
 decoded_low rows ws c (some r) = rest_low c r.0 r.1
 
-read_low : (rows ws : List ℤ) (o : Option Code) → LowGround (calls.readWith rows ws o)
-unfolding calls.readWith
+read_low : (rows ws : List ℤ) (o : Option Code) → LowGround (calls.read_with rows ws o)
+unfolding calls.read_with
 read_low rows ws none = omega arith
 read_low rows ws (some c) = decoded_low rows ws c _
 
@@ -137,24 +137,24 @@ handled_low rows ws c role (some r) = by (of_role role r.2) (touches_left r.2)
     by true false = omega arith
     by false b = omega arith
 
-read_event_low : (rows ws : List ℤ) (z : FlowState) (o : Option (ℕ × Path × Action)) → Low (calls.handleRead rows ws z o)
-unfolding calls.handleRead
+read_event_low : (rows ws : List ℤ) (z : FlowState) (o : Option (ℕ × Path × Action)) → Low (calls.handle_read rows ws z o)
+unfolding calls.handle_read
 read_event_low rows ws z none = omega arith
 read_event_low rows ws z (some e) = handled_low rows ws z.code e.0 _
 
-handle_in_low : (rows ws : List ℤ) (e : Option (ℕ × Path × Action)) (o : calls.Opened) → LowGround o → Low (calls.handleIn rows ws e o)
-unfolding calls.handleIn
-handle_in_low rows ws e (calls.refusedBy g) l = l
+handle_in_low : (rows ws : List ℤ) (e : Option (ℕ × Path × Action)) (o : calls.Opened) → LowGround o → Low (calls.handle_in rows ws e o)
+unfolding calls.handle_in
+handle_in_low rows ws e (calls.refused_by g) l = l
 handle_in_low rows ws e (calls.rest_of z) l = read_event_low rows ws z e
 
 -- rows that are not accepted count no stride
-shut_strides : (rows ws : List ℤ) (event : List ℕ) → accepts_rows rows ≡ false → (calls.handleCall rows ws event).strides ≡ 0
-unfolding calls.handleCall calls.opened calls.handleIn
+shut_strides : (rows ws : List ℤ) (event : List ℕ) → accepts_rows rows ≡ false → (calls.handle_call rows ws event).strides ≡ 0
+unfolding calls.handle_call calls.opened calls.handle_in
 shut_strides rows ws event e = rw e
 
-pub handle_few : (rows ws : List ℤ) (event : List ℕ) (a : Answer) (ws₁ : List ℤ) → Answered (calls.handleCall rows ws event) a ws₁ → Bounded rows a.strides
+pub handle_few : (rows ws : List ℤ) (event : List ℕ) (a : Answer) (ws₁ : List ℤ) → Answered (calls.handle_call rows ws event) a ws₁ → Bounded rows a.strides
     → (a.number < four_digits) × (a.strides < four_digits)
-unfolding calls.handleCall
+unfolding calls.handle_call
 handle_few rows ws event a ws₁ q b = (
   subst (λ n. n < four_digits) (sym q.0) (handle_in_low rows ws (event_of event) (calls.opened rows ws true) (opened_low rows ws true)),
   cases (accepts_rows rows) (λ e. strides_few rows a.strides e b) (λ e. let z = q.1 ∙ shut_strides rows ws event e in omega (arith, z)),

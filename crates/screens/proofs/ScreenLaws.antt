@@ -78,8 +78,8 @@ plain_refusal : (g : ℕ) (vs : List ℤ) (list : List ℕ) → Plain (look_refu
 plain_refusal g vs list = record { within = omega arith; fronts = refl; fails = omega arith; valued = omega arith }
 
 module _ (role : ℕ) (vs : List ℤ) (list : List ℕ) where
-  plain_rest : (z : FlowState) → Plain (calls.lookRest role vs list z)
-  unfolding calls.lookRest
+  plain_rest : (z : FlowState) → Plain (calls.look_rest role vs list z)
+  unfolding calls.look_rest
   plain_rest z =
       let es = entries (is role) z.code [] z.store z.task in
       cases (leb (length es * entry_bytes) (length list))
@@ -91,13 +91,13 @@ module _ (role : ℕ) (vs : List ℤ) (list : List ℕ) where
       }))
       (λ e. rw e (plain_refusal list_too_short vs list))
 
-  plain_in : (o : calls.Opened) → Plain (calls.lookIn role vs list o)
-  unfolding calls.lookIn
-  plain_in (calls.refusedBy g) = plain_refusal g vs list
+  plain_in : (o : calls.Opened) → Plain (calls.look_in role vs list o)
+  unfolding calls.look_in
+  plain_in (calls.refused_by g) = plain_refusal g vs list
   plain_in (calls.rest_of z) = cases (is_role role) (λ e. rw e (plain_rest z)) (λ e. rw e (plain_refusal event_not_read vs list))
 
-  plain : (rows ws : List ℤ) → Plain (calls.lookCall rows ws role vs list)
-  unfolding calls.lookCall
+  plain : (rows ws : List ℤ) → Plain (calls.look_call rows ws role vs list)
+  unfolding calls.look_call
   plain rows ws = plain_in _
 
 bits_whole : (vs : List ℤ) (own : List ℕ) → length vs ≡ length own → laid (of_z w32) vs own ≡ map (of_z w32) vs
@@ -110,13 +110,13 @@ bits_whole vs own e =
 
 module _ (rows ws : List ℤ) (role answer strides : ℕ) (out : List ℕ) (long : length out ≡ screen_bytes) (r : Looked) (vs : List ℤ) (list : List ℕ)
     (kept : length list ≡ length (take (length out - head_bytes) (drop head_bytes out)))
-    (e : Filled (calls.lookCall rows ws role (replicate max_leaves (pos 0)) (take (length out - head_bytes) (drop head_bytes out))) r vs list) where
+    (e : Filled (calls.look_call rows ws role (replicate max_leaves (pos 0)) (take (length out - head_bytes) (drop head_bytes out))) r vs list) where
   seen : LookAnswer
-  seen = calls.lookCall rows ws role (replicate max_leaves (pos 0)) (drop head_bytes out)
+  seen = calls.look_call rows ws role (replicate max_leaves (pos 0)) (drop head_bytes out)
 
   shown : Filled seen r vs list
   unfolding seen
-  shown = subst (λ b. Filled (calls.lookCall rows ws role (replicate max_leaves (pos 0)) b) r vs list) (tail_part head_bytes out) e
+  shown = subst (λ b. Filled (calls.look_call rows ws role (replicate max_leaves (pos 0)) b) r vs list) (tail_part head_bytes out) e
 
   list_length : length list ≡ max_rows * entry_bytes
   list_length = kept ∙ ap length (tail_part head_bytes out) ∙ length-drop head_bytes out ∙ omega (arith, long)
@@ -231,18 +231,18 @@ module _ (n : ℕ) (text : List ℕ) (rows ws : List ℤ) (out : List ℕ) (g : 
   begin_refused h r out₁ d = subst (λ b. Beginning b r rows₁ ws out₁) (sym (begun ∙ refused_by g rows₁ ws out h))
       (record { started = d.0; rows = refl; state = refl; drawn = d.1 })
 
-  module _ (z : g ≡ 0) (a : Answer) (ws₁ : List ℤ) (q : Answered (calls.startCall rows₁ ws) a ws₁) where
-    started : begins n text rows ws out ≡ started_by a.number rows₁ out (calls.startCall rows₁ ws)
-    started = begun ∙ ap (λ k. begun_by k rows₁ ws out) z ∙ ap (λ k. started_by k rows₁ out (calls.startCall rows₁ ws)) (sym q.0)
+  module _ (z : g ≡ 0) (a : Answer) (ws₁ : List ℤ) (q : Answered (calls.start_call rows₁ ws) a ws₁) where
+    started : begins n text rows ws out ≡ started_by a.number rows₁ out (calls.start_call rows₁ ws)
+    started = begun ∙ ap (λ k. begun_by k rows₁ ws out) z ∙ ap (λ k. started_by k rows₁ out (calls.start_call rows₁ ws)) (sym q.0)
 
     pub begin_unstarted : (a.number ≡ 0 → ⊥) → (r : Begun) (out₁ : List ℕ) → (r.started ≡ false) × Drawn (refused_screen a.number out) r.bytes out₁
         → Beginning (begins n text rows ws out) r rows₁ ws₁ out₁
-    begin_unstarted h r out₁ d = subst (λ b. Beginning b r rows₁ ws₁ out₁) (sym (started ∙ unstarted_by a.number rows₁ out (calls.startCall rows₁ ws) h))
+    begin_unstarted h r out₁ d = subst (λ b. Beginning b r rows₁ ws₁ out₁) (sym (started ∙ unstarted_by a.number rows₁ out (calls.start_call rows₁ ws) h))
         (record { started = d.0; rows = refl; state = q.2; drawn = d.1 })
 
     pub begin_started : a.number ≡ 0 → (bytes : ℕ) (out₁ : List ℕ) → Drawn (shown_after rows₁ ws₁ start_role a.number a.strides out) bytes out₁
         → Beginning (begins n text rows ws out) (record { started = true; bytes = bytes }) rows₁ ws₁ out₁
-    begin_started h bytes out₁ d = subst (λ b. Beginning b (record { started = true; bytes = bytes }) rows₁ ws₁ out₁) (sym (started ∙ started_by_lem a.number rows₁ out (calls.startCall rows₁ ws) h))
+    begin_started h bytes out₁ d = subst (λ b. Beginning b (record { started = true; bytes = bytes }) rows₁ ws₁ out₁) (sym (started ∙ started_by_lem a.number rows₁ out (calls.start_call rows₁ ws) h))
         (record { started = refl; rows = refl; state = q.2; drawn = subst (λ s. Drawn s bytes out₁) (λ i. shown_after rows₁ (q.2 i) start_role (q.0 i) (q.1 i) out) d })
 
 -- ---- an event
@@ -266,7 +266,7 @@ module _ (event : List ℕ) where
     unfolding or_start
     role_some n = sym (ap or_start (a_role_read (reads_at event 0 role_columns) r e n).0) ∙ said
 
-module _ (rows ws : List ℤ) (event out : List ℕ) (a : Answer) (ws₁ : List ℤ) (q : Answered (calls.handleCall rows ws event) a ws₁) where
+module _ (rows ws : List ℤ) (event out : List ℕ) (a : Answer) (ws₁ : List ℤ) (q : Answered (calls.handle_call rows ws event) a ws₁) where
   pub touch_state : ws₁ ≡ (touched rows ws event out).0
   unfolding touched
   touch_state = q.2

@@ -80,10 +80,10 @@ beginning sheet = let n = length sheet in begins n (text sheet) (replicate (n * 
 -- the bytes that a session prints
 unfoldable pub session : List String → List String → List ℕ
 unfolding
-    dec_le option.bind word.isWord tabulate.tabulate field.digits field.text field.justified field.trimmed field.counted field.numeral
-    field.readsAt field.put_at paths.marksText paths.path_text paths.marks paths.pathIn paths.readsPathAt paths.pathNumber paths.marksFrom syntax.leaves
-    syntax.moves syntax.taskRows normalising.pair_of normalising.first_of normalising.value typing.type_of leaves.leavesOf leaves.padded leaves.leafKinds
-    leaves.meetsLeaf leaves.meets leaves.value_of leaves.numberGiven leaves.given showing.marked showing.offers showing.buttonIf showing.entriesIf computeTyping.ask computeTyping.nth
+    dec_le option.bind word.is_word tabulate.tabulate field.digits field.text field.justified field.trimmed field.counted field.numeral
+    field.reads_at field.put_at paths.marks_text paths.path_text paths.marks paths.path_in paths.reads_path_at paths.path_number paths.marks_from syntax.leaves
+    syntax.moves syntax.task_rows normalising.pair_of normalising.first_of normalising.value typing.type_of leaves.leaves_of leaves.padded leaves.leaf_kinds
+    leaves.meets_leaf leaves.meets leaves.value_of leaves.number_given leaves.given showing.marked showing.offers showing.button_if showing.entries_if computeTyping.ask computeTyping.nth
     computeTyping.takes computeTyping.gives computeTyping.numberTo computeTyping.opTo computeTyping.sameTo computeTyping.ifTo computeTyping.typeTo
     computeTyping.firstTo computeTyping.secondTo computeTyping.assignTo computeTyping.infer computeTyping.inferTask computeEvaluation.leaf
     computeEvaluation.isTrue computeEvaluation.kept computeEvaluation.exact computeEvaluation.exceeds computeEvaluation.apply computeEvaluation.firstPart computeEvaluation.secondPart computeEvaluation.branch
@@ -91,21 +91,21 @@ unfolding
     computeNormalising.goOnWith computeNormalising.chooseRight computeNormalising.chooseLeft computeNormalising.failing computeNormalising.stride
     computeNormalising.normalise computeNormalising.settle computeNormalising.remaining computeHandling.mapTask computeHandling.passGate computeHandling.thenSome
     computeHandling.atEditor computeHandling.atMark computeHandling.atSides computeHandling.atContinue computeHandling.unlessFailing
-    computeHandling.handle computeEntries.continueIf computeEntries.entries kinds.kind_of kinds.asksOf kinds.isUnused kinds.unusedBy rows.every rows.listedAs rows.listed
-    rows.truthCell rows.rowListed rows.sortBy rows.sorts rows.sortNumber rows.sortedAs rows.sorted rows.rowSorted rows.names rows.namesBy rows.namesIn
-    rows.namings rows.namedOnce rows.lastFits rows.movers enclosing.bindersBy enclosing.marksBy enclosing.mostBinders enclosing.mostMarks
-    enclosing.counts enclosing.leavesBy enclosing.rowSmall trees.operatorOf computeTrees.contentOf computeTrees.type_at computeTrees.expAt
-    computeTrees.code_at computeTrees.cellType computeTrees.cellTypes computeTrees.firstStore ground.passes3 ground.passes4 ground.passes5
-    ground.passes6 ground.flowType ground.is_some ground.passes7 ground.groundOfRows groundsAccepted.groundOfForm groundsAccepted.acceptedRows
-    sheet.sized sheet.leaving sheet.loadedLines sheet.loaded sheetAccepted.acceptsRows shape.put shape.asShape shape.maybeShape shape.leafOf
-    shape.front shape.asType shape.pairShape shape.firstShape shape.secondShape shape.leavesIn shape.shapeLeaves shape.kindsIn shape.kindsOf
-    layout.valueWords layout.putWords layout.writeTask layout.writeCells layout.encode layout.encodeFailed lent.own_of lent.lent_of reading.readValue reading.readTouches reading.by_tag
-    reading.readTask reading.readStore reading.same reading.decode values.leafBits values.asValue found.asFound fits.valueIn fits.valueFor
-    records.isRecord records.fields_at records.numberSaid records.each records.text_of records.itemsText records.putItems records.leavesRead lines.meant lines.meantAll lines.kindWord lines.afterRow
-    lines.lineSays lines.linesSay touching.numbered touching.touchIn roles.isRole roles.ofRole roles.touchesLeft roles.verdict roles.opens touching.roleSaid touching.leafSaid touching.isNothing touching.allNothing touching.allowed touching.eventSays touching.actionOf
-    touching.eventOf touching.unlessBlank touching.entrySays lists.offerAct lists.offerKinds lists.entryText lists.listText lists.under
-    memories.state_of memories.failedOf memories.valueMemory memories.hasOne calls.startWith calls.startCall calls.atRest calls.failedAs calls.decoded calls.readWith calls.opened
-    calls.settled calls.handled calls.handleRead calls.handleIn calls.handleCall calls.lookRest calls.lookIn calls.lookCall heads.headOver screens.orStart screens.roleOf screens.shownAfter screens.loadedCounted
+    computeHandling.handle computeEntries.continueIf computeEntries.entries kinds.kind_of kinds.asks_of kinds.is_unused kinds.unused_by rows.every rows.listed_as rows.listed
+    rows.truth_cell rows.row_listed rows.sort_by rows.sorts rows.sort_number rows.sorted_as rows.sorted rows.row_sorted rows.names rows.names_by rows.names_in
+    rows.namings rows.named_once rows.last_fits rows.movers enclosing.binders_by enclosing.marks_by enclosing.most_binders enclosing.most_marks
+    enclosing.counts enclosing.leaves_by enclosing.row_small trees.operator_of computeTrees.content_of computeTrees.type_at computeTrees.exp_at
+    computeTrees.code_at computeTrees.cell_type computeTrees.cell_types computeTrees.first_store ground.passes3 ground.passes4 ground.passes5
+    ground.passes6 ground.flow_type ground.is_some ground.passes7 ground.ground_of_rows groundsAccepted.ground_of_form groundsAccepted.accepted_rows
+    sheet.sized sheet.leaving sheet.loaded_lines sheet.loaded sheetAccepted.accepts_rows shape.put shape.as_shape shape.maybe_shape shape.leaf_of
+    shape.front shape.as_type shape.pair_shape shape.first_shape shape.second_shape shape.leaves_in shape.shape_leaves shape.kinds_in shape.kinds_of
+    layout.value_words layout.put_words layout.write_task layout.write_cells layout.encode layout.encode_failed lent.own_of lent.lent_of reading.read_value reading.read_touches reading.by_tag
+    reading.read_task reading.read_store reading.same reading.decode values.leaf_bits values.as_value found.as_found fits.value_in fits.value_for
+    records.is_record records.fields_at records.number_said records.each records.text_of records.items_text records.put_items records.leaves_read lines.meant lines.meant_all lines.kind_word lines.after_row
+    lines.line_says lines.lines_say touching.numbered touching.touch_in roles.is_role roles.of_role roles.touches_left roles.verdict roles.opens touching.role_said touching.leaf_said touching.is_nothing touching.all_nothing touching.allowed touching.event_says touching.action_of
+    touching.event_of touching.unless_blank touching.entry_says lists.offer_act lists.offer_kinds lists.entry_text lists.list_text lists.under
+    memories.state_of memories.failed_of memories.value_memory memories.has_one calls.start_with calls.start_call calls.at_rest calls.failed_as calls.decoded calls.read_with calls.opened
+    calls.settled calls.handled calls.handle_read calls.handle_in calls.handle_call calls.look_rest calls.look_in calls.look_call heads.head_over screens.or_start screens.role_of screens.shown_after screens.loaded_counted
     screens.begins screens.touched
 session sheet events = let b = beginning sheet in b.screen.text ++ touches b.rows b.state events
 

@@ -147,5 +147,5 @@ pub +evaluate_spec : {M : Type 1} → statement M
     evaluate_tag c.args.rows.now c.args.row c.args.env.now c.args.depth c.args.state.now
     c.put_tag-in_default.new.state c.put_tag-in_default.ensures (λ e. c.in_default-1.rest.0.0.0.1 (k ∙ e)) (λ e. c.in_default-1.rest.0.0.1 (k ∙ e))
     (λ e. c.in_default-1.rest.0.1 (subst (OneOf content_kinds) (sym k) e)) (λ e. c.in_default-1.rest.1 (k ∙ e))
-    (λ p q. ⊎_elim (λ z. omega (arith, k, z.taken)) (⊎_elim (λ z. omega (arith, k, z.1.left)) (λ z. omega (arith, k, z.1.left))) c.in_default.branch)
-    (λ p q. ⊎_elim (λ z. omega (arith, k, z.taken)) (⊎_elim (λ z. omega (arith, k, z.2.taken)) (λ z. omega (arith, k, z.3.left))) c.in_default.branch))
+    (λ p q. ⊎_elim (λ z. omega arith) (⊎_elim (λ z. omega arith) (λ z. omega arith)) c.in_default.branch-raw)
+    (λ p q. ⊎_elim (λ z. omega arith) (⊎_elim (λ z. omega arith) (λ z. omega arith)) c.in_default.branch-raw))

@@ -33,7 +33,7 @@ handed_on_spec = tie.close (tie.spec
     let g = c.get-kind.ensures in
     let t = c.read-tag.ensures in
     let x = sym t ∙ c.in-2.is in
-    ⊎_elim (λ e. handed_true (sym g ∙ e) x) (λ e. handed_let (sym g ∙ e) x) c.in-2.is)
+    ⊎_elim (λ e. handed_true (sym g ∙ e) x) (λ e. handed_let (sym g ∙ e) x) c.in-25.in-25-own.keys1)
     (λ c.
     let g = c.get-kind.ensures in
     let t = c.read-tag.ensures in
@@ -41,7 +41,7 @@ handed_on_spec = tie.close (tie.spec
     (λ c.
     let g = c.get-kind.ensures in
     let t = c.read-tag.ensures in
-    handed_false (sym g ∙ c.in-2.is) (sym t ∙ c.in-3.is))
+    handed_false (sym g ∙ c.in-25-kind.is) (sym t ∙ c.in-3.is))
     (λ c.
     let g = c.get-kind.ensures in
     let t = c.read-tag.ensures in
