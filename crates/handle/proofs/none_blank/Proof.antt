@@ -23,9 +23,9 @@ none_blank_spec = tie.close (tie.spec
     (λ c. (omega arith, (λ j l. absurd (omega arith))))
     (λ c. search rules)
     (λ c.
-    some_blank c.args.t1 c.args.n c.loop-k.k c.loop-k-test.true c.if-blank-k.true)
+    some_blank c.args.blank c.args.n c.loop-k.k c.loop-k-test.true c.if-blank-k.true)
     (λ c. search rules)
     (λ c. search rules)
     (λ c. (omega arith, below_more _ _ c.loop-k.invariant.1 c.if-blank-k.false))
     (λ c.
-    none_blank c.args.t1 c.args.n c.loop-k.k (omega arith) c.loop-k.invariant.1))
+    none_blank c.args.blank c.args.n c.loop-k.k (omega arith) c.loop-k.invariant.1))
