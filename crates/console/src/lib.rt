@@ -1,35 +1,39 @@
 // A session over standard input and standard output (01, "A session in full"). Reads, calls crate screens, prints. The memory is
-// of a fixed size, and the input of any length. Output that is lost, and input that cannot be read, are told on standard error: a
-// program has no exit status to tell them by.
+// of a fixed size, and the input of any length. Output that is lost, and input that cannot be read, are told on standard error; the
+// exit status is 0 all the same.
+#![tactic(auto)]
+
 ghost use Rattle.std.specs.Prelude.{◌≤◌};
-ghost use Rattle.io.specs.Counts.{IsPrefixLen};
+ghost use Rattle.std.specs.Counts.{IsPrefixLen};
 
 use formats::{EVENT_BYTES, LINE_BYTES};
-use libc::{STDERR_FILENO, STDIN_FILENO, STDOUT_FILENO};
 use rows::{MAX_ROWS, ROW_WORDS, ROWS_WORDS};
 use screens::count;
 use screens::count::COUNT_BYTES;
 use screens::turn::{SCREEN_BYTES, begin, touch};
 use state::{STATE_SIZE, STATE_WORDS};
+use std::io::Read;
 
 // Reads once. Where the input cannot be read, says so on standard error. How many bytes it put at the front of `to`.
-fn read_some(to: &mut [u8]) -> usize
+fn read_some(rt: &impl Eprint, from: &mut impl Read, to: &mut [u8]) -> usize
     ensures { IsPrefixLen result to.new }
 {
-    let got = libc::read(STDIN_FILENO, to);
-    if got < 0 {
-        io::write_all(STDERR_FILENO, b"nannyjiffy: input lost\n");
+    match from.read(to) {
+        Ok(got) => got,
+        Err(_) => {
+            let _ = eprintln!(rt; "nannyjiffy: input lost");
+            0
+        }
     }
-    io::count(got, to)
 }
 
 // Reads until `to` is full, or the input ends or cannot be read. How many bytes it put at the front of `to`.
-fn read_full(to: &mut [u8]) -> usize
+fn read_full(rt: &impl Eprint, from: &mut impl Read, to: &mut [u8]) -> usize
     ensures { IsPrefixLen result to.new }
 {
     let mut done = 0;
     while done < to.len() {
-        let more = read_some(&mut to[done..]);
+        let more = read_some(rt, from, &mut to[done..]);
         if more == 0 {
             return done;
         }
@@ -39,39 +43,45 @@ fn read_full(to: &mut [u8]) -> usize
 }
 
 // Reads until `to` is full, `left` bytes are read, or the input ends or cannot be read. How many bytes it put at the front of `to`.
-pub fn read(to: &mut [u8], left: usize) -> usize
+pub fn read(rt: &impl Eprint, from: &mut impl Read, to: &mut [u8], left: usize) -> usize
     ensures { (result ≤ left) × IsPrefixLen result to.new }
 {
     if left < to.len() {
-        return read_full(&mut to[..left]);
+        return read_full(rt, from, &mut to[..left]);
     }
-    read_full(to)
+    read_full(rt, from, to)
 }
 
 // Prints bytes. Where the output takes no more, says so on standard error. Whether all were printed.
-fn print(bytes: &[u8]) -> bool {
-    let printed = io::write_all(STDOUT_FILENO, bytes);
+fn print(rt: &(impl Print + Eprint), bytes: &[u8]) -> bool {
+    let printed = rt.write_all(bytes).is_ok();
     if !printed {
-        io::write_all(STDERR_FILENO, b"nannyjiffy: output lost\n");
+        let _ = eprintln!(rt; "nannyjiffy: output lost");
     }
     printed
 }
 
 // Hands events to a flow and prints their screens, until the input ends, no byte is left or the output is lost. How many are left.
-fn events(rows: &[i32], state: &mut [i32], left: usize) -> usize
+fn events(
+    rt: &(impl Print + Eprint),
+    from: &mut impl Read,
+    rows: &[i32],
+    state: &mut [i32],
+    left: usize,
+) -> usize
     ensures { result ≤ left }
 {
     let mut event = [0u8; EVENT_BYTES];
     let mut out = [0u8; SCREEN_BYTES];
     let mut rest = left;
     while 0 < rest {
-        let got = read(&mut event, rest);
+        let got = read(rt, from, &mut event, rest);
         if got == 0 {
             return rest;
         }
         let bytes = touch(rows, state, &event[..got], &mut out);
         rest -= got;
-        if !print(&out[..bytes]) {
+        if !print(rt, &out[..bytes]) {
             return rest;
         }
     }
@@ -79,30 +89,40 @@ fn events(rows: &[i32], state: &mut [i32], left: usize) -> usize
 }
 
 // A sheet of n lines and its events, in memory for n rows. How many bytes are left.
-fn run(n: usize, sheet: &mut [u8], rows: &mut [i32], state: &mut [i32], left: usize) -> usize
+fn run(
+    rt: &(impl Print + Eprint),
+    from: &mut impl Read,
+    n: usize,
+    sheet: &mut [u8],
+    rows: &mut [i32],
+    state: &mut [i32],
+    left: usize,
+) -> usize
     ensures { result ≤ left }
 {
-    let got = read(sheet, left);
+    let got = read(rt, from, sheet, left);
     let mut out = [0u8; SCREEN_BYTES];
     let begun = begin(n, &sheet[..got], rows, state, &mut out);
     let bytes = begun.bytes;
-    if !print(&out[..bytes]) || !begun.started {
+    if !print(rt, &out[..bytes]) || !begun.started {
         return left - got;
     }
-    events(rows, state, left - got)
+    events(rt, from, rows, state, left - got)
 }
 
 // A session of at most `left` bytes. How many of them are left.
-pub fn session(left: usize) -> usize
+pub fn session(rt: &(impl Print + Eprint), from: &mut impl Read, left: usize) -> usize
     ensures { result ≤ left }
 {
     let mut text = [0u8; COUNT_BYTES];
-    let got = read(&mut text, left);
+    let got = read(rt, from, &mut text, left);
     let n = count::read(&text[..got]);
     let mut sheet = [0u8; MAX_ROWS * LINE_BYTES];
     let mut rows = [0i32; ROWS_WORDS];
     let mut state = [0i32; STATE_SIZE];
     run(
+        rt,
+        from,
         n,
         &mut sheet[..n * LINE_BYTES],
         &mut rows[..n * ROW_WORDS],
@@ -112,11 +132,11 @@ pub fn session(left: usize) -> usize
 }
 
 // Reads `left` bytes, fewer only where the input ends, and drops them.
-pub fn skip(left: usize) {
-    let mut dropped = io::buffer();
+pub fn skip(rt: &impl Eprint, from: &mut impl Read, left: usize) {
+    let mut dropped = [0u8; 4096];
     let mut rest = left;
     while 0 < rest {
-        let got = read(&mut dropped, rest);
+        let got = read(rt, from, &mut dropped, rest);
         if got == 0 {
             return;
         }

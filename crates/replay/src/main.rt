@@ -1,9 +1,11 @@
 // Replays a stream of sessions: each a length in 8 columns, byte 10, and that many bytes, which are one session's input. The
 // screens of each session are printed, and after them a line of four minus signs.
+#![tactic(auto)]
+
 use console::{read, session, skip};
 use decimal::field;
 use decimal::field::Reading;
-use libc::STDOUT_FILENO;
+use std::io::Read;
 
 const LENGTH_COLUMNS: usize = 8;
 
@@ -14,25 +16,26 @@ const LENGTH_BYTES: usize = LENGTH_COLUMNS + 1;
 const SESSIONS: usize = usize::MAX;
 
 // Replays the next session. Where no length can be read, there is none.
-fn replayed() -> bool {
+fn replayed(rt: &(impl Print + Eprint), from: &mut impl Read) -> bool {
     let mut text = [0u8; LENGTH_BYTES];
-    read(&mut text, LENGTH_BYTES);
+    read(rt, from, &mut text, LENGTH_BYTES);
     let reading = field::read(&text, 0, LENGTH_COLUMNS);
     match reading {
         Reading::Number(n) => {
-            let rest = session(n as usize);
-            skip(rest);
-            io::write_all(STDOUT_FILENO, b"----\n")
+            let rest = session(rt, from, n as usize);
+            skip(rt, from, rest);
+            rt.write_all(b"----\n").is_ok()
         }
         Reading::Blank => false,
         Reading::Unreadable => false,
     }
 }
 
-fn main() {
+fn main(rt: HostRuntime) {
+    let mut from = rt.stdin();
     let mut more = SESSIONS;
     while 0 < more {
-        if !replayed() {
+        if !replayed(&rt, &mut from) {
             return;
         }
         more -= 1;
