@@ -15,7 +15,7 @@ goes_on_spec = tie.close (tie.spec
     (λ c κs. let l = low_a c.requires.0 _ c.operand.result refl c.operand.ensures c.requires.1 c.requires.2 in fine_at c.requires.0 c.operand.result 0 (omega arith) (omega arith))
     (λ c.
     goes_none c.args.rows.now c.args.state.now c.args.row c.args.env.now c.args.depth
-    c.operand.result c.operand.ensures c.value-found.result c.value-found.ensures (not-true _ (not_from_false _ c.if-not-found.true)))
+    c.operand.result c.operand.ensures c.value-found.result c.value-found.ensures (not-true _ c.if-not-found.true))
     (λ c κs. search rules)
     (λ c.
     goes_tried c.args.rows.now c.args.state.now c.args.row c.args.env.now c.args.depth

@@ -21,9 +21,9 @@ fill_spec = tie.close (tie.spec
     (λ c.
     fill_fits c.args.state.now c.args.row c.args.tag c.args.shape c.args.e
     (c.ends.ensures.yes (not-false _ (not_from_true _ c.if-not-ends.false))) c.leaves_of.result c.leaves_of.ensures.0 c.none_blank.result c.none_blank.ensures
-    c.requires.1 (not-false _ (not_from_true _ c.if-not-none_blank.false)) c.fits2.result c.fits2.ensures.1 c.fits2.ensures.0 c.put_value.new.state
+    c.requires.1 (not-false _ (not_from_true _ c.if-not-none_blank.false)) c.fits.result c.fits.ensures.1 c.fits.ensures.0 c.put_value.new.state
     c.if-fits.true c.put_value.ensures)
     (λ c.
     fill_unfit c.args.state.now c.args.row c.args.tag c.args.shape c.args.e
     (c.ends.ensures.yes (not-false _ (not_from_true _ c.if-not-ends.false))) c.leaves_of.result c.leaves_of.ensures.0 c.none_blank.result c.none_blank.ensures
-    c.requires.1 (not-false _ (not_from_true _ c.if-not-none_blank.false)) c.fits2.result c.fits2.ensures.1 c.fits2.ensures.0 c.if-fits.false))
+    c.requires.1 (not-false _ (not_from_true _ c.if-not-none_blank.false)) c.fits.result c.fits.ensures.1 c.fits.ensures.0 c.if-fits.false))
