@@ -74,7 +74,7 @@ set_bits (y ∷ ws) (suc k) h l = bits_cons (h.bits 0) (set_bits ws k (bits_tail
 put_bits : {ws : List ℕ} (i m : ℕ) (xs : List ℕ) → Bits ws → Bits xs → Bits (put_words ws i m xs)
 unfolding put_words
 put_bits i m [] h k = h
-put_bits i m (x ∷ xs) h k = put_bits i (suc m) xs (set_bits _ (place i m) h (k.bits 0)) (bits_tail k)
+put_bits {ws = ws} i m (x ∷ xs) h k = put_bits {ws = set ws (place i m) x} i (suc m) xs (set_bits _ (place i m) h (k.bits 0)) (bits_tail k)
 
 tag_bits : {ws : List ℕ} (i : ℕ) {x : ℕ} → x < words → Bits ws → Bits (put_words ws i 0 (x ∷ []))
 tag_bits i {x} l h = put_bits i 0 (x ∷ []) h (bits_cons l bits_none)
@@ -91,29 +91,29 @@ touches_bits : {ws : List ℕ} (i : ℕ) {x k n : ℕ} → x < words → n < wor
 touches_bits i {x} {k} l b m h = put_bits i 0 (x ∷ touch_words k) h (bits_cons l (bits_cons (shape_small number number_leaf_lem) (bits_cons (omega (arith, m, b)) bits_none)))
 
 module _ (rs : List ℕ) (b : AllBits rs) {Σ : List Ty} (g : AllSmall Σ) where
-  task_bits : {Γ : List Ty} {τ : Ty} {i : ℕ} {c : Code} {t : TaskOf c} {ws : List ℕ} → ReadsCode rs i c → TaskType Σ Γ c t τ → AllSmall Γ → Bits ws → Bits (write_task rs i c t ws)
+  task_bits : {i : ℕ} {c : Code} → ReadsCode rs i c → {Γ : List Ty} {τ : Ty} {t : TaskOf c} {ws : List ℕ} → TaskType Σ Γ c t τ → AllSmall Γ → Bits ws → Bits (write_task rs i c t ws)
   unfolding write_task
-  task_bits {i = i} (r_edit k m r) (k_filled d v) h w = valued_bits i (lit< tt) v (type_leaves d g h) w
-  task_bits {i = i} (r_enter k m r) (k_blank l) h w = tag_bits i (lit< tt) w
-  task_bits {i = i} (r_enter k m r) (k_entered l v) h w = valued_bits i (lit< tt) v l w
-  task_bits {i = i} (r_update k m r) (k_shared d) h w = tag_bits i (lit< tt) w
-  task_bits {i = i} (r_then k m n p q) (k_then_before d e) h w = task_bits p d h (tag_bits i (lit< tt) w)
-  task_bits {i = i} (r_then k m n p q) (k_then_after d v e) h w = let l = task_type_leaves d g h in task_bits q e (small_cons l h) (valued_bits i (lit< tt) v l w)
-  task_bits {i = i} (r_next k m n p q) (k_next_before d e) h w = task_bits p d h (tag_bits i (lit< tt) w)
-  task_bits {i = i} (r_next k m n p q) (k_next_after d v e) h w = let l = task_type_leaves d g h in task_bits q e (small_cons l h) (valued_bits i (lit< tt) v l w)
-  task_bits {i = i} (r_fail k m r) (k_failed l) h w = tag_bits i (lit< tt) w
-  task_bits {i = i} (r_and k m n p q) (k_both d e l) h w = task_bits q e h (task_bits p d h (tag_bits i (lit< tt) w))
-  task_bits {i = i} (r_or k m n p q) (k_either d e) h w = task_bits q e h (task_bits p d h (tag_bits i (lit< tt) w))
-  task_bits {i = i} (r_or k m n p q) (k_or_left d e) h w = task_bits p d h (tag_bits i (lit< tt) w)
-  task_bits {i = i} (r_or k m n p q) (k_or_right d e) h w = task_bits q e h (tag_bits i (lit< tt) w)
-  task_bits {i = i} (r_xor k m n p q) (k_unpicked d e) h w = tag_bits i (lit< tt) w
-  task_bits {i = i} (r_xor k m n p q) (k_picked_left d e) h w = task_bits p d h (tag_bits i (lit< tt) w)
-  task_bits {i = i} (r_xor k m n p q) (k_picked_right d e) h w = task_bits q e h (tag_bits i (lit< tt) w)
-  task_bits {i = i} (r_view k m r) (k_viewed d v) h w = valued_bits i (lit< tt) v (type_leaves d g h) w
-  task_bits {i = i} (r_gate k m p) (k_gated l d) h w = task_bits p d h (touches_bits i (lit< tt) (b (i * row_words + 3)) l w)
-  task_bits {i = i} (r_if k m n o r p q) (k_if_true c d e) h w = task_bits p d h (tag_bits i (lit< tt) w)
-  task_bits {i = i} (r_if k m n o r p q) (k_if_false c d e) h w = task_bits q e h (tag_bits i (lit< tt) w)
-  task_bits {i = i} (r_let k m n r q) (k_bound c v e) h w = let l = type_leaves c g h in task_bits q e (small_cons l h) (valued_bits i (lit< tt) v l w)
+  task_bits {i} (r_edit k m r) (k_filled d v) h w = valued_bits i (lit< tt) v (type_leaves d g h) w
+  task_bits {i} (r_enter k m r) (k_blank l) h w = tag_bits i (lit< tt) w
+  task_bits {i} (r_enter k m r) (k_entered l v) h w = valued_bits i (lit< tt) v l w
+  task_bits {i} (r_update k m r) (k_shared d) h w = tag_bits i (lit< tt) w
+  task_bits {i} (r_then k m n p q) (k_then_before d e) h w = task_bits p d h (tag_bits i (lit< tt) w)
+  task_bits {i} (r_then k m n p q) (k_then_after d v e) h w = let l = task_type_leaves d g h in task_bits q e (small_cons l h) (valued_bits i (lit< tt) v l w)
+  task_bits {i} (r_next k m n p q) (k_next_before d e) h w = task_bits p d h (tag_bits i (lit< tt) w)
+  task_bits {i} (r_next k m n p q) (k_next_after d v e) h w = let l = task_type_leaves d g h in task_bits q e (small_cons l h) (valued_bits i (lit< tt) v l w)
+  task_bits {i} (r_fail k m r) (k_failed l) h w = tag_bits i (lit< tt) w
+  task_bits {i} (r_and k m n p q) (k_both d e l) h w = task_bits q e h (task_bits p d h (tag_bits i (lit< tt) w))
+  task_bits {i} (r_or k m n p q) (k_either d e) h w = task_bits q e h (task_bits p d h (tag_bits i (lit< tt) w))
+  task_bits {i} (r_or k m n p q) (k_or_left d e) h w = task_bits p d h (tag_bits i (lit< tt) w)
+  task_bits {i} (r_or k m n p q) (k_or_right d e) h w = task_bits q e h (tag_bits i (lit< tt) w)
+  task_bits {i} (r_xor k m n p q) (k_unpicked d e) h w = tag_bits i (lit< tt) w
+  task_bits {i} (r_xor k m n p q) (k_picked_left d e) h w = task_bits p d h (tag_bits i (lit< tt) w)
+  task_bits {i} (r_xor k m n p q) (k_picked_right d e) h w = task_bits q e h (tag_bits i (lit< tt) w)
+  task_bits {i} (r_view k m r) (k_viewed d v) h w = valued_bits i (lit< tt) v (type_leaves d g h) w
+  task_bits {i} (r_gate k m p) (k_gated l d) h w = task_bits p d h (touches_bits i (lit< tt) (b (i * row_words + 3)) l w)
+  task_bits {i} (r_if k m n o r p q) (k_if_true c d e) h w = task_bits p d h (tag_bits i (lit< tt) w)
+  task_bits {i} (r_if k m n o r p q) (k_if_false c d e) h w = task_bits q e h (tag_bits i (lit< tt) w)
+  task_bits {i} (r_let k m n r q) (k_bound c v e) h w = let l = type_leaves c g h in task_bits q e (small_cons l h) (valued_bits i (lit< tt) v l w)
 
 -- ---- cells
 

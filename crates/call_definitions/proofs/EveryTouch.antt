@@ -49,7 +49,7 @@ use Rattle.formats.proofs.CoversRead.{event_of_lem}
 use Rattle.call_definitions.specs.Answers.{AcceptedFlow, IsRest}
 use Rattle.call_definitions.specs.Calls.{handle_call}
 use Rattle.call_definitions.specs.States.{QuietIn}
-use Rattle.call_definitions.specs.Touches.{Call, run, Started, ungated, Stands}
+use Rattle.call_definitions.specs.Touches.{Call, after, run, Started, ungated, Stands}
 use Rattle.call_definitions.proofs.Standing.{role_quiet, stands, call_rest}
 use Rattle.call_definitions.proofs.Ungated.{passes_none}
 use Rattle.call_definitions.proofs.StartAnswered.{started_is_rest}
@@ -59,7 +59,7 @@ module _ {rows : List ℤ} {c : Code} {Σ : List Ty} {τ : Ty} (a : AcceptedFlow
   pub run_rest : {ws : List ℤ} → IsRest rows ws c Σ τ → (ks : List Call) → IsRest rows (run rows ws ks) c Σ τ
   unfolding run
   run_rest r [] = r
-  run_rest r (k ∷ ks) = run_rest (call_rest a r k) ks
+  run_rest {ws = ws} r (k ∷ ks) = run_rest {ws = after rows ws k} (call_rest a r k) ks
 
   pub every_run : {ws : List ℤ} → Started rows ws ⊎ IsRest rows ws c Σ τ → (ks : List Call) → Stands rows (run rows ws ks) c Σ τ
   every_run h ks = stands a (run_rest (⊎_elim (started_is_rest a) (λ r. r) h) ks)

@@ -61,15 +61,15 @@ unfolding
     paths.marks_text paths.path_text paths.marks paths.path_in paths.reads_path_at syntax.leaves syntax.moves syntax.task_rows
     normalising.pair_of normalising.first_of normalising.value typing.type_of leaves.leaves_of leaves.padded leaves.leaf_kinds leaves.meets_leaf leaves.meets
     leaves.value_of leaves.number_given leaves.given showing.marked showing.offers showing.button_if showing.entries_if computeTyping.ask computeTyping.nth
-    computeTyping.takes computeTyping.gives computeTyping.numberTo computeTyping.opTo computeTyping.sameTo computeTyping.ifTo computeTyping.typeTo
-    computeTyping.firstTo computeTyping.secondTo computeTyping.assignTo computeTyping.infer computeTyping.inferTask computeEvaluation.leaf
-    computeEvaluation.isTrue computeEvaluation.kept computeEvaluation.exact computeEvaluation.exceeds computeEvaluation.apply computeEvaluation.firstPart
-    computeEvaluation.secondPart computeEvaluation.branch computeEvaluation.eval computeEvaluation.overflows computeEvaluation.evaluate
-    computeEvaluation.overflowsTask computeNormalising.unlessStill computeNormalising.strides computeNormalising.goOn computeNormalising.goOnWith
-    computeNormalising.chooseRight computeNormalising.chooseLeft computeNormalising.failing computeNormalising.stride computeNormalising.normalise
-    computeNormalising.settle computeNormalising.remaining computeHandling.mapTask computeHandling.passGate computeHandling.thenSome
-    computeHandling.atEditor computeHandling.atMark computeHandling.atSides computeHandling.atContinue computeHandling.unlessFailing
-    computeHandling.handle computeEntries.continueIf computeEntries.entries kinds.kind_of kinds.asks_of rules.every rules.listed_as rules.listed
+    computeTyping.takes computeTyping.gives computeTyping.number_to computeTyping.op_to computeTyping.same_to computeTyping.if_to computeTyping.type_to
+    computeTyping.first_to computeTyping.second_to computeTyping.assign_to computeTyping.infer computeTyping.infer_task computeEvaluation.leaf
+    computeEvaluation.is_true computeEvaluation.kept computeEvaluation.exact computeEvaluation.exceeds computeEvaluation.apply computeEvaluation.first_part
+    computeEvaluation.second_part computeEvaluation.branch computeEvaluation.eval computeEvaluation.overflows computeEvaluation.evaluate
+    computeEvaluation.overflows_task computeNormalising.unless_still computeNormalising.strides computeNormalising.go_on computeNormalising.go_on_with
+    computeNormalising.choose_right computeNormalising.choose_left computeNormalising.failing computeNormalising.stride computeNormalising.normalise
+    computeNormalising.settle computeNormalising.remaining computeHandling.map_task computeHandling.pass_gate computeHandling.then_some
+    computeHandling.at_editor computeHandling.at_mark computeHandling.at_sides computeHandling.at_continue computeHandling.unless_failing
+    computeHandling.handle computeEntries.continue_if computeEntries.entries kinds.kind_of kinds.asks_of rules.every rules.listed_as rules.listed
     rules.truth_cell rules.row_listed rules.sort_by rules.sorts rules.sort_number rules.sorted_as rules.sorted rules.row_sorted rules.names rules.names_by
     rules.names_in rules.namings rules.named_once rules.last_fits enclosing.binders_by enclosing.marks_by enclosing.most_binders enclosing.most_marks
     enclosing.counts enclosing.leaves_by enclosing.row_small trees.operator_of computeTrees.content_of computeTrees.type_at computeTrees.exp_at
