@@ -24,7 +24,7 @@ use Rattle.tophat.proofs.EntriesCover.{taken_covered}
 use Rattle.tophat.proofs.RegroupingTouches.{path_back, path_in_path_back, path_back_path_in}
 use Rattle.tophat.proofs.RenamingTouches.{LikeOption, like_none, like_some}
 use Rattle.formats.specs.Touches.{event_of}
-use Rattle.formats.specs.Lists.{Fits, fit_more}
+use Rattle.formats.specs.Lists.{Fits, fit_none, fit_more}
 use Rattle.formats.proofs.Records.{fields_words, leaves_words}
 use Rattle.formats.proofs.TouchesRead.{written_leaves, event_said}
 use Rattle.formats.proofs.CoversRead.{leaves_place, readable, readable_role, leaves_long, event_of_lem, says_of}
@@ -57,6 +57,7 @@ other_path event {role} h q few =
 -- ---- no task of an accepted flow takes a touch deeper than 16 marks
 
 fit_few : {es : List Entry} {i : ℕ} {e : Entry} → Fits 0 es → At es i e → length e.0 ≤ max_marks
+fit_few fit_none d = elim d [ ]
 fit_few (fit_more l k h) here = omega (arith, l)
 fit_few (fit_more l k h) (there d) = fit_few h d
 

@@ -42,7 +42,7 @@ halves {rows} l h = let (c, Σ, τ, f) = flow_of l in by f f.flow.code h
     typed : {a b : Code} {Σ : List Ty} {σ : Ty} (f : AcceptedFlow rows (and a b) Σ σ) → CodeType Σ [] (and a b) σ → (τ : Ty) × (υ : Ty) × Halves rows τ υ
     typed {a} {b} {Σ} f (t_and {τ = τ} {υ = υ} p q k) = (τ, υ, record { a = a; b = b; cells = Σ; flow = f })
 
-    by : {c : Code} {Σ : List Ty} {σ : Ty} {i : ℕ} → AcceptedFlow rows c Σ σ → ReadsCode (own_rows rows) i c → OfKind (own_rows rows) i (task_k and_k)
+    by : {i : ℕ} {c : Code} {Σ : List Ty} {σ : Ty} → AcceptedFlow rows c Σ σ → ReadsCode (own_rows rows) i c → OfKind (own_rows rows) i (task_k and_k)
         → (τ : Ty) × (υ : Ty) × Halves rows τ υ
     by f (r_and k x y g e) h = typed f f.flow.typed
     by f (r_edit k x g) h = absurd (omega (arith, k, h))

@@ -232,7 +232,7 @@ saying r role path number leaves = acted (cond r (bind role λ k. permitted k (b
 said_mirrored : (r : Bool) (role : Option ℕ) (path : Option Path) (number : Option ℤ) (leaves : Option (List Given))
     → saying r role (mirrored_path path) number leaves ≡ moved_touch mirror_path (saying r role path number leaves)
 unfolding bind mirrored_path moved_touch
-said_mirrored false role path number leaves = refl
+said_mirrored false role _ number leaves = refl
 said_mirrored true none path number leaves = refl
 said_mirrored true (some k) none number leaves = refl
 said_mirrored true (some k) (some p) none leaves = refl
