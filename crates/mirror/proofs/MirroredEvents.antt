@@ -233,7 +233,7 @@ said_mirrored : (r : Bool) (role : Option ℕ) (path : Option Path) (number : Op
     → saying r role (mirrored_path path) number leaves ≡ moved_touch mirror_path (saying r role path number leaves)
 unfolding bind mirrored_path moved_touch
 said_mirrored false role _ number leaves = refl
-said_mirrored true none path number leaves = refl
+said_mirrored true none _ number leaves = refl
 said_mirrored true (some k) none number leaves = refl
 said_mirrored true (some k) (some p) none leaves = refl
 said_mirrored true (some k) (some p) (some n) leaves = by (numbered act_number act_table n) leaves
