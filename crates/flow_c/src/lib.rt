@@ -1,6 +1,8 @@
 // The four calls of document 01 and that of CR 7 for C and Rust (`include/nannyjiffy.h`). Each export is the call that it names: numbers
 // pass as themselves, a slice as a pointer and a length. Single numbers that are lent hold answers and are written at every
 // call, whatever it answers.
+#![tactic(auto)]
+
 ghost use Rattle.std.specs.Prelude.{◌≡◌, length};
 ghost use Rattle.sheet.specs.Sheet.{loaded};
 ghost use Rattle.call_definitions.specs.Calls.{start_call, look_call, handle_call};

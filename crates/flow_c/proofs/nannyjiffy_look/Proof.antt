@@ -13,7 +13,7 @@ same_length_2 : tie.Need-shape_of-list
 same_length_2 c = search rules
 
 returns : tie.Need-returns
-returns c = let shown = c.fill-seen.ensures in (shown.number, (shown.has_value, (shown.fails, (shown.bytes, (shown.value-1, shown.list-1)))))
+returns c = let shown = c.before.before.before.fill-seen.ensures in (shown.number, (shown.has_value, (shown.fails, (shown.bytes, (shown.value, shown.list)))))
 
 pub nannyjiffy_look_spec : {M : Type 1} → statement M
 nannyjiffy_look_spec = tie.close (tie.spec fill_requires same_length same_length_2 returns)

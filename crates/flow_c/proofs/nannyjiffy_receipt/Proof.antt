@@ -8,7 +8,7 @@ total_requires : tie.Need-total-priced-requires
 total_requires c κs = search rules
 
 returns : tie.Need-returns
-returns c = let e = c.total-priced.ensures in (ap (λ r. r.number) e, ap (λ r. r.total-priced) e)
+returns c = let e = c.total-priced.ensures in (ap (λ r. r.number) e, ap (λ r. r.total) e)
 
 pub nannyjiffy_receipt_spec : {M : Type 1} → statement M
 nannyjiffy_receipt_spec = tie.close (tie.spec total_requires returns)
