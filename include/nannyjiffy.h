@@ -1,5 +1,5 @@
 /* Nannyjiffy's five calls for C: load a sheet, start its flow, look at a rest in a role, handle an event, and price an order of
- * finished values. They stand in libflow_c.a (`rt staticlib flow_c`), whose contracts are in crates/flow_c/src/lib.rt; document
+ * finished values. They stand in libflow_c.a (`rt lib` in crates/flow_c), whose contracts are in crates/flow_c/src/lib.rt; document
  * 01 says what sheets, events and list entries are, CR 7 what price lists and orders are, docs/STATE.md what a state's words
  * are, and docs/NUMBERS.md what to do about each number.
  *
