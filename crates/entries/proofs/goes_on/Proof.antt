@@ -20,4 +20,4 @@ goes_on_spec = tie.close (tie.spec
     (λ c.
     goes_tried c.args.rows.now c.args.state.now c.args.row c.args.env.now c.args.depth
     c.operand.result c.operand.ensures c.value-found.result c.value-found.ensures c.attempt.new.state
-    c.attempt.result (not-false _ (not_from_true _ c.if-not-found.false)) c.attempt.ensures))
+    c.attempt.result (not-false _ c.if-not-found.false) c.attempt.ensures))

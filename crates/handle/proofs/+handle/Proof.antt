@@ -125,22 +125,22 @@ pub +handle_spec : {M : Type 1} → statement M
     handle_unmarked c.args.rows.now c.args.state.now c.args.row c.args.env.now c.args.depth c.args.e.role
     (event_path c.args.e) (event_action c.args.e) (c.handed_on-part.ensures.none c.if-part-ne0.false)
     (omega (arith, c.get-kind.ensures, c.in-46-to-47.if-kind-lt46-own.false)) (omega (arith, c.get-kind.ensures, c.in-46-to-47.if-kind-lt48-own.true))
-    (front_empty (event_path c.args.e) (sym c.in-Empty.in-Empty-own.in-Empty-own.in-Empty-own.is ∙ c.front_mark-front.ensures)))
+    (front_empty (event_path c.args.e) (sym c.in-Empty.is ∙ c.front_mark-front.ensures)))
     (λ c.
     handle_first c.args.rows.now c.args.state.now c.handle-in-First.new.state c.args.row c.args.env.now
     c.args.depth c.handle-in-First.result c.args.e.role (event_path c.args.e) (event_action c.args.e)
     (c.handed_on-part.ensures.none c.if-part-ne0.false) (omega (arith, c.get-kind.ensures, c.in-46-to-47.if-kind-lt46-own.false))
-    (omega (arith, c.get-kind.ensures, c.in-46-to-47.if-kind-lt48-own.true)) c.operand-a.result (path_of c.in-First.in-First-own.in-First-own.in-First-own.rest)
+    (omega (arith, c.get-kind.ensures, c.in-46-to-47.if-kind-lt48-own.true)) c.operand-a.result (path_of c.in-First.rest)
     c.operand-a.ensures
-    (front_one (event_path c.args.e) c.in-First.in-First-own.in-First-own.in-First-own.rest (sym c.in-First.in-First-own.in-First-own.in-First-own.is ∙ c.front_mark-front.ensures))
+    (front_one (event_path c.args.e) c.in-First.rest (sym c.in-First.is ∙ c.front_mark-front.ensures))
     (subst (λ f. HandleOk c.args.rows.now c.args.state.now c.handle-in-First.new.state c.operand-a.result c.args.env.now c.args.depth f.role (event_path f) (event_action f) c.handle-in-First.result) c.inside.ensures c.handle-in-First.ensures))
     (λ c.
     handle_second c.args.rows.now c.args.state.now c.handle-in-Second.new.state c.args.row c.args.env.now
     c.args.depth c.handle-in-Second.result c.args.e.role (event_path c.args.e) (event_action c.args.e)
     (c.handed_on-part.ensures.none c.if-part-ne0.false) (omega (arith, c.get-kind.ensures, c.in-46-to-47.if-kind-lt46-own.false))
-    (omega (arith, c.get-kind.ensures, c.in-46-to-47.if-kind-lt48-own.true)) c.operand-b.result (path_of c.in-Second.in-Second-own.in-Second-own.in-Second-own.rest)
+    (omega (arith, c.get-kind.ensures, c.in-46-to-47.if-kind-lt48-own.true)) c.operand-b.result (path_of c.in-Second.rest)
     c.operand-b.ensures
-    (front_two (event_path c.args.e) c.in-Second.in-Second-own.in-Second-own.in-Second-own.rest (sym c.in-Second.in-Second-own.in-Second-own.in-Second-own.is ∙ c.front_mark-front.ensures))
+    (front_two (event_path c.args.e) c.in-Second.rest (sym c.in-Second.is ∙ c.front_mark-front.ensures))
     (subst (λ f. HandleOk c.args.rows.now c.args.state.now c.handle-in-Second.new.state c.operand-b.result c.args.env.now c.args.depth f.role (event_path f) (event_action f) c.handle-in-Second.result) c.inside-in-Second.ensures c.handle-in-Second.ensures))
     (λ c.
     handle_none c.args.rows.now c.args.state.now c.args.row c.args.env.now c.args.depth c.args.e.role
