@@ -1,5 +1,8 @@
 // Are the words of a state the writing of a well-typed task and store of the rows? The cells and the task of the last row are
 // read from the words, each content by its row's type, and written again into words of zeros: these must be the same words.
+
+#![tactic(auto)]
+
 ghost use Rattle.std.specs.Prelude.{◌≡◌, true, false, ◌*◌, ◌-◌, ◌<◌, ◌≤◌, length, replicate};
 ghost use Rattle.word.specs.Decides.{Decides};
 ghost use Rattle.rows.specs.Rows.{max_rows};

@@ -33,8 +33,6 @@ copy_cells_spec = tie.close (tie.spec invariant-loop decreases-loop
     let l = c.loop-i-test.true in
     (omega arith, next_cells c.args.state.now c.loop-i.invariant.1 c.copy_cell.ensures (not_from_true _ c.if-not-copy_cell.false)))
     (λ c.
-    let loop = c.before in
-    let start = loop.before in
     let l = c.loop-i-test.false in
-    let k = loop.loop-i.invariant.0 in
-    all_cells start.args.state.now loop.loop-i.invariant.1 (let e : loop.loop-i.i ≡ start.args.n = omega arith in e)))
+    let k = c.loop-i.invariant.0 in
+    all_cells c.args.state.now c.loop-i.invariant.1 (let e : c.loop-i.i ≡ c.args.n = omega arith in e)))

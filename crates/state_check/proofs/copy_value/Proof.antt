@@ -9,9 +9,9 @@ copy_value_spec = tie.close (tie.spec
     (λ c κs. search rules) (λ c κs. search rules) (λ c κs. search rules)
     (λ c.
     let s = c.args in
-    copy_value_yes s.state.now s.row s.shape c.read_value-v.ensures c.fits2.ensures.1 c.fits2.ensures.0
+    copy_value_yes s.state.now s.row s.shape c.read_value-v.ensures c.fits.ensures.1 c.fits.ensures.0
     c.if-fits.true c.put_value.ensures)
     (λ c.
     let s = c.args in
-    copy_value_no s.state.now s.row s.shape c.read_value-v.ensures c.fits2.ensures.1 c.fits2.ensures.0
+    copy_value_no s.state.now s.row s.shape c.read_value-v.ensures c.fits.ensures.1 c.fits.ensures.0
     c.if-fits.false))

@@ -20,9 +20,9 @@ written_spec = tie.close (tie.spec
     let l = c.requires.0.0 in let h = c.requires.0.1.low in
     let x : length c.args.state.now ≡ state_size = search rules in let y : length c.copy_task.new.work ≡ state_size = search rules in
     (omega (arith, l, h, x), omega (arith, l, h, y)))
-    (λ c. let s = c.before.before.before.before.before.before.before.before.before.before in
-    let x : length s.args.state.now ≡ state_size = search rules in let y : length c.copy_task.new.work ≡ state_size = search rules in
-    held_same s.requires.0.0 (zero_rows state_size s.requires.1.1) c.copy_cells.ensures c.if-copy_cells.true c.copy_task.ensures c.if-copy_task.true s.requires.1.0 (x ∙ sym y) c.alike.ensures)
+    (λ c.
+    let x : length c.args.state.now ≡ state_size = search rules in let y : length c.copy_task.new.work ≡ state_size = search rules in
+    held_same c.requires.0.0 (zero_rows state_size c.requires.1.1) c.copy_cells.ensures c.if-copy_cells.true c.copy_task.ensures c.if-copy_task.true c.requires.1.0 (x ∙ sym y) c.alike.ensures)
     (λ c.
     held_no_task c.requires.0.0 (zero_rows state_size c.requires.1.1) c.copy_cells.ensures c.if-copy_cells.true
     c.copy_task.ensures c.if-copy_task.false)
