@@ -26,7 +26,7 @@ array_read_if1 c = search rules
 
 returns : tie.Need-returns-then-leaves-k-ne0 invariant-loop decreases-loop
 returns c =
-    λ blank z. some_leaf c.args.words blank z c.loop-k.k (omega arith) c.if-leaves-k-ne0.true
+    λ blank z. some_leaf c.args.leaves blank z c.loop-k.k (omega arith) c.if-leaves-k-ne0.true
 
 add_k : tie.Need-overflow_step-k invariant-loop decreases-loop
 add_k c = search rules
@@ -36,11 +36,11 @@ loop_less c = omega arith
 
 loop_again : tie.Need-loop-k-preserved invariant-loop decreases-loop
 loop_again c =
-    (omega arith, one_more c.args.words c.loop-k.k c.loop-k.invariant.1 c.if-leaves-k-ne0.false)
+    (omega arith, one_more c.args.leaves c.loop-k.k c.loop-k.invariant.1 c.if-leaves-k-ne0.false)
 
 returns_2 : tie.Need-returns invariant-loop decreases-loop
 returns_2 c =
-    λ blank z. no_leaf c.args.words blank c.loop-k.k (omega arith) c.loop-k.invariant.1
+    λ blank z. no_leaf c.args.leaves blank c.loop-k.k (omega arith) c.loop-k.invariant.1
 
 pub all_zero_spec : {M : Type 1} → statement M
 all_zero_spec =

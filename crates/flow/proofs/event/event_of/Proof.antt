@@ -7,27 +7,16 @@ use Rattle.flow.proofs.event.event_of.Tie as tie
 
 returns : tie.Need-returns-then-not-leaves
 returns c =
-    let start_at = c.before in
-    let if1 = start_at in
-    let start = if1.before.before.before.before in
-    leaves_unread start.args.role start.args.path start.args.action start.args.leaves c.unread.result c.unread.ensures (not_from_false _ if1.if-not-leaves.true)
+    leaves_unread c.args.role c.args.path c.args.action c.args.leaves c.unread.result c.unread.ensures c.if-not-leaves.true
 
 returns_2 : tie.Need-returns-then-not-known
 returns_2 c =
-    let start_at = c.before in
-    let if2 = start_at in
-    let known = if2.before in
-    let if1 = known.before in
-    let start = if1.before.before.before.before in
-    action_unknown start.args.role start.args.path start.args.action start.args.leaves (not_from_true _ if1.if-not-leaves.false) known.known.result (known.known.ensures start.args.leaves.blank start.requires)
-    c.unread-then-not-known.result c.unread-then-not-known.ensures (not_from_false _ if2.if-not-known.true)
+    action_unknown c.args.role c.args.path c.args.action c.args.leaves c.if-not-leaves.false c.known.result (c.known.ensures c.args.leaves.blank c.requires)
+    c.unread-then-not-known.result c.unread-then-not-known.ensures (not_from_false _ c.if-not-known.true)
 
 returns_3 : tie.Need-returns
 returns_3 c =
-    let start_at = c.before.before in
-    let if1 = start_at in
-    let start = if1.before.before.before.before in
-    says_event start.args.role start.args.path start.args.action start.args.leaves (not_from_true _ if1.if-not-leaves.false) c.known.result (c.known.ensures start.args.leaves.blank start.requires) start.requires
+    says_event c.args.role c.args.path c.args.action c.args.leaves c.if-not-leaves.false c.known.result (c.known.ensures c.args.leaves.blank c.requires) c.requires
     (not_from_true _ c.if-not-known.false)
 
 pub event_of_spec : {M : Type 1} → statement M

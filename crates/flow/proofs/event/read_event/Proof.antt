@@ -16,20 +16,12 @@ returns c =
 
 returns_2 : tie.Need-returns-then-s-ne-NEWLINE
 returns_2 c =
-    let start_at = c.before in
-    let if2 = start_at in
-    let if1 = if2.before.before in
-    let start = if1.before.before in
-    says_unread c.unread-then-s-ne-NEWLINE.result (event_of start.args.s.now) c.unread-then-s-ne-NEWLINE.ensures
-    (not_ended start.args.s.now if1.if-s-ne-EVENT_BYTES.false if2.if-s-ne-NEWLINE.true)
+    says_unread c.unread-then-s-ne-NEWLINE.result (event_of c.args.s.now) c.unread-then-s-ne-NEWLINE.ensures
+    (not_ended c.args.s.now c.if-s-ne-EVENT_BYTES.false c.if-s-ne-NEWLINE.true)
 
 returns_3 : tie.Need-returns
 returns_3 c =
-    let start_at = c.before in
-    let if2 = start_at in
-    let if1 = if2.before.before in
-    let start = if1.before.before in
-    subst (Says c.read_fields.result) (sym (by_fields start.args.s.now if1.if-s-ne-EVENT_BYTES.false if2.if-s-ne-NEWLINE.false)) c.read_fields.ensures
+    subst (Says c.read_fields.result) (sym (by_fields c.args.s.now c.if-s-ne-EVENT_BYTES.false c.if-s-ne-NEWLINE.false)) c.read_fields.ensures
 
 pub read_event_spec : {M : Type 1} → statement M
 read_event_spec = tie.close (tie.spec

@@ -21,18 +21,18 @@ event_of_requires c κs = zero_blanks c.read_leaves-leaves.result _ c.read_leave
 returns_3 : tie.Need-returns-in-Number
 returns_3 c =
     subst (Says c.event_of.result)
-    (sym (fields_are c.args.s.now c.read_role-role.result c.read_role-role.ensures c.if-role-eq0.false c.in-Marks.path (sym c.in-Marks.is ∙ c.read.ensures) c.in-Number.in-Number-own.in-Number-own.in-Number-own.action (sym c.in-Number.in-Number-own.in-Number-own.in-Number-own.is ∙ c.read-reading.ensures) c.read_leaves-leaves.result c.read_leaves-leaves.ensures))
+    (sym (fields_are c.args.s.now c.read_role-role.result c.read_role-role.ensures c.if-role-eq0.false c.in-Marks.path (sym c.in-Marks.is ∙ c.read.ensures) c.in-Number.action (sym c.in-Number.is ∙ c.read-reading.ensures) c.read_leaves-leaves.result c.read_leaves-leaves.ensures))
     c.event_of.ensures
 
 returns_4 : tie.Need-returns-in-Blank
 returns_4 c =
     says_unread c.unread-in-Blank.result (fields_say c.args.s.now) c.unread-in-Blank.ensures
-    (blank_action c.args.s.now c.read_role-role.result c.read_role-role.ensures c.if-role-eq0.false c.in-Marks.path (sym c.in-Marks.is ∙ c.read.ensures) (sym c.in-Blank.in-Blank-own.in-Blank-own.in-Blank-own.is ∙ c.read-reading.ensures))
+    (blank_action c.args.s.now c.read_role-role.result c.read_role-role.ensures c.if-role-eq0.false c.in-Marks.path (sym c.in-Marks.is ∙ c.read.ensures) (sym c.in-Blank.is ∙ c.read-reading.ensures))
 
 returns_5 : tie.Need-returns-in-Unreadable
 returns_5 c =
     says_unread c.unread-in-Unreadable.result (fields_say c.args.s.now) c.unread-in-Unreadable.ensures
-    (no_action c.args.s.now c.read_role-role.result c.read_role-role.ensures c.if-role-eq0.false c.in-Marks.path (sym c.in-Marks.is ∙ c.read.ensures) (sym c.in-Unreadable.in-Unreadable-own.in-Unreadable-own.in-Unreadable-own.is ∙ c.read-reading.ensures))
+    (no_action c.args.s.now c.read_role-role.result c.read_role-role.ensures c.if-role-eq0.false c.in-Marks.path (sym c.in-Marks.is ∙ c.read.ensures) (sym c.in-Unreadable.is ∙ c.read-reading.ensures))
 
 pub read_fields_spec : {M : Type 1} → statement M
 read_fields_spec = tie.close (tie.spec

@@ -22,20 +22,17 @@ returns c =
 
 returns_2 : tie.Need-returns
 returns_2 c =
-    let alike = c.before.before.before.before.before.before in
-    failed_tried c.write_failed.ensures alike.alike.ensures (not_from_true _ c.if-not-alike.false) (long alike.before) c.requires.1.0 c.clear_row.ensures c.evaluate.ensures
+    failed_tried c.write_failed.ensures c.alike.ensures (not_from_true _ c.if-not-alike.false) (long c.before.before.before.before.before.before.before) c.requires.1.0 c.clear_row.ensures c.evaluate.ensures
 
 pub is_failed_spec : {M : Type 1} → statement M
 is_failed_spec = tie.close (tie.spec
     (λ c κs. let p = c.requires in (p.0, p.1.1))
     (λ c. let l = c.requires.0.0 in let h = c.requires.0.1.low in record { fits = omega arith })
     (λ c κs.
-    let written = c.before.before.before in
-    let s = written.before.before in
-    let l = s.requires.0.0 in
-    let h = s.requires.0.1.low in
-    let x : length s.args.words.now ≡ state_size = search rules in
-    let y : length written.write_failed.new.words ≡ state_size = search rules in
+    let l = c.requires.0.0 in
+    let h = c.requires.0.1.low in
+    let x : length c.args.words.now ≡ state_size = search rules in
+    let y : length c.write_failed.new.words ≡ state_size = search rules in
     (omega (arith, l, h, x), omega (arith, l, h, y)))
     returns
     (λ c. search rules)

@@ -27,7 +27,7 @@ loop_less' : tie.Need-loop-i-smaller invariant-loop decreases-loop
 loop_less' = λ c. let l = c.loop-i-test.true in omega arith
 
 loop_again' : tie.Need-loop-i-preserved invariant-loop decreases-loop
-loop_again' = λ c. let l = c.loop-i-test.true in (omega arith, more_firsts c.loop-i.invariant.1 c.first_Cell.ensures)
+loop_again' = λ c. let l = c.loop-i-test.true in (omega arith, more_firsts c.loop-i.invariant.1 c.first_cell.ensures)
 
 returns' : tie.Need-returns invariant-loop decreases-loop
 returns' = λ c. let l = c.loop-i-test.false in let k = c.loop-i.invariant.0 in all_firsts (let e : c.loop-i.i ≡ c.args.n = omega arith in e) c.loop-i.invariant.1

@@ -6,18 +6,14 @@ use Rattle.flow.proofs.look.look.Tie as tie
 
 slice_aggregate_result : tie.Need-slice_bounds-result-end
 slice_aggregate_result c =
-    let start_at = c.before.before.before.before.before.before.before.before in
-    let start = start_at in
     let f = c.fill-seen in
-    part_long start.args.rows.now start.args.state.now start.args.role start.args.value.now start.args.list.now f.result f.new.value
+    part_long c.args.rows.now c.args.state.now c.args.role c.args.value.now c.args.list.now f.result f.new.value
     f.new.list f.ensures
 
 returns : tie.Need-returns
 returns c =
-    let start_at = c.before.before.before.before.before.before.before.before in
-    let start = start_at in
     let f = c.fill-seen in
-    look_is start.args.rows.now start.args.state.now start.args.role start.args.value.now start.args.list.now f.result f.new.value
+    look_is c.args.rows.now c.args.state.now c.args.role c.args.value.now c.args.list.now f.result f.new.value
     f.new.list f.ensures
 
 pub look_spec : {M : Type 1} → statement M

@@ -52,27 +52,17 @@ returns_3 c =
 
 state_in_requires : tie.Need-state_in-requires
 state_in_requires c κs =
-    let start_at = c.before.before.before in
-    let if1 = start_at in
-    let rows = if1.before in
-    let start = rows.before.before in
-    let q = rows.accepted_rows-n in
-    let z = (site_of start.args.rows.now q.result q.ensures.0 q.ensures.1.0 q.ensures.1.1.0 if1.if-n-eq0.false).3 in
-    ((c.if-state-n.false, few_rows z), start.requires.1)
+    let q = c.accepted_rows-n in
+    let z = (site_of c.args.rows.now q.result q.ensures.0 q.ensures.1.0 q.ensures.1.1.0 c.if-n-eq0.false).3 in
+    ((c.if-state-n.false, few_rows z), c.requires.1)
 
 held_requires : tie.Need-held-requires
 held_requires c κs =
-    let start_at = c.before.before.before.before.before in
-    let if3 = start_at in
-    let if2 = if3.before in
-    let if1 = if2.before in
-    let rows = if1.before in
-    let start = rows.before.before in
-    let q = rows.accepted_rows-n in
-    let z = (site_of start.args.rows.now q.result q.ensures.0 q.ensures.1.0 q.ensures.1.1.0 if1.if-n-eq0.false).3 in
-    let wr = some_words start.args.rows.now q.result q.ensures.0 q.ensures.1.1.0 if1.if-n-eq0.false in
+    let q = c.accepted_rows-n in
+    let z = (site_of c.args.rows.now q.result q.ensures.0 q.ensures.1.0 q.ensures.1.1.0 c.if-n-eq0.false).3 in
+    let wr = some_words c.args.rows.now q.result q.ensures.0 q.ensures.1.1.0 c.if-n-eq0.false in
     let w = c.state_in in
-    ((some_rows z, is_fine z), (ends start.args.rows.now start.args.state.now q.new.own w.new.own start.args.fits q.result z wr (not_from_true _ if3.if-not-fits.false) if2.if-state-n.false w.ensures.1 w.ensures.0, refl))
+    ((some_rows z, is_fine z), (ends c.args.rows.now c.args.state.now q.new.own w.new.own c.args.fits q.result z wr (not_from_true _ c.if-not-fits.false) c.if-state-n.false w.ensures.1 w.ensures.0, refl))
 
 is_failed_requires : tie.Need-is_failed-requires
 is_failed_requires c κs =
@@ -115,20 +105,14 @@ returns_5 c =
 
 sub_stride : tie.Need-overflow_sub-n
 sub_stride c =
-    let start_at = c.before.before.before.before.before.before.before.before.before.before.before.before in
-    let rows = start_at in
-    let start = rows.before.before in
-    let q = rows.accepted_rows-n in
-    let z = (site_of start.args.rows.now q.result q.ensures.0 q.ensures.1.0 q.ensures.1.1.0 c.if-n-eq0.false).3 in
+    let q = c.accepted_rows-n in
+    let z = (site_of c.args.rows.now q.result q.ensures.0 q.ensures.1.0 q.ensures.1.1.0 c.if-n-eq0.false).3 in
     some_rows z
 
 stride_requires : tie.Need-stride-requires
 stride_requires c κs =
-    let start_at = c.before.before.before.before.before.before.before.before.before.before.before.before.before in
-    let rows = start_at in
-    let start = rows.before.before in
-    let q = rows.accepted_rows-n in
-    let z = (site_of start.args.rows.now q.result q.ensures.0 q.ensures.1.0 q.ensures.1.1.0 c.if-n-eq0.false).3 in
+    let q = c.accepted_rows-n in
+    let z = (site_of c.args.rows.now q.result q.ensures.0 q.ensures.1.0 q.ensures.1.1.0 c.if-n-eq0.false).3 in
     is_fine z
 
 returns_6 : tie.Need-returns-then-stride

@@ -10,12 +10,8 @@ use Rattle.flow.proofs.start.start.Tie as tie
 
 returns : tie.Need-returns-then-n-eq0
 returns c =
-    let start_at = c.before in
-    let if1 = start_at in
-    let rows = if1.before in
-    let start = rows.before.before in
-    let n = rows.accepted_rows-n in
-    start_20 start.args.rows.now start.args.state.now c.refused.result n.result n.ensures.0 if1.if-n-eq0.true
+    let n = c.accepted_rows-n in
+    start_20 c.args.rows.now c.args.state.now c.refused.result n.result n.ensures.0 c.if-n-eq0.true
     c.refused.ensures
 
 mul_if2 : tie.Need-overflow_mul-n
@@ -27,47 +23,28 @@ mul_if2 c =
 
 returns_2 : tie.Need-returns-then-state-n
 returns_2 c =
-    let start_at = c.before in
-    let if2 = start_at in
-    let if1 = if2.before in
-    let rows = if1.before in
-    let start = rows.before.before in
-    let n = rows.accepted_rows-n in
-    let z = (site_of start.args.rows.now n.result n.ensures.0 n.ensures.1.0 n.ensures.1.1.0 if1.if-n-eq0.false).3 in
-    start_21 start.args.rows.now start.args.state.now c.refused-then-state-n.result z if2.if-state-n.true c.refused-then-state-n.ensures
+    let n = c.accepted_rows-n in
+    let z = (site_of c.args.rows.now n.result n.ensures.0 n.ensures.1.0 n.ensures.1.1.0 c.if-n-eq0.false).3 in
+    start_21 c.args.rows.now c.args.state.now c.refused-then-state-n.result z c.if-state-n.true c.refused-then-state-n.ensures
 
 begin_requires : tie.Need-begin-strides-requires
 begin_requires c κs =
-    let start_at = c.before.before.before.before in
-    let rows = start_at in
-    let start = rows.before.before in
-    let n = rows.accepted_rows-n in
-    let z = (site_of start.args.rows.now n.result n.ensures.0 n.ensures.1.0 n.ensures.1.1.0 c.if-n-eq0.false).3 in
+    let n = c.accepted_rows-n in
+    let z = (site_of c.args.rows.now n.result n.ensures.0 n.ensures.1.0 n.ensures.1.1.0 c.if-n-eq0.false).3 in
     ((some_rows z, is_fine z), refl)
 
 state_out_requires : tie.Need-state_out-requires
 state_out_requires c κs =
-    let start_at = c.before.before.before.before.before.before in
-    let if1 = start_at in
-    let rows = if1.before in
-    let start = rows.before.before in
-    let n = rows.accepted_rows-n in
-    let z = (site_of start.args.rows.now n.result n.ensures.0 n.ensures.1.0 n.ensures.1.1.0 if1.if-n-eq0.false).3 in
+    let n = c.accepted_rows-n in
+    let z = (site_of c.args.rows.now n.result n.ensures.0 n.ensures.1.0 n.ensures.1.1.0 c.if-n-eq0.false).3 in
     (c.if-state-n.false, few_rows z)
 
 returns_3 : tie.Need-returns
 returns_3 c =
-    let start_at = c.before.before.before in
-    let words = start_at in
-    let begun = words.before in
-    let if2 = begun.before.before.before in
-    let if1 = if2.before in
-    let rows = if1.before in
-    let start = rows.before.before in
-    let n = rows.accepted_rows-n in
-    let z = (site_of start.args.rows.now n.result n.ensures.0 n.ensures.1.0 n.ensures.1.1.0 if1.if-n-eq0.false).3 in
-    start_0 start.args.state.now c.state_out.new.lent begun.begin-strides.new.words begun.begin-strides.result z if2.if-state-n.false
-    begun.begin-strides.ensures c.state_out.ensures.1 c.state_out.ensures.0
+    let n = c.accepted_rows-n in
+    let z = (site_of c.args.rows.now n.result n.ensures.0 n.ensures.1.0 n.ensures.1.1.0 c.if-n-eq0.false).3 in
+    start_0 c.args.state.now c.state_out.new.lent c.begin-strides.new.words c.begin-strides.result z c.if-state-n.false
+    c.begin-strides.ensures c.state_out.ensures.1 c.state_out.ensures.0
 
 pub start_spec : {M : Type 1} → statement M
 start_spec = tie.close (tie.spec (λ c κs. search rules) (λ c κs. search rules) returns mul_if2 (λ c κs. search rules) returns_2 begin_requires state_out_requires (λ c. search rules) returns_3)

@@ -11,76 +11,67 @@ use Rattle.flow.proofs.take.take.Tie as tie
 
 returns : tie.Need-returns-then-opening-ne0
 returns c =
-    let start_at = c.before in
-    let if1 = start_at in
-    let opening = if1.before.before in
-    let start = opening.before.before.before.before in
-    let o = opening.«open» in
-    let own = o.new.1.1.1.0 in
-    let words = o.new.1.1.1.1.0 in
-    take_refused start.args.rows.now start.args.state.now own words o.result start.args.e o.ensures if1.if-opening-ne0.true
+    let o = c.open-opening in
+    let own = o.new.own in
+    let words = o.new.words in
+    take_refused c.args.rows.now c.args.state.now own words o.result c.args.e o.ensures c.if-opening-ne0.true
     c.refused.result c.refused.ensures
 
 returns_2 : tie.Need-returns-then-not-e
 returns_2 c =
-    let start_at = c.before in
-    let if2 = start_at in
-    let if1 = if2.before.before in
-    let opening = if1.before.before in
-    let start = opening.before.before.before.before in
-    let o = opening.«open» in
-    let own = o.new.1.1.1.0 in
-    let words = o.new.1.1.1.1.0 in
-    take_8 start.args.rows.now start.args.state.now own words o.result start.args.e o.ensures if1.if-opening-ne0.false (not_from_false _ if2.if-not-e.true)
+    let o = c.open-opening in
+    let own = o.new.own in
+    let words = o.new.words in
+    take_8 c.args.rows.now c.args.state.now own words o.result c.args.e o.ensures c.if-opening-ne0.false c.if-not-e.true
     c.refused-then-not-e.result c.refused-then-not-e.ensures
 
 returns_3 : tie.Need-returns-then-opening
 returns_3 c =
-    let o = c.«open» in
-    take_failed c.args.rows.now c.args.state.now o.new.1.1.1.0 o.new.1.1.1.1.0 o.result c.args.e o.ensures c.if-opening-ne0.false (not_from_true _ c.if-not-e.false) c.if-opening.true
+    let o = c.open-opening in
+    take_failed c.args.rows.now c.args.state.now o.new.own o.new.words o.result c.args.e o.ensures c.if-opening-ne0.false c.if-not-e.false c.if-opening.true
     c.take_failed.result c.take_failed.ensures
 
 sub_last : tie.Need-overflow_sub-last
 sub_last c =
-    let o = c.«open» in
-    (opened_fine c.args.rows.now c.args.state.now o.new.1.1.1.0 o.new.1.1.1.1.0 o.result
+    let o = c.open-opening in
+    (opened_fine c.args.rows.now c.args.state.now o.new.own o.new.words o.result
     (opened c.args.rows.now c.args.state.now true) o.ensures c.if-opening-ne0.false c.if-opening.false).0
 
 handle_requires : tie.Need-handle-number-requires
 handle_requires c κs =
-    let o = c.«open» in (
-      (opened_fine c.args.rows.now c.args.state.now o.new.1.1.1.0 o.new.1.1.1.1.0 o.result (opened c.args.rows.now c.args.state.now true) o.ensures c.if-opening-ne0.false c.if-opening.false).2,
-      c.requires (not-false c.args.e.readable (not_from_true _ c.if-not-e.false)),
+    let o = c.open-opening in (
+      (opened_fine c.args.rows.now c.args.state.now o.new.own o.new.words o.result (opened c.args.rows.now c.args.state.now true) o.ensures c.if-opening-ne0.false c.if-opening.false).2,
+      c.requires (not-false c.args.e.readable c.if-not-e.false),
     )
 
 returns_4 : tie.Need-returns-then-number-ne0
 returns_4 c =
-    let o = c.«open» in
+    let o = c.open-opening in
     let h = c.handle-number in
-    take_no c.args.rows.now c.args.state.now o.new.1.1.1.0 o.new.1.1.1.1.0 o.result c.args.e c.if-opening-ne0.false c.if-opening.false (not_from_true _ c.if-not-e.false)
+    take_no c.args.rows.now c.args.state.now o.new.own o.new.words o.result c.args.e c.if-opening-ne0.false c.if-opening.false c.if-not-e.false
     h.new.state _ h.result h.ensures o.ensures c.if-number-ne0.true c.refused-then-number-ne0.result c.refused-then-number-ne0.ensures
 
 normalise_requires : tie.Need-normalise-strides-requires
 normalise_requires c κs =
-    let o = c.«open» in
-    (opened_fine c.args.rows.now c.args.state.now o.new.1.1.1.0 o.new.1.1.1.1.0 o.result
+    let o = c.open-opening in
+    (opened_fine c.args.rows.now c.args.state.now o.new.own o.new.words o.result
     (opened c.args.rows.now c.args.state.now true) o.ensures c.if-opening-ne0.false c.if-opening.false).2
 
 state_out_requires : tie.Need-state_out-requires
 state_out_requires c κs =
-    let o = c.«open» in
-    let own = o.new.1.1.1.0 in
-    let words = o.new.1.1.1.1.0 in
+    let o = c.open-opening in
+    let own = o.new.own in
+    let words = o.new.words in
     let x = opened c.args.rows.now c.args.state.now true in
     (opened_room c.args.rows.now c.args.state.now own words o.result x o.ensures c.if-opening-ne0.false c.if-opening.false, (opened_fine c.args.rows.now c.args.state.now own words o.result x o.ensures c.if-opening-ne0.false c.if-opening.false).1)
 
 returns_5 : tie.Need-returns
 returns_5 c =
-    let o = c.«open» in
+    let o = c.open-opening in
     let h = c.handle-number in
     let m = c.normalise-strides in
     let w = c.state_out in
-    take_0 c.args.rows.now c.args.state.now o.new.1.1.1.0 o.new.1.1.1.1.0 o.result c.args.e c.if-opening-ne0.false c.if-opening.false (not_from_true _ c.if-not-e.false)
+    take_0 c.args.rows.now c.args.state.now o.new.own o.new.words o.result c.args.e c.if-opening-ne0.false c.if-opening.false c.if-not-e.false
     h.new.state _ h.result h.ensures m.new.state _ m.result w.new.lent m.ensures w.ensures.1 w.ensures.0
     o.ensures c.if-number-ne0.false
 

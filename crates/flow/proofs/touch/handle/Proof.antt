@@ -11,11 +11,8 @@ take_requires c κs =
 
 returns : tie.Need-returns
 returns c =
-    let start_at = c.before.before.before in
-    let read = start_at in
-    let start = read.before.before in
-    take_handles start.args.rows.now start.args.state.now start.args.event.now read.read_event-e.result c.take.result
-    c.take.new.state read.read_event-e.ensures c.take.ensures
+    take_handles c.args.rows.now c.args.state.now c.args.event.now c.read_event-e.result c.take.result
+    c.take.new.state c.read_event-e.ensures c.take.ensures
 
 pub handle_spec : {M : Type 1} → statement M
 handle_spec = tie.close (tie.spec (λ c κs. search rules) take_requires (λ c. search rules) returns)
