@@ -20,19 +20,19 @@ use Rattle.tophat.specs.Typing as typing
 use Rattle.tophat.specs.Leaves as leaves
 use Rattle.tophat.specs.Roles as roles
 use Rattle.tophat.specs.Showing as showing
-use Rattle.tophat.proofs.ComputeTyping as computeTyping
-use Rattle.tophat.proofs.ComputeEvaluation as computeEvaluation
-use Rattle.tophat.proofs.ComputeNormalising as computeNormalising
-use Rattle.tophat.proofs.ComputeHandling as computeHandling
-use Rattle.tophat.proofs.ComputeEntries as computeEntries
+use Rattle.tophat.proofs.ComputeTyping as compute_typing
+use Rattle.tophat.proofs.ComputeEvaluation as compute_evaluation
+use Rattle.tophat.proofs.ComputeNormalising as compute_normalising
+use Rattle.tophat.proofs.ComputeHandling as compute_handling
+use Rattle.tophat.proofs.ComputeEntries as compute_entries
 use Rattle.rows.specs.Kinds as kinds
 use Rattle.rows.specs.Rows as rules
 use Rattle.rows.specs.Enclosing as enclosing
 use Rattle.rows.specs.Trees as trees
-use Rattle.rows.specs.ComputeTrees as computeTrees
+use Rattle.rows.specs.ComputeTrees as compute_trees
 use Rattle.rows.specs.Ground as ground
-use Rattle.grounds.specs.Accepted as groundsAccepted
-use Rattle.sheet.specs.Accepted as sheetAccepted
+use Rattle.grounds.specs.Accepted as grounds_accepted
+use Rattle.sheet.specs.Accepted as sheet_accepted
 use Rattle.shape.specs.Shape as shape
 use Rattle.state.specs.Layout as layout
 use Rattle.state.specs.Lent as lent
@@ -60,22 +60,22 @@ unfolding
     dec_le option.bind word.is_word tabulate.tabulate field.digits field.text field.justified field.trimmed field.counted field.numeral field.reads_at
     paths.marks_text paths.path_text paths.marks paths.path_in paths.reads_path_at syntax.leaves syntax.moves syntax.task_rows
     normalising.pair_of normalising.first_of normalising.value typing.type_of leaves.leaves_of leaves.padded leaves.leaf_kinds leaves.meets_leaf leaves.meets
-    leaves.value_of leaves.number_given leaves.given showing.marked showing.offers showing.button_if showing.entries_if computeTyping.ask computeTyping.nth
-    computeTyping.takes computeTyping.gives computeTyping.number_to computeTyping.op_to computeTyping.same_to computeTyping.if_to computeTyping.type_to
-    computeTyping.first_to computeTyping.second_to computeTyping.assign_to computeTyping.infer computeTyping.infer_task computeEvaluation.leaf
-    computeEvaluation.is_true computeEvaluation.kept computeEvaluation.exact computeEvaluation.exceeds computeEvaluation.apply computeEvaluation.first_part
-    computeEvaluation.second_part computeEvaluation.branch computeEvaluation.eval computeEvaluation.overflows computeEvaluation.evaluate
-    computeEvaluation.overflows_task computeNormalising.unless_still computeNormalising.strides computeNormalising.go_on computeNormalising.go_on_with
-    computeNormalising.choose_right computeNormalising.choose_left computeNormalising.failing computeNormalising.stride computeNormalising.normalise
-    computeNormalising.settle computeNormalising.remaining computeHandling.map_task computeHandling.pass_gate computeHandling.then_some
-    computeHandling.at_editor computeHandling.at_mark computeHandling.at_sides computeHandling.at_continue computeHandling.unless_failing
-    computeHandling.handle computeEntries.continue_if computeEntries.entries kinds.kind_of kinds.asks_of rules.every rules.listed_as rules.listed
+    leaves.value_of leaves.number_given leaves.given showing.marked showing.offers showing.button_if showing.entries_if compute_typing.ask compute_typing.nth
+    compute_typing.takes compute_typing.gives compute_typing.number_to compute_typing.op_to compute_typing.same_to compute_typing.if_to compute_typing.type_to
+    compute_typing.first_to compute_typing.second_to compute_typing.assign_to compute_typing.infer compute_typing.infer_task compute_evaluation.leaf
+    compute_evaluation.is_true compute_evaluation.kept compute_evaluation.exact compute_evaluation.exceeds compute_evaluation.apply compute_evaluation.first_part
+    compute_evaluation.second_part compute_evaluation.branch compute_evaluation.eval compute_evaluation.overflows compute_evaluation.evaluate
+    compute_evaluation.overflows_task compute_normalising.unless_still compute_normalising.strides compute_normalising.go_on compute_normalising.go_on_with
+    compute_normalising.choose_right compute_normalising.choose_left compute_normalising.failing compute_normalising.stride compute_normalising.normalise
+    compute_normalising.settle compute_normalising.remaining compute_handling.map_task compute_handling.pass_gate compute_handling.then_some
+    compute_handling.at_editor compute_handling.at_mark compute_handling.at_sides compute_handling.at_continue compute_handling.unless_failing
+    compute_handling.handle compute_entries.continue_if compute_entries.entries kinds.kind_of kinds.asks_of rules.every rules.listed_as rules.listed
     rules.truth_cell rules.row_listed rules.sort_by rules.sorts rules.sort_number rules.sorted_as rules.sorted rules.row_sorted rules.names rules.names_by
     rules.names_in rules.namings rules.named_once rules.last_fits enclosing.binders_by enclosing.marks_by enclosing.most_binders enclosing.most_marks
-    enclosing.counts enclosing.leaves_by enclosing.row_small trees.operator_of computeTrees.content_of computeTrees.type_at computeTrees.exp_at
-    computeTrees.code_at computeTrees.cell_type computeTrees.cell_types computeTrees.first_store ground.passes3 ground.passes4 ground.passes5
-    ground.passes6 ground.flow_type ground.is_some ground.passes7 ground.ground_of_rows groundsAccepted.ground_of_form groundsAccepted.accepted_rows
-    sheetAccepted.accepts_rows shape.put shape.as_shape shape.maybe_shape shape.leaf_of shape.front shape.as_type
+    enclosing.counts enclosing.leaves_by enclosing.row_small trees.operator_of compute_trees.content_of compute_trees.type_at compute_trees.exp_at
+    compute_trees.code_at compute_trees.cell_type compute_trees.cell_types compute_trees.first_store ground.passes3 ground.passes4 ground.passes5
+    ground.passes6 ground.flow_type ground.is_some ground.passes7 ground.ground_of_rows grounds_accepted.ground_of_form grounds_accepted.accepted_rows
+    sheet_accepted.accepts_rows shape.put shape.as_shape shape.maybe_shape shape.leaf_of shape.front shape.as_type
     layout.value_words layout.put_words layout.write_task layout.write_cells layout.encode layout.encode_failed lent.own_of lent.lent_of reading.read_value
     reading.read_touches reading.by_tag reading.read_task reading.read_store reading.same reading.decode values.leaf_bits values.as_value fits.value_in
     records.is_record records.fields_at records.number_said records.each records.text_of records.items_text touching.numbered touching.touch_in roles.is_role

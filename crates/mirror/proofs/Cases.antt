@@ -18,7 +18,7 @@ use Rattle.tophat.specs.Syntax as syntax
 use Rattle.tophat.specs.Typing.{CodeType}
 use Rattle.tophat.specs.Renamed.{Apart, Agrees}
 use Rattle.tophat.proofs.Basics.{some_is, and_left, and_right}
-use Rattle.tophat.proofs.ComputeTyping as computeTyping
+use Rattle.tophat.proofs.ComputeTyping as compute_typing
 use Rattle.rows.specs.Kinds as kinds
 use Rattle.rows.specs.Rows as rules
 use Rattle.rows.specs.Enclosing as enclosing
@@ -103,8 +103,8 @@ cells_at k = set (replicate 10 vunit) k (vnumber (pos 7))
 computed : (ground_of_rows (own_rows one) 10 ≡ 0) × (code_at (own_rows one) 10 9 ≡ some (or (or a a) (c 1))) × (first_store (own_rows one) 10 ≡ cells_at 1)
     × (ground_of_rows (own_rows other) 10 ≡ 0) × (code_at (own_rows other) 10 9 ≡ some (or a (or a (c 3)))) × (first_store (own_rows other) 10 ≡ cells_at 3)
 unfolding
-    dec_le bind syntax.leaves computeTyping.ask computeTyping.nth computeTyping.takes computeTyping.gives computeTyping.number_to computeTyping.op_to computeTyping.same_to
-    computeTyping.if_to computeTyping.type_to computeTyping.first_to computeTyping.second_to computeTyping.assign_to computeTyping.infer computeTyping.infer_task
+    dec_le bind syntax.leaves compute_typing.ask compute_typing.nth compute_typing.takes compute_typing.gives compute_typing.number_to compute_typing.op_to compute_typing.same_to
+    compute_typing.if_to compute_typing.type_to compute_typing.first_to compute_typing.second_to compute_typing.assign_to compute_typing.infer compute_typing.infer_task
     kinds.kind_of kinds.asks_of rules.every rules.listed_as rules.listed rules.truth_cell rules.row_listed rules.sort_by rules.sorts rules.sort_number rules.sorted_as
     rules.sorted rules.row_sorted rules.names rules.names_by rules.names_in rules.namings rules.named_once rules.last_fits enclosing.binders_by enclosing.marks_by
     enclosing.most_binders enclosing.most_marks enclosing.counts enclosing.leaves_by enclosing.row_small operator_of content_of type_at exp_at code_at cell_type cell_types first_store

@@ -20,20 +20,20 @@ use Rattle.tophat.specs.Typing as typing
 use Rattle.tophat.specs.Leaves as leaves
 use Rattle.tophat.specs.Roles as roles
 use Rattle.tophat.specs.Showing as showing
-use Rattle.tophat.proofs.ComputeTyping as computeTyping
-use Rattle.tophat.proofs.ComputeEvaluation as computeEvaluation
-use Rattle.tophat.proofs.ComputeNormalising as computeNormalising
-use Rattle.tophat.proofs.ComputeHandling as computeHandling
-use Rattle.tophat.proofs.ComputeEntries as computeEntries
+use Rattle.tophat.proofs.ComputeTyping as compute_typing
+use Rattle.tophat.proofs.ComputeEvaluation as compute_evaluation
+use Rattle.tophat.proofs.ComputeNormalising as compute_normalising
+use Rattle.tophat.proofs.ComputeHandling as compute_handling
+use Rattle.tophat.proofs.ComputeEntries as compute_entries
 use Rattle.rows.specs.Kinds as kinds
 use Rattle.rows.specs.Rows as rows
 use Rattle.rows.specs.Enclosing as enclosing
 use Rattle.rows.specs.Trees as trees
-use Rattle.rows.specs.ComputeTrees as computeTrees
+use Rattle.rows.specs.ComputeTrees as compute_trees
 use Rattle.rows.specs.Ground as ground
-use Rattle.grounds.specs.Accepted as groundsAccepted
+use Rattle.grounds.specs.Accepted as grounds_accepted
 use Rattle.sheet.specs.Sheet as sheet
-use Rattle.sheet.specs.Accepted as sheetAccepted
+use Rattle.sheet.specs.Accepted as sheet_accepted
 use Rattle.shape.specs.Shape as shape
 use Rattle.state.specs.Layout as layout
 use Rattle.state.specs.Lent as lent
@@ -83,21 +83,21 @@ unfolding
     dec_le option.bind word.is_word tabulate.tabulate field.digits field.text field.justified field.trimmed field.counted field.numeral
     field.reads_at field.put_at paths.marks_text paths.path_text paths.marks paths.path_in paths.reads_path_at paths.path_number paths.marks_from syntax.leaves
     syntax.moves syntax.task_rows normalising.pair_of normalising.first_of normalising.value typing.type_of leaves.leaves_of leaves.padded leaves.leaf_kinds
-    leaves.meets_leaf leaves.meets leaves.value_of leaves.number_given leaves.given showing.marked showing.offers showing.button_if showing.entries_if computeTyping.ask computeTyping.nth
-    computeTyping.takes computeTyping.gives computeTyping.numberTo computeTyping.opTo computeTyping.sameTo computeTyping.ifTo computeTyping.typeTo
-    computeTyping.firstTo computeTyping.secondTo computeTyping.assignTo computeTyping.infer computeTyping.inferTask computeEvaluation.leaf
-    computeEvaluation.isTrue computeEvaluation.kept computeEvaluation.exact computeEvaluation.exceeds computeEvaluation.apply computeEvaluation.firstPart computeEvaluation.secondPart computeEvaluation.branch
-    computeEvaluation.eval computeEvaluation.overflows computeEvaluation.evaluate computeEvaluation.overflowsTask computeNormalising.unlessStill computeNormalising.strides computeNormalising.goOn
-    computeNormalising.goOnWith computeNormalising.chooseRight computeNormalising.chooseLeft computeNormalising.failing computeNormalising.stride
-    computeNormalising.normalise computeNormalising.settle computeNormalising.remaining computeHandling.mapTask computeHandling.passGate computeHandling.thenSome
-    computeHandling.atEditor computeHandling.atMark computeHandling.atSides computeHandling.atContinue computeHandling.unlessFailing
-    computeHandling.handle computeEntries.continueIf computeEntries.entries kinds.kind_of kinds.asks_of kinds.is_unused kinds.unused_by rows.every rows.listed_as rows.listed
+    leaves.meets_leaf leaves.meets leaves.value_of leaves.number_given leaves.given showing.marked showing.offers showing.button_if showing.entries_if compute_typing.ask compute_typing.nth
+    compute_typing.takes compute_typing.gives compute_typing.number_to compute_typing.op_to compute_typing.same_to compute_typing.if_to compute_typing.type_to
+    compute_typing.first_to compute_typing.second_to compute_typing.assign_to compute_typing.infer compute_typing.infer_task compute_evaluation.leaf
+    compute_evaluation.is_true compute_evaluation.kept compute_evaluation.exact compute_evaluation.exceeds compute_evaluation.apply compute_evaluation.first_part compute_evaluation.second_part compute_evaluation.branch
+    compute_evaluation.eval compute_evaluation.overflows compute_evaluation.evaluate compute_evaluation.overflows_task compute_normalising.unless_still compute_normalising.strides compute_normalising.go_on
+    compute_normalising.go_on_with compute_normalising.choose_right compute_normalising.choose_left compute_normalising.failing compute_normalising.stride
+    compute_normalising.normalise compute_normalising.settle compute_normalising.remaining compute_handling.map_task compute_handling.pass_gate compute_handling.then_some
+    compute_handling.at_editor compute_handling.at_mark compute_handling.at_sides compute_handling.at_continue compute_handling.unless_failing
+    compute_handling.handle compute_entries.continue_if compute_entries.entries kinds.kind_of kinds.asks_of kinds.is_unused kinds.unused_by rows.every rows.listed_as rows.listed
     rows.truth_cell rows.row_listed rows.sort_by rows.sorts rows.sort_number rows.sorted_as rows.sorted rows.row_sorted rows.names rows.names_by rows.names_in
     rows.namings rows.named_once rows.last_fits rows.movers enclosing.binders_by enclosing.marks_by enclosing.most_binders enclosing.most_marks
-    enclosing.counts enclosing.leaves_by enclosing.row_small trees.operator_of computeTrees.content_of computeTrees.type_at computeTrees.exp_at
-    computeTrees.code_at computeTrees.cell_type computeTrees.cell_types computeTrees.first_store ground.passes3 ground.passes4 ground.passes5
-    ground.passes6 ground.flow_type ground.is_some ground.passes7 ground.ground_of_rows groundsAccepted.ground_of_form groundsAccepted.accepted_rows
-    sheet.sized sheet.leaving sheet.loaded_lines sheet.loaded sheetAccepted.accepts_rows shape.put shape.as_shape shape.maybe_shape shape.leaf_of
+    enclosing.counts enclosing.leaves_by enclosing.row_small trees.operator_of compute_trees.content_of compute_trees.type_at compute_trees.exp_at
+    compute_trees.code_at compute_trees.cell_type compute_trees.cell_types compute_trees.first_store ground.passes3 ground.passes4 ground.passes5
+    ground.passes6 ground.flow_type ground.is_some ground.passes7 ground.ground_of_rows grounds_accepted.ground_of_form grounds_accepted.accepted_rows
+    sheet.sized sheet.leaving sheet.loaded_lines sheet.loaded sheet_accepted.accepts_rows shape.put shape.as_shape shape.maybe_shape shape.leaf_of
     shape.front shape.as_type shape.pair_shape shape.first_shape shape.second_shape shape.leaves_in shape.shape_leaves shape.kinds_in shape.kinds_of
     layout.value_words layout.put_words layout.write_task layout.write_cells layout.encode layout.encode_failed lent.own_of lent.lent_of reading.read_value reading.read_touches reading.by_tag
     reading.read_task reading.read_store reading.same reading.decode values.leaf_bits values.as_value found.as_found fits.value_in fits.value_for

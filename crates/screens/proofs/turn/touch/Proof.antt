@@ -13,7 +13,7 @@ touch_spec = tie.close (tie.spec
     (λ c κs.
     let a = c.args in
     let q = c.handle-a in
-    let f = handle_few a.rows.now a.state-1.now a.event.now q.result q.new.state q.ensures.0 q.ensures.1 in
+    let f = handle_few a.rows.now a.state.now a.event.now q.result q.new.state q.ensures.0 q.ensures.1 in
     (search rules, omega (arith, f.0), omega (arith, f.1)))
     (λ c. search rules)
     (λ c.
@@ -21,6 +21,6 @@ touch_spec = tie.close (tie.spec
     let q = c.handle-a in
     let e = q.ensures.0 in
     let g = c.role_of-role in (
-      touch_state a.rows.now a.state-1.now a.event.now a.out.now q.result q.new.state e,
-      touch_drawn a.rows.now a.state-1.now a.event.now a.out.now q.result q.new.state e g.result g.ensures c.show.result c.show.new.out c.show.ensures,
+      touch_state a.rows.now a.state.now a.event.now a.out.now q.result q.new.state e,
+      touch_drawn a.rows.now a.state.now a.event.now a.out.now q.result q.new.state e g.result g.ensures c.show.result c.show.new.out c.show.ensures,
     )))
