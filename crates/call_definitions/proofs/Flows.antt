@@ -37,7 +37,7 @@ module _ {rows : List ℤ} where
 
   -- all that the grounds leave of them
   pub loads_found : Loads rows → AcceptedRows (own_rows rows) (row_count rows)
-  loads_found l = let p = loads_passed l in accepted (own_rows rows) (row_count rows) p.some_rows p.ground
+  loads_found l = let p = loads_passed l in accepted (own_rows rows) (row_count rows) p.some_rows p.ground_is
 
   -- they are an accepted flow
   pub flow_of : Loads rows → (c : Code) × (Σ : List Ty) × (τ : Ty) × AcceptedFlow rows c Σ τ

@@ -135,15 +135,15 @@ ground_22_exactly {rows} {ws} {c} {Σ} {τ} wr ww a l = (by, (λ n. shut_only ro
     always : Decides true (Unit {0})
     always = record { yes = λ e. tt; no = λ e u. no (sym e) }
 
-    ground : Opened → ℕ
-    ground (refused_by g) = g
-    ground (rest_of z) = 0
+    ground_is : Opened → ℕ
+    ground_is (refused_by g) = g
+    ground_is (rest_of z) = 0
 
     shuts : refused_by not_at_rest ≡ refused_by not_state → ⊥
-    shuts e = let n = ap ground e in omega (arith, n)
+    shuts e = let n = ap ground_is e in omega (arith, n)
 
     rests : {z : FlowState} → rest_of z ≡ refused_by not_state → ⊥
-    rests e = let n = ap ground e in omega (arith, n)
+    rests e = let n = ap ground_is e in omega (arith, n)
 
     -- a state is opened to itself, or gets 23
     by : opened rows ws true ≡ refused_by not_state → (z : FlowState) → Writes rows ws c Σ τ z → ⊥

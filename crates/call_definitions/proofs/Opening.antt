@@ -66,7 +66,7 @@ module _ {rows : List ℤ} {c : Code} {Σ : List Ty} {τ : Ty} (a : AcceptedFlow
 
   -- these rows as an accepted flow, with this code, these cells' types and this type, and what the grounds leave of them
   abbrev pub flow_rows : AcceptedRows rs n
-  flow_rows = let p = loads_passed a.loads in record { some = p.some_rows; ground = p.ground; code = c; cells = Σ; store = a.first; type = τ; flow = a.flow }
+  flow_rows = let p = loads_passed a.loads in record { some = p.some_rows; ground_is = p.ground_is; code = c; cells = Σ; store = a.first; type = τ; flow = a.flow }
 
   pub marks_fit : MarksFit 0 c
   marks_fit = (facts flow_rows).marks

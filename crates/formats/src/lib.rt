@@ -1,5 +1,7 @@
 // The formats of 01's texts: records of fields in columns, read and written. What an event, an entry and a list say stands in specs/;
 // here is the code for an event's role, and for leaves in fields of one width: an event's, read, and a number for each, written.
+#![tactic(auto)]
+
 ghost use Rattle.std.specs.Prelude.{◌≡◌, ◌+◌, ◌*◌, ◌<◌, length, replicate};
 ghost use Rattle.std.specs.Int.{w32};
 ghost use Rattle.std.proofs.Common.{to_z};

@@ -117,7 +117,7 @@ module _ (rows : List ℤ) (w : AllWords rows) (h : length rows ≡ 40) (z : gro
   loads : Loads rows
   loads =
       let n : row_count rows ≡ 10 = omega (arith, h) in
-      accepts_loads w (of_passed rows (record { some_rows = omega (arith, n); few = omega (arith, n); whole = omega (arith, n, h); ground = ap (ground_of_rows (own_rows rows)) n ∙ z }))
+      accepts_loads w (of_passed rows (record { some_rows = omega (arith, n); few = omega (arith, n); whole = omega (arith, n, h); ground_is = ap (ground_of_rows (own_rows rows)) n ∙ z }))
 
   abbrev found : AcceptedRows (own_rows rows) (row_count rows)
   found = loads_found loads

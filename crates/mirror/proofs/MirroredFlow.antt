@@ -125,7 +125,7 @@ module _ {rows : List ℤ} {a b : Code} {Σ : List Ty} {τ υ : Ty} (f : Accepte
       subst (λ rs. Exchanged rs (own_rows (mirrored rows)) (n - 1)) (sym e) (subst (λ rs₁. Exchanged one rs₁ (n - 1)) (sym e₁) x)
 
   pub two_flows : Two (own_rows rows) (own_rows (mirrored rows)) n a b Σ f.first τ υ
-  two_flows = let p = loads_passed f.loads in two_of p.some_rows own_exchanged p.ground f.flow (past f)
+  two_flows = let p = loads_passed f.loads in two_of p.some_rows own_exchanged p.ground_is f.flow (past f)
 
   -- ---- the mirrored rows are an accepted flow
 
@@ -144,7 +144,7 @@ module _ {rows : List ℤ} {a b : Code} {Σ : List Ty} {τ υ : Ty} (f : Accepte
         some_rows = omega (arith, e, o);
         few = omega (arith, e, w);
         whole = l ∙ h ∙ ap (λ k. k * row_words) (sym e);
-        ground = ap (ground_of_rows (own_rows (mirrored rows))) e ∙ two_flows.ground₁;
+        ground_is = ap (ground_of_rows (own_rows (mirrored rows))) e ∙ two_flows.ground₁;
       }
 
   pub mirrored_accepts : Loads (mirrored rows)

@@ -44,7 +44,7 @@ cells_written x (suc i) s ws = rw (kinds x i, cells_written x i s ws) refl
 pub record Two (rs rs₁ : List ℕ) (n : ℕ) (a b : Code) (Σ : List Ty) (s₀ : Store) (τ υ : Ty) : Type 0 where
   pub some_rows : 1 ≤ n
   pub exchange : Exchanged rs rs₁ (n - 1)
-  pub ground : ground_of_rows rs n ≡ 0
+  pub ground_is : ground_of_rows rs n ≡ 0
   pub ground₁ : ground_of_rows rs₁ n ≡ 0
   pub flow : Flow rs n (and a b) Σ s₀ (pair τ υ)
   pub flow₁ : Flow rs₁ n (and b a) Σ s₀ (pair υ τ)
@@ -62,7 +62,7 @@ two_of {rs} {rs₁} {n} {a} {b} {Σ} {s₀} {τ} {υ} l x z f past =
     record {
       some_rows = l;
       exchange = x;
-      ground = z;
+      ground_is = z;
       ground₁ = ground_only rs₁ n l (rows_0 w₁ k₁ (record { code = and b a; cells = Σ; store = s₀; type = pair υ τ; flow = f₁ }));
       flow = f;
       flow₁ = f₁;
@@ -74,8 +74,8 @@ pub flip : {rs rs₁ : List ℕ} {n : ℕ} {a b : Code} {Σ : List Ty} {s₀ : S
 flip d = record {
   some_rows = d.some_rows;
   exchange = exchanged_back d.exchange;
-  ground = d.ground₁;
-  ground₁ = d.ground;
+  ground_is = d.ground₁;
+  ground₁ = d.ground_is;
   flow = d.flow₁;
   flow₁ = d.flow;
   past = λ j l. kinds d.exchange j ∙ d.past j l;
@@ -86,10 +86,10 @@ module _ {rs rs₁ : List ℕ} {n : ℕ} {a b : Code} {Σ : List Ty} {s₀ : Sto
   i = n - 1
 
   abbrev rows_of : AcceptedRows rs n
-  rows_of = record { some = d.some_rows; ground = d.ground; code = and a b; cells = Σ; store = s₀; type = pair τ υ; flow = d.flow }
+  rows_of = record { some = d.some_rows; ground_is = d.ground_is; code = and a b; cells = Σ; store = s₀; type = pair τ υ; flow = d.flow }
 
   abbrev rows_of₁ : AcceptedRows rs₁ n
-  rows_of₁ = record { some = d.some_rows; ground = d.ground₁; code = and b a; cells = Σ; store = s₀; type = pair υ τ; flow = d.flow₁ }
+  rows_of₁ = record { some = d.some_rows; ground_is = d.ground₁; code = and b a; cells = Σ; store = s₀; type = pair υ τ; flow = d.flow₁ }
 
   -- a last row that failed as a whole
   pub failed_alike : (s : Store) → encode_failed rs₁ n s ≡ encode_failed rs n s

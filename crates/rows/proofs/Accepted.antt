@@ -38,7 +38,7 @@ pub facts : {rs : List ℕ} {n : ℕ} (a : AcceptedRows rs n) → Facts rs n a.c
 unfolding passes3 passes5
 facts {rs} {n} a =
     let l = a.some in
-    let (p, k, f) = zero_flow rs n l a.ground in
+    let (p, k, f) = zero_flow rs n l a.ground_is in
     let g = every_at n (λ i. row_listed rs i) p.listed in
     let q = sorted_of rs n p.sorted in
     let t = every_at n (λ i. named_once rs n i) (and_left _ _ p.named) in
@@ -60,4 +60,4 @@ facts {rs} {n} a =
 pub accepted : (rs : List ℕ) (n : ℕ) → 1 ≤ n → ground_of_rows rs n ≡ 0 → AcceptedRows rs n
 accepted rs n l h =
     let f = (zero_flow rs n l h).2 in
-    record { some = l; ground = h; code = f.code; cells = f.cells; store = f.store; type = f.type; flow = f.flow }
+    record { some = l; ground_is = h; code = f.code; cells = f.cells; store = f.store; type = f.type; flow = f.flow }

@@ -8,7 +8,7 @@ use Rattle.rows.specs.Ground.{ground_of_rows}
 
 pub record AcceptedRows (rs : List ℕ) (n : ℕ) : Type 0 where
   pub some : 1 ≤ n
-  pub ground : ground_of_rows rs n ≡ 0
+  pub ground_is : ground_of_rows rs n ≡ 0
   pub code : Code
   pub cells : List Ty
   pub store : Store

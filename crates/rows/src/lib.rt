@@ -1,5 +1,7 @@
 // Rows of words: how a word of a row is read, and the numbers that 01 gives to rows, each under one name: sizes here, kinds in
 // `kinds`, grounds in `ground_numbers`.
+#![tactic(auto)]
+
 ghost use Rattle.std.specs.Prelude.{◌≡◌, ◌*◌, ◌<◌, length};
 ghost use Rattle.tophat.specs.Roles.{is_role};
 ghost use Rattle.rows.specs.Rows.{max_rows, row_words, word};

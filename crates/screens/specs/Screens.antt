@@ -57,10 +57,10 @@ head_of answer strides l = record {
 
 -- "A refused sheet .. prints its number .. with zeros"
 abbrev pub refused_head : ℕ → Head
-refused_head ground = record { answer = ground; strides = 0; fails = 0; valued = 0; leaves = replicate max_leaves 0; entries = 0 }
+refused_head g = record { answer = g; strides = 0; fails = 0; valued = 0; leaves = replicate max_leaves 0; entries = 0 }
 
 abbrev pub refused_screen : ℕ → List ℕ → Screen
-refused_screen ground out = record { text = head_text (refused_head ground); bytes = head_bytes; memory = head_over out (refused_head ground) }
+refused_screen g out = record { text = head_text (refused_head g); bytes = head_bytes; memory = head_over out (refused_head g) }
 
 -- "it prints: answer .. entry count (4), then the entries": look is lent the memory after the head line for its list
 abbrev pub shown_with : ℕ → ℕ → List ℕ → LookAnswer → Screen

@@ -1,4 +1,5 @@
 // Types as numbers: pair, components, leaves and leaf kinds of a shape.
+#![tactic(auto)]
 
 ghost use Rattle.std.specs.Prelude.{◌≡◌, ◌+◌, ◌*◌, ◌/◌, ◌^◌, ◌<◌, ◌≤◌, length};
 ghost use Rattle.tophat.specs.Syntax.{max_leaves};

@@ -56,7 +56,7 @@ pub record Passed (rows : List ℤ) : Type 0 where
   pub some_rows : 1 ≤ row_count rows
   pub few : row_count rows ≤ max_rows
   pub whole : length rows ≡ row_count rows * row_words
-  pub ground : ground_of_rows (own_rows rows) (row_count rows) ≡ 0
+  pub ground_is : ground_of_rows (own_rows rows) (row_count rows) ≡ 0
 
 positive : (n : ℕ) → (n ≡ 0 → ⊥) → 1 ≤ n
 positive zero h = absurd (h refl)
@@ -74,7 +74,7 @@ module _ (rows : List ℤ) where
       let f = leb-true (length rows) (max_rows * row_words) (and_left b (c && d) v) in
       let u : length rows % row_words ≡ 0 = eqb-true (length rows % row_words) 0 (and_left c d x) in
       let e : length rows ≡ n * row_words = omega (arith, u) in
-      record { some_rows = positive n (λ z. o (e ∙ ap (λ k. k * row_words) z)); few = omega (arith, f); whole = e; ground = eqb-true (ground_of_rows rs n) 0 (and_right c d x) }
+      record { some_rows = positive n (λ z. o (e ∙ ap (λ k. k * row_words) z)); few = omega (arith, f); whole = e; ground_is = eqb-true (ground_of_rows rs n) 0 (and_right c d x) }
 
   pub of_passed : Passed rows → accepts_rows rows ≡ true
   unfolding accepts_rows accepted_rows
@@ -85,7 +85,7 @@ module _ (rows : List ℤ) where
         ne_eqb (length rows) 0 (λ z. omega (arith, o, e, z)),
         le-leb (length rows) (max_rows * row_words) (omega (arith, f, e)),
         eq-eqb (length rows % row_words) 0 u,
-        eq-eqb (ground_of_rows (own_rows rows) (row_count rows)) 0 p.ground,
+        eq-eqb (ground_of_rows (own_rows rows) (row_count rows)) 0 p.ground_is,
       )
 
 -- ---- rows that pass are said by a text
@@ -100,7 +100,7 @@ module _ (rows : List ℤ) (w : AllWords rows) (p : Passed rows) where
       let e = p.whole in
       let m = length-map rows (of_z w32) in
       let b : word (own_rows rows) i 0 ≡ of_z w32 z = get_or-append (map (of_z w32) rows) _ 0 (i * row_words + 0) (omega (arith, m, e, l)) ∙ bits_at rows (i * row_words + 0) in
-      let k = kinds_low (own_rows rows) n p.some_rows p.ground i l in
+      let k = kinds_low (own_rows rows) n p.some_rows p.ground_is i l in
       let q : pos (of_z w32 z) ≡ z = sym (number_low (of_z w32 z) (omega (arith, b, k))) ∙ number_bits z (w (i * row_words + 0)) in
       subst (λ z. Fits (row_columns, z)) q (number_fits row_columns (of_z w32 z) (omega arith) (omega (arith, b, k)) (omega (arith, b, k)))
 
@@ -113,7 +113,7 @@ module _ (rows : List ℤ) (w : AllWords rows) (p : Passed rows) where
       let c : lines s ≡ n = ap (λ k. k / line_bytes) l ∙ omega arith in
       let z = of_sized (length s) n l p.some_rows f in
       let e = sheet_says rows n f w kind_fits p.whole in
-      (s, by_lines s rows z (p.whole ∙ ap (λ k. k * row_words) (sym c)) ∙ (λ j. loaded_lines (lines_say s (c j)) (c j) rows) ∙ ap (λ o. loaded_lines o n rows) e ∙ ap (λ g. leaving g rows rows) p.ground)
+      (s, by_lines s rows z (p.whole ∙ ap (λ k. k * row_words) (sym c)) ∙ (λ j. loaded_lines (lines_say s (c j)) (c j) rows) ∙ ap (λ o. loaded_lines o n rows) e ∙ ap (λ g. leaving g rows rows) p.ground_is)
 
 -- ---- what load leaves with 0 passes
 
@@ -134,7 +134,7 @@ module _ (s : List ℕ) (memory rows : List ℤ) where
       let (g, q) = by_ground (ground_of_rows (own_rows ws) n) ws h in
       let l : length rows ≡ n * row_words = ap length (sym q) ∙ lines_long s n e in
       let c : row_count rows ≡ n = omega (arith, l) in (
-        record { some_rows = omega (arith, c); few = omega (arith, c); whole = omega (arith, c, l); ground = (λ j. ground_of_rows (own_rows (sym q j)) (c j)) ∙ g },
+        record { some_rows = omega (arith, c); few = omega (arith, c); whole = omega (arith, c, l); ground_is = (λ j. ground_of_rows (own_rows (sym q j)) (c j)) ∙ g },
         subst AllWords q (lines_words s n e),
       )
 

@@ -2,7 +2,6 @@
 -- code (01, "A task of a row is"). Rests on nothing.
 -- Believed, but for `moves` and `task_rows`: for proofs only, `moves` tied to the rows by `moves_are` (rows' Moves).
 use Rattle.std.specs.Prelude.{Bool, List, ℕ, ◌+◌, ℤ}
-use mathlib.Core.HLevel.{Discrete}
 
 -- CR 4: "A type may have 8 leaves"
 abbrev pub max_leaves : ℕ

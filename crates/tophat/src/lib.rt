@@ -1,5 +1,6 @@
 // The calculus: its rules in specs/, the theorems on them in proofs/. There is no function here; the numbers that 01 gives to the
 // calculus' notions have their names in code here.
+#![tactic(auto)]
 
 // CR 4: "A type may have 8 leaves"
 pub const MAX_LEAVES: usize = 8;

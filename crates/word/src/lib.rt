@@ -1,6 +1,8 @@
 // Words: signed 32-bit numbers. Lent memory holds them as i32; inside they are u32, the bits of two's complement.
 // Here: sum, difference and product, the comparisons, and the way between bits and numbers, one by one and by slices. Rests on
 // specs/Word.antt, for what a word is, specs/Reckoning.antt, for a result that is none, and specs/Laid.antt, for what a copied slice leaves.
+#![tactic(auto)]
+
 ghost use Rattle.std.specs.Prelude.{◌≡◌, ◌+◌, ◌%◌, ◌+ℤ◌, ◌-ℤ◌, ◌*ℤ◌, length, take};
 ghost use Rattle.std.specs.Int.Signed.{lt_z, le_z};
 ghost use Rattle.std.specs.Int.{w32};

@@ -1,5 +1,4 @@
 -- `read_leaves` meets its contract: the first k fields can be read, and what they say stands first in words and flags. Assumes nothing.
-use Rattle.std.proofs.lemmas.Bool.{not_from_false, not_from_true}
 use mathlib.Core.Path.{◌≡◌, refl, ◌∙◌}
 use Prim.Native.Nat.{◌-◌, ◌≤◌}
 use native.Mathlib.Nat.{mul-le-mul_right}
@@ -34,14 +33,13 @@ returns c =
     read_none c.args.s.now c.args.at c.args.width c.loop-k.k (omega arith) c.read_leaf-leaf.result c.read_leaf-leaf.ensures (not-true _ c.if-not-leaf.true)
 
 loop_again : tie.Need-loop-k-preserved invariant-loop decreases-loop
-loop_again c =
-    (
-      omega arith,
-      length-set c.loop-k.words c.loop-k.k c.read_leaf-leaf.result.bits ∙ c.loop-k.invariant.1,
-      length-set c.loop-k.blank c.loop-k.k c.read_leaf-leaf.result.blank ∙ c.loop-k.invariant.2,
-      read_more c.args.s.now c.args.at c.args.width c.loop-k.k (omega arith) c.read_leaf-leaf.result c.read_leaf-leaf.ensures
-          c.loop-k.words c.loop-k.blank c.loop-k.invariant.3 (not-false _ c.if-not-leaf.false),
-    )
+loop_again c = (
+  omega arith,
+  length-set c.loop-k.words c.loop-k.k c.read_leaf-leaf.result.bits ∙ c.loop-k.invariant.1,
+  length-set c.loop-k.blank c.loop-k.k c.read_leaf-leaf.result.blank ∙ c.loop-k.invariant.2,
+  read_more c.args.s.now c.args.at c.args.width c.loop-k.k (omega arith) c.read_leaf-leaf.result c.read_leaf-leaf.ensures
+      c.loop-k.words c.loop-k.blank c.loop-k.invariant.3 (not-false _ c.if-not-leaf.false),
+)
 
 returns_2 : tie.Need-returns invariant-loop decreases-loop
 returns_2 c =
