@@ -1,5 +1,7 @@
 // Evaluation of plain expressions, rows of kind 20 to 31, which gives a value and may write cells. Rests on crate value for
 // values and operators, on crate state for the words, and on specs/Ensured of that crate for what evaluation ensures.
+#![tactic(auto)]
+
 ghost use Rattle.std.specs.Prelude.{◌≡◌, List, ℕ, ◌<◌, ◌≤◌};
 ghost use Rattle.rows.specs.Kinds.{plain_k, eunit_k, ebinder_k, efst_k, esnd_k, number_of};
 ghost use Rattle.rows.specs.Rows.{max_rows, word};

@@ -1,6 +1,8 @@
 // Failing, normalising and striding: a cycle in which the row falls (01: "failing calls normalise on branches, normalise calls stride,
 // stride calls failing"). Between them stand `settle` and `tried`, `attempt` and `choose`; `tried` and `attempt` alone hold a copy of the
 // state, so that frames stay small. Rests on crate running for values, evaluation and rows that hand on, and on crate state's contracts.
+#![tactic(auto)]
+
 ghost use Rattle.rows.specs.Kinds.{either_k, if_k, task_k, or_k, view_k};
 ghost use Rattle.rows.specs.Rows.{OfKind, FromKind, UpToKind};
 ghost use Rattle.state.specs.Ensured.{Fine, FailingOk, StrideOk, NormaliseOk};

@@ -1,5 +1,7 @@
 // What the rows of a state say of tasks: which row a row hands on to, the value of a task, and the evaluation of a code to its
 // task. Rests on crate eval for expressions, on crate state for the words and for what these functions ensure.
+#![tactic(auto)]
+
 ghost use Rattle.std.specs.Prelude.{◌≡◌, ◌<◌, ◌≤◌};
 ghost use Rattle.rows.specs.Rows.{max_rows, word};
 ghost use Rattle.rows.specs.Enclosing.{max_binders};

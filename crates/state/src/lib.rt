@@ -1,5 +1,7 @@
 // The words of a state and of binders' values, read and written: the one place that computes indices. Of a state, `read` and `put` alone
 // know where a word stands. A state row is its tag, a value's shape and its leaves, and zeros.
+#![tactic(auto)]
+
 pub mod lent; // a state in and out of lent memory
 
 ghost use Rattle.std.specs.Prelude.{◌≡◌, [], ◌∷◌, ◌<◌, ◌≤◌, length, get_or, set};

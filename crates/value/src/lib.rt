@@ -1,6 +1,8 @@
 // Values as the engine passes them: a shape, which is the value's type as one number, and its leaves, unused ones 0; a value or
 // none; and what plain expressions do with values. Rests on crate word for numbers, on crate shape for types, and on
 // specs/Values.antt for what a value stands for.
+#![tactic(auto)]
+
 ghost use Rattle.std.specs.Prelude.{◌≡◌, true, ◌≤◌, ◌<◌, ℤ, get_or};
 ghost use Rattle.std.proofs.Math.Option.{some};
 ghost use Rattle.std.specs.Int.{w32};

@@ -7,12 +7,6 @@ use lib.ListN.{length}
 use Rattle.sheet.proofs.LoadLaws.{yes, nope, is_sized, answers_1, answers_21, answers_2, own_long, answers_rows, answers_0}
 use Rattle.sheet.proofs.load.Statement.{statement}
 use Rattle.sheet.proofs.load.Tie as tie
-use Rattle.sheet.proofs.load.Reads as reads
-use Rattle.sheet.proofs.load.Lts as lts
-use Rattle.grounds.proofs.ground_of_rows.Reads as ground-of-rows-reads
-use Rattle.sheet.proofs.is_sized.Reads as is-sized-reads
-use Rattle.sheet.proofs.scan.read_lines.Reads as read-lines-reads
-use Rattle.word.proofs.copy_out.Reads as copy-out-reads
 
 returns : tie.Need-returns-then-not-is_sized
 returns c =

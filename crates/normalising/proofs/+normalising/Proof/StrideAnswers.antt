@@ -1,5 +1,4 @@
 -- What the walk of `stride` leaves to prove, an arm by the law of its form. Rests on Cycle.
-use Rattle.std.proofs.lemmas.Bool.{not_from_false, not_from_true}
 use mathlib.Core.Path.{sym, ◌∙◌}
 use native.Mathlib.Omega.{arith}
 use Rattle.running.proofs.Handing.{stride_hands}
