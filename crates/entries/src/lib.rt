@@ -1,6 +1,8 @@
 // The entries that a task shows, written as bytes one after another into the list that is lent (01, "Touches and what is shown"); lent a
 // list of no bytes they are counted. Rests on crate decimal for fields, on crate normalising for what a button would do, and on crate
 // running for rows that hand on.
+#![tactic(auto)]
+
 ghost use Rattle.std.specs.Prelude.{cond, List, [], ℕ, ◌<◌, ◌≤◌, length};
 ghost use Rattle.decimal.specs.Path.{max_marks, path_of};
 ghost use Rattle.rows.specs.Kinds.{either_k, if_k, task_k, edit_k, update_k, xor_k, view_k};

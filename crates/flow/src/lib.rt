@@ -1,5 +1,7 @@
 // The four calls over lent memory (01, "Four calls"). Their contracts are equations with the definitions of crate call_definitions (load: of
 // crate sheet), and none has a requires.
+#![tactic(auto)]
+
 pub use sheet::load; // the call load
 
 pub mod answer; // what start and handle answer

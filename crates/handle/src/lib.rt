@@ -3,6 +3,8 @@
 // say (CR 6): the caller drops the words where they refuse. Work that may be given up is done in a copy of the state, in `side`
 // here and in `attempt` of crate normalising. Rests on the crates below for values, evaluation, normalising and rows that hand on;
 // specs/Events says what an event is.
+#![tactic(auto)]
+
 ghost use Rattle.std.specs.Prelude.{◌≡◌, List, ℕ, ◌-◌, ◌<◌, ◌≤◌};
 ghost use Rattle.tophat.specs.Syntax.{max_leaves};
 ghost use Rattle.rows.specs.Kinds.{task_k, edit_k, update_k, xor_k};

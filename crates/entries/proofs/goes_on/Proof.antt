@@ -1,5 +1,4 @@
 -- `entries::goes_on` meets its contract, a way by its law. Assumes nothing.
-use Rattle.std.proofs.lemmas.Bool.{not_from_false, not_from_true}
 use mathlib.Core.Path.{refl}
 use native.Mathlib.Omega.{arith}
 use borrow.Author.Rules.{rules}

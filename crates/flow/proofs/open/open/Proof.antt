@@ -9,14 +9,6 @@ use Rattle.flow.proofs.SiteLaws.{some_rows, few_rows, is_fine}
 use Rattle.flow.proofs.OpenLaws.{site_of, some_words, open_20, open_length, open_misfit, ends, open_22, open_failed, open_23, open_0}
 use Rattle.flow.proofs.open.open.Statement.{statement}
 use Rattle.flow.proofs.open.open.Tie as tie
-use Rattle.flow.proofs.open.open.Reads as reads
-use Rattle.flow.proofs.open.open.Lts as lts
-use Rattle.normalising.proofs.stride.Reads as stride-reads
-use Rattle.sheet.proofs.accepted_rows.Reads as accepted-rows-reads
-use Rattle.state.proofs.lent.state_in.Reads as state-in-reads
-use Rattle.state_check.proofs.held.Reads as held_reads
-use Rattle.flow.proofs.failed.is_failed.Reads as is-failed-reads
-use Rattle.flow.proofs.open.not_failed.Reads as not-failed-reads
 
 returns : tie.Need-returns-then-n-eq0
 returns c =

@@ -1,5 +1,4 @@
 -- `take` meets its contract, each way out by its law. Assumes nothing.
-use Rattle.std.proofs.lemmas.Bool.{not_from_false, not_from_true}
 use mathlib.Core.Bool.{true}
 use borrow.Author.Rules.{rules}
 use borrow.Author.Tests.{not-false}
