@@ -18,6 +18,7 @@ use Rattle.rows.specs.Trees.{ReadsExp, r_eunit, r_etruth, r_enumber, r_ebinder, 
 use Rattle.rows.specs.Trees.{ReadsCode, r_edit, r_enter, r_update, r_then, r_next, r_fail, r_and, r_or, r_xor, r_view, r_gate, r_if, r_let}
 use Rattle.rows.proofs.Basics.{no, or_cases, le_or_lt, made_at, made_past}
 use Rattle.rows.proofs.KindNumbers.{by_kind, no_asks_lem}
+use Rattle.rows.proofs.SortsBelow.{sort_at, made, sort_below_lem}
 
 -- ---- sorts
 
@@ -51,20 +52,9 @@ pub data Basic : Ty → Type 0 where
   is_number : Basic number
 
 module _ (rs : List ℕ) where
-  -- the sort of row i
-  unfoldable pub sort_at : ℕ → Sort
-  sort_at i = sort_by (asks_at rs i) (sort_below rs i (op_b rs i))
-
-  abbrev made : ℕ → List Sort → Sort
-  made i l = sort_by (asks_at rs i) (get_or l (op_b rs i) no_s)
-
-  pub sort_below_lem : (i w : ℕ) → w < i → sort_below rs i w ≡ sort_at w
-  unfolding sorts sort_at
-  sort_below_lem = made_at no_s made (sorts rs) refl (λ i. refl)
-
   pub sort_past : (i w : ℕ) → i ≤ w → sort_below rs i w ≡ no_s
   unfolding sorts
-  sort_past = made_past no_s made (sorts rs) refl (λ i. refl)
+  sort_past = made_past no_s (made rs) (sorts rs) refl (λ i. refl)
 
   -- a row that has a sort for row i is lower
   pub lower_of : (i w : ℕ) (s : Sort) → Known s → sort_below rs i w ≡ s → w < i
@@ -78,9 +68,9 @@ module _ (rs : List ℕ) where
     has_plain : {a : Exp} → ReadsExp rs i a → Has i plain_s
     has_task : {c : Code} → ReadsCode rs i c → Has i task_s
 
-  module _ (i : ℕ) (below : (w : ℕ) → w < i → Has w (sort_at w)) where
+  module _ (i : ℕ) (below : (w : ℕ) → w < i → Has w (sort_at rs w)) where
     operand : (w : ℕ) (s : Sort) → Known s → sort_below rs i w ≡ s → (w < i) × Has w s
-    operand w s k e = let l = lower_of i w s k e in (l, subst (Has w) (sym (sort_below_lem i w l) ∙ e) (below w l))
+    operand w s k e = let l = lower_of i w s k e in (l, subst (Has w) (sym (sort_below_lem rs i w l) ∙ e) (below w l))
 
     -- what an operand that is asked to be of a sort reads as
     a_basic : (w : ℕ) → sort_below rs i w ≡ basic_s → (w < i) × (τ : Ty) × Basic τ × ReadsType rs w τ

@@ -8,6 +8,7 @@ pub mod Unused
 -- rows read as trees: what is read, what is computed, and that they are one
 pub mod TreesAgree
 pub mod Groups
+pub mod SortsBelow
 pub mod Exists
 pub mod CodeRead
 pub mod CellsAt

@@ -18,7 +18,8 @@ use Rattle.rows.specs.Ground.{Small}
 use Rattle.rows.specs.Enclosing.{max_binders, max_marks, Under, here, most_binders, most_marks, counts, leaves_by, row_small}
 use Rattle.rows.specs.Trees.{ReadsType, r_unit, r_truth, r_number, r_pair}
 use Rattle.rows.proofs.Basics.{both, le_or_lt, every_at, every_of, made_at}
-use Rattle.rows.proofs.Exists.{sort_at, Has, has_type, has_basic, has_cell, has_plain, has_task, Sorted, exists}
+use Rattle.rows.proofs.Exists.{Has, has_type, has_basic, has_cell, has_plain, has_task, Sorted, exists}
+use Rattle.rows.proofs.SortsBelow.{sort_at}
 use Rattle.rows.proofs.Places.{Place, place_a, place_b, place_c, op_at, ask_at, Names, lower}
 use Rattle.rows.proofs.Steps.{binders_at, marks_at, under_step, under_elim}
 

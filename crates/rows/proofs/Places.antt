@@ -16,7 +16,8 @@ use Rattle.rows.specs.Rows.{word, op_a, op_b, op_c, sort_below, same_sort, sorte
 use Rattle.rows.specs.Trees.{ReadsType, r_unit, r_truth, r_number, r_pair}
 use Rattle.rows.proofs.Basics.{no, or_cases, le_or_lt}
 use Rattle.rows.specs.Kinds.{table, asks_of, number_of}
-use Rattle.rows.proofs.Exists.{same_sort_lem, Known, sort_at, sort_below_lem, lower_of, Has, has_type, has_basic, Sorted, exists}
+use Rattle.rows.proofs.Exists.{same_sort_lem, Known, lower_of, Has, has_type, has_basic, Sorted, exists}
+use Rattle.rows.proofs.SortsBelow.{sort_at, sort_below_lem}
 use Rattle.rows.proofs.KindNumbers.{tabled, each_line}
 
 pub data Place : Type 0 where

@@ -17,6 +17,7 @@ use Rattle.tophat.specs.Typing.{ValueType, v_unit, v_truth, v_number, v_pair, ty
 use Rattle.tophat.specs.Leaves.{leaves_of, padded, Given, Unused, u_end, u_zero, u_blank, Gives, Leaf, no_leaf, unit_leaf, truth_leaf, number_leaf, leaf_kinds}
 use Rattle.tophat.specs.Leaves.{Meets, m_end, m_none, m_blank, m_unit, m_false, m_true, m_number, value_of, meets_leaf, meets, number_given, given}
 use Rattle.tophat.proofs.Basics.{no_some}
+use Rattle.tophat.proofs.LeafMet.{test, both_passed, leaf_met}
 
 -- a value has one type
 pub type_of_lem : {v : Val} {τ : Ty} → ValueType v τ → type_of v ≡ τ
@@ -26,34 +27,7 @@ type_of_lem v_truth = refl
 type_of_lem (v_number h) = refl
 type_of_lem (v_pair g h) = ap₂ pair (type_of_lem g) (type_of_lem h)
 
--- a test that passed
-passed : {b : Bool} → b ≡ true → T b
-passed h = subst T (sym h) tt
-
-test : (b : Bool) → T b → b ≡ true
-test true h = refl
-test false h = absurd h
-
-both_passed : (a b : Bool) → a && b ≡ true → (a ≡ true) × (b ≡ true)
-both_passed true b h = (refl, h)
-both_passed false b h = absurd (false≢true h)
-
 -- `meets` decides Meets
-truth_met : (n : ℤ) {ks : List Leaf} {ls : List Given} (x : Bool) → eq_z n (pos 0) ≡ x → x || eq_z n (pos 1) ≡ true → Meets ks ls → Meets (truth_leaf ∷ ks) (some n ∷ ls)
-truth_met n {ks} {ls} true e h d = subst (λ n. Meets (truth_leaf ∷ ks) (some n ∷ ls)) (sym (eq_z_true n (pos 0) e)) (m_false d)
-truth_met n {ks} {ls} false e h d = subst (λ n. Meets (truth_leaf ∷ ks) (some n ∷ ls)) (sym (eq_z_true n (pos 1) h)) (m_true d)
-
-leaf_met : (k : Leaf) (l : Given) {ks : List Leaf} {ls : List Given} → meets_leaf k l ≡ true → Meets ks ls → Meets (k ∷ ks) (l ∷ ls)
-unfolding meets_leaf
-leaf_met no_leaf none h d = m_blank d
-leaf_met no_leaf (some n) {ks} {ls} h d = subst (λ n. Meets (no_leaf ∷ ks) (some n ∷ ls)) (sym (eq_z_true n (pos 0) h)) (m_none d)
-leaf_met unit_leaf none h d = absurd (false≢true h)
-leaf_met unit_leaf (some n) {ks} {ls} h d = subst (λ n. Meets (unit_leaf ∷ ks) (some n ∷ ls)) (sym (eq_z_true n (pos 0) h)) (m_unit d)
-leaf_met truth_leaf none h d = absurd (false≢true h)
-leaf_met truth_leaf (some n) h d = truth_met n _ refl h d
-leaf_met number_leaf none h d = absurd (false≢true h)
-leaf_met number_leaf (some n) h d = m_number (ltb→lt (mag n) half (passed h)) d
-
 pub meets_sound : (ks : List Leaf) (ls : List Given) → meets ks ls ≡ true → Meets ks ls
 unfolding meets
 meets_sound [] [] h = m_end

@@ -5,6 +5,7 @@ pub mod ComputeHandling
 pub mod ComputeEntries
 pub mod Became
 pub mod Admitted
+pub mod LeafMet
 pub mod Leaves
 pub mod EvaluationAgrees
 pub mod TaskEvaluationAgrees
@@ -40,6 +41,7 @@ pub mod TypedParts
 pub mod StrideMaps
 pub mod Mirroring
 pub mod Regrouping
+pub mod Rotations
 pub mod RegroupingTouches
 pub mod Renaming
 pub mod RenamingSteps

@@ -13,31 +13,9 @@ use Rattle.tophat.specs.Redrawn.{turned, rotate, path_in, moved}
 use Rattle.tophat.proofs.ComputeHandling.{Taken, map_task, at_mark, handle}
 use Rattle.tophat.proofs.ComputeEntries.{entries}
 use Rattle.tophat.proofs.StrideMaps.{map_two}
+use Rattle.tophat.proofs.Rotations.{rotate_back, rotate_rotate_back, rotate_back_rotate}
 
 -- ---- marks, one for one
-
-unfoldable pub rotate_back : Path → Path
-rotate_back [] = []
-rotate_back (first ∷ p) = first ∷ first ∷ p
-rotate_back (second ∷ []) = first ∷ []
-rotate_back (second ∷ first ∷ p) = first ∷ second ∷ p
-rotate_back (second ∷ second ∷ p) = second ∷ p
-
-pub rotate_rotate_back : (p : Path) → rotate (rotate_back p) ≡ p
-unfolding rotate rotate_back
-rotate_rotate_back [] = refl
-rotate_rotate_back (first ∷ p) = refl
-rotate_rotate_back (second ∷ []) = refl
-rotate_rotate_back (second ∷ first ∷ p) = refl
-rotate_rotate_back (second ∷ second ∷ p) = refl
-
-pub rotate_back_rotate : (p : Path) → rotate_back (rotate p) ≡ p
-unfolding rotate rotate_back
-rotate_back_rotate [] = refl
-rotate_back_rotate (first ∷ []) = refl
-rotate_back_rotate (first ∷ first ∷ p) = refl
-rotate_back_rotate (first ∷ second ∷ p) = refl
-rotate_back_rotate (second ∷ p) = refl
 
 module _ {A B C : Type 0} where
   -- from the other to the one

@@ -29,7 +29,8 @@ use Rattle.rows.specs.Trees.{ReadsCode, r_edit, r_enter, r_update, r_then, r_nex
 use Rattle.rows.specs.ComputeTrees.{code_at, cell_types}
 use Rattle.rows.specs.Ground.{flow_type, passes4, passes6}
 use Rattle.rows.proofs.Basics.{every_at}
-use Rattle.rows.proofs.Exists.{Sorted, Has, has_type, has_basic, has_cell, has_plain, has_task, exists, sort_at, same_sort_lem, code_exists}
+use Rattle.rows.proofs.Exists.{Sorted, Has, has_type, has_basic, has_cell, has_plain, has_task, exists, same_sort_lem, code_exists}
+use Rattle.rows.proofs.SortsBelow.{sort_at}
 use Rattle.rows.proofs.TreesAgree.{code_is}
 use Rattle.rows.proofs.CodeRead.{type_none, cell_none, exp_none}
 use Rattle.rows.proofs.Most.{small_of}

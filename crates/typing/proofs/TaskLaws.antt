@@ -12,7 +12,8 @@ use Rattle.rows.specs.Kinds.{Sort, task_s, either_k, if_k, let_k, task_k, edit_k
 use Rattle.rows.specs.Rows.{word, op_b, sort_by, sort_below, sort_number, same_sort}
 use Rattle.rows.specs.Enclosing.{max_binders}
 use Rattle.rows.proofs.KindNumbers.{no_asks_lem, kind_past}
-use Rattle.rows.proofs.Exists.{sort_at, sort_below_lem, sort_past}
+use Rattle.rows.proofs.Exists.{sort_past}
+use Rattle.rows.proofs.SortsBelow.{sort_at, sort_below_lem}
 use Rattle.typing.specs.RowTypes.{type_of, is_task, flow_shape}
 
 -- a kind with a B of sort s is a task
