@@ -1,8 +1,5 @@
 -- The sort of a row, and that the sorts below a row are those of the rows below it. Rests on rows' definitions and Basics.
-use mathlib.Core.Path.{◌≡◌, refl}
-use mathlib.Core.List.{List}
-use Prim.Native.Nat.{ℕ, ◌<◌}
-use lib.ListN.{get_or}
+use Rattle.std.proofs.Common.{◌≡◌, refl, List, ℕ, ◌<◌, get_or}
 use Rattle.rows.specs.Kinds.{Sort, no_s}
 use Rattle.rows.specs.Rows.{asks_at, op_b, sort_by, sorts, sort_below}
 use Rattle.rows.proofs.Basics.{made_at}
