@@ -4,7 +4,7 @@
 -- - what is accepted with the blanks is accepted with the zeros, and all that is answered and left is the same;
 -- - at actions 2 to 4, where only the path is left blank, and where the events cannot be read, the answers are equal, refusals too;
 -- - where an entry of the list shown covers the event with the zeros, and only leaves whose kind is 0 there are left blank, the answers
---   are equal: a blank is as 0 where the value has no leaf. Elsewhere it is refused (tophat's blank-refused).
+--   are equal: a blank is as 0 where the value has no leaf. Elsewhere it is refused (tophat's blank_refused).
 --
 -- Rests on HandleAnswered and formats' BlankEvents.
 use mathlib.Core.Path.{◌≡◌, refl, sym, ap, subst, ◌∙◌}

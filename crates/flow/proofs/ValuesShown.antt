@@ -1,6 +1,6 @@
 -- THE PROMISE ON VALUES: a look at a rest of an accepted flow that answers 0 with the value flag 1 leaves in its value memory the words of a
 -- value of the flow's own type. Said of `look_call`, which the contracts of `look`, `fill` and the export are equations with. Rests on the calls'
--- theorem (`stands`) and on tophat's value-type.
+-- theorem (`stands`) and on tophat's value_type.
 use mathlib.Core.Path.{◌≡◌, refl, subst}
 use mathlib.Core.Option.{Option}
 use mathlib.Core.List.{List}

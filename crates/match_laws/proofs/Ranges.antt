@@ -25,7 +25,7 @@ one_of P (k ∷ []) a h = subst P (sym h) a.0
 one_of P (k ∷ j ∷ ks) a (inl h) = subst P (sym h) a.0
 one_of P (k ∷ j ∷ ks) a (inr h) = one_of P (j ∷ ks) a.1 h
 
--- ---- none of the numbers of other arms, the last arm first: `c.match.rest` as it is handed over
+-- ---- none of the numbers of other arms, the last arm first: `c.in_default.in_default-own.rest` as it is handed over
 
 abbrev pub NoneOf : List (List ℕ) → ℕ → Type 0
 NoneOf [] x = Unit {0}

@@ -1,5 +1,5 @@
 -- The cells of n rows: a type and a content for each row, at a cell's row those of the cell. The first store is of the cells'
--- types, which have at most maxLeaves leaves. Rests on TreesAgree and the calculus' typing.
+-- types, which have at most max_leaves leaves. Rests on TreesAgree and the calculus' typing.
 use mathlib.Core.Path.{◌≡◌, refl, sym, subst, ◌∙◌}
 use mathlib.Core.Logic.{⊎_elim}
 use mathlib.Core.List.{List, [], ◌∷◌, ◌++◌}
@@ -60,7 +60,7 @@ module _ {rs : List ℕ} where
   cell_known {j = j} {τ = τ} (c_number {i = i} {Σ = Σ} d c) l r = one_more Σ number i j (cells_length d).0 l (λ e. one_cell c (subst (λ k. ReadsCell rs k τ) e r)) (λ b. cell_known d b r)
   cell_known {j = j} {τ = τ} (c_other {i = i} {Σ = Σ} d c) l r = one_more Σ unit i j (cells_length d).0 l (λ e. no_cell c (subst (λ k. ReadsCell rs k τ) e r)) (λ b. cell_known d b r)
 
-  -- the cells' types have at most maxLeaves leaves
+  -- the cells' types have at most max_leaves leaves
   pub cells_small : {n : ℕ} {Σ : List Ty} {s : Store} → Cells rs n Σ s → AllSmall Σ
   unfolding leaves
   cells_small c_none = small_nil

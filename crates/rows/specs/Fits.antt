@@ -1,6 +1,6 @@
 -- Trees within ground 6 (01: "At most 16 binders .. enclose a row; a binder encloses its B only"): with n binders around it, no part of the
 -- tree has more than 16 around it. The same of marks is tophat's MarksFit. Rests on Enclosing's limits and on the calculus' syntax.
--- For contracts only: tied to ground 6 by `Code-fits` (proofs/Binders).
+-- For contracts only: tied to ground 6 by `code_fits` (proofs/Binders).
 use Rattle.std.specs.Prelude.{ℕ, suc, ◌<◌}
 use Rattle.tophat.specs.Syntax.{Exp, eunit, etruth, enumber, ebinder, eop, eif, epair, efst, esnd, ederef, eassign, elet}
 use Rattle.tophat.specs.Syntax.{Code, edit, enter, update, then, next, fail, and, or, xor, view, gate, if, let'}

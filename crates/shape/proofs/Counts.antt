@@ -1,5 +1,5 @@
 -- Counting the leaves of a number's first types, against types: a shape's leaves are counted right, and what is counted
--- within maxLeaves is a row of types. So `leaves_of` tells shapes from other numbers. Rests on Puts.
+-- within max_leaves is a row of types. So `leaves_of` tells shapes from other numbers. Rests on Puts.
 use mathlib.Core.Path.{◌≡◌, refl, sym, ap, ap₂, subst, ◌∙◌}
 use mathlib.Core.Option.{Option, none, some}
 use mathlib.Core.List.{List, [], ◌∷◌}
@@ -134,7 +134,7 @@ counted_shape c h g = let t = counted max_digits 1 c h in let (τ, e, l) = only_
         let w = ap width l in
         absurd (omega arith)
 
--- ---- shapeLeaves
+-- ---- shape_leaves
 
 -- a number is read as no type, or is the shape of one
 pub by_type : (c : ℕ) (P : Option Ty → Type 0) → P none → ((τ : Ty) → c ≡ as_shape τ → leaves τ ≤ max_leaves → P (some τ)) → P (as_type c)

@@ -62,7 +62,7 @@ width_grows : (n k : ℕ) → width n ≤ width (n + k)
 width_grows n zero = let e : n + zero ≡ n = omega arith in omega (arith, ap width e)
 width_grows n (suc k) = let e : n + suc k ≡ suc (n + k) = omega arith in omega (arith, ap width e, width_grows n k, width_next (n + k))
 
--- a width of at most maxLeaves leaves is the greatest at most
+-- a width of at most max_leaves leaves is the greatest at most
 pub width_most : (n : ℕ) → n ≤ max_leaves → width n ≤ width max_leaves
 width_most n h = let e : n + (max_leaves - n) ≡ max_leaves = omega arith in omega (arith, ap width e, width_grows n (max_leaves - n))
 

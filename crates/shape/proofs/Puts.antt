@@ -166,7 +166,7 @@ front_back (suc d) c =
     (λ t. first_back d c (c / 4) (front d (c / 4)) (omega (arith, eqb-true (c % 4) 0 t)) (front_back d (c / 4)) (λ r. front_back d r))
     (λ f. leaf_back c (c % 4) (omega (arith, eqb-false (c % 4) 0 f)) (omega arith) (omega arith))
 
--- ---- so for numbers and types of at most maxLeaves leaves
+-- ---- so for numbers and types of at most max_leaves leaves
 
 ask_no : {P X : Type 0} (d : Dec P) (o : Option X) → (P → ⊥) → ask d o ≡ none
 unfolding ask

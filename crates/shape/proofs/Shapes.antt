@@ -1,4 +1,4 @@
--- What the functions of this crate give at the shapes of types of at most maxLeaves leaves, and at 0, which is the shape
+-- What the functions of this crate give at the shapes of types of at most max_leaves leaves, and at 0, which is the shape
 -- of none. Rests on Puts and Counts.
 use mathlib.Core.Path.{◌≡◌, refl, sym, ap, ap₂}
 use mathlib.Core.Option.{Option, none, some, bind}
@@ -11,7 +11,7 @@ use Rattle.shape.specs.Shape.{as_shape, maybe_shape, as_type, pair_shape, first_
 use Rattle.shape.proofs.Puts.{shape_pos, as_type_lem}
 use Rattle.shape.proofs.Counts.{by_type}
 
--- a type of at most maxLeaves leaves, or none
+-- a type of at most max_leaves leaves, or none
 abbrev pub SmallO : Option Ty → Type 0
 SmallO none = Unit {0}
 SmallO (some τ) = leaves τ ≤ max_leaves

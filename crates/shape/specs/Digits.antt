@@ -4,11 +4,11 @@ use Rattle.std.specs.Prelude.{cond, List, [], ◌∷◌, ℕ, zero, suc, ◌+◌
 use Rattle.tophat.specs.Syntax.{max_leaves}
 use Rattle.shape.specs.Shape.{base}
 
--- the digits of a type of maxLeaves leaves
+-- the digits of a type of max_leaves leaves
 abbrev pub max_digits : ℕ
 max_digits = 2 * max_leaves - 1
 
--- the leaves of the k types that stand first in c, if they end within d digits; more than maxLeaves if not
+-- the leaves of the k types that stand first in c, if they end within d digits; more than max_leaves if not
 unfoldable pub count : ℕ → ℕ → ℕ → ℕ
 count zero k c = cond (eqb k 0) 0 (max_leaves + 1)
 count (suc d) k c = cond (eqb k 0) 0 (cond (eqb (c % base) 0) (count d (k + 1) (c / base)) (1 + count d (k - 1) (c / base)))

@@ -38,7 +38,7 @@ front zero c = none
 front (suc d) c =
     cond (eqb (c % base) 0) (bind (front d (c / base)) λ x. bind (front d x.1) λ y. some (pair x.0 y.0, y.1)) (some (leaf_of (c % base), c / base))
 
--- the type of at most maxLeaves leaves that has this shape
+-- the type of at most max_leaves leaves that has this shape
 unfoldable pub as_type : ℕ → Option Ty
 as_type c = bind (front max_leaves c) λ x. cond (eqb x.1 0) (type_to x.0) none
 

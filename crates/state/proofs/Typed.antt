@@ -40,7 +40,7 @@ pub data Narrow (k : ℕ) (Σ : List Ty) : List Ty → Code → Type 0 where
 abbrev pub NarrowCells : ℕ → List Ty → Type 0
 NarrowCells k Σ = (j : ℕ) (τ : Ty) → At Σ j τ → leaves τ ≤ k
 
--- a typed code has types of at most maxLeaves
+-- a typed code has types of at most max_leaves
 all_narrow : {Σ Γ : List Ty} {c : Code} {τ : Ty} → CodeType Σ Γ c τ → AllSmall Σ → AllSmall Γ → Narrow max_leaves Σ Γ c
 all_narrow (t_edit d) g h = n_edit d (type_leaves d g h)
 all_narrow (t_enter l) g h = n_enter l

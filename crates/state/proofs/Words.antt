@@ -111,7 +111,7 @@ leaves_all {ws₀} {ws₁} {i} ls k h p ws xs e q = subst (λ l. Laid ws ws₁ i
 
 -- ---- values
 
--- a value of at most maxLeaves leaves has words for as many
+-- a value of at most max_leaves leaves has words for as many
 pub length_bits : {u : Val} {τ : Ty} → ValueType u τ → leaves τ ≤ max_leaves → length (leaf_bits u) ≡ max_leaves
 length_bits {u} t l = leaf_count u (subst (λ τ. leaves τ ≤ max_leaves) (sym (type_of_lem t)) l)
 

@@ -14,7 +14,7 @@ use Rattle.state.specs.Holds.{tree_of, Foot, Sits, Cell, Row, Clear, Holds, Same
 use Rattle.state.specs.Words.{Laid, value_at}
 use Rattle.state.specs.Reading.{read_touches, read_task, cell_at, read_store}
 
--- the cells have the types Σ, and no type passes maxLeaves
+-- the cells have the types Σ, and no type passes max_leaves
 pub record Sheet (rs : List ℕ) (n : ℕ) (Σ : List Ty) : Type 0 where
   pub known : (i : ℕ) (τ : Ty) → i < n → ReadsCell rs i τ → nth Σ i ≡ some τ
   pub small : (i : ℕ) (τ : Ty) → i < n → ReadsType rs i τ → leaves τ ≤ max_leaves

@@ -1,6 +1,6 @@
 -- Touches of three choices regrouped, (a, b), c against a, (b, c): rotating the marks is one for one, a touch of the one is taken as the
 -- rotated touch of the other, and the entries of the other are those of the one with their marks rotated, in the same order. Rests on
--- StrideMaps' map-two, and on no other file on regrouping.
+-- StrideMaps' map_two, and on no other file on regrouping.
 use mathlib.Core.Path.{◌≡◌, refl, sym, ap, ap₂, ◌∙◌}
 use mathlib.Core.Option.{Option}
 use mathlib.Core.List.{List, [], ◌∷◌, ◌++◌, append_assoc}

@@ -12,7 +12,7 @@ use Rattle.tophat.specs.Typing.{k_both, k_either, k_or_left, k_or_right, k_unpic
 use Rattle.tophat.specs.Residual.{quoted, residual}
 use Rattle.tophat.proofs.TypeLeaves.{type_leaves, task_type_leaves}
 
--- a value of a type that has at most maxLeaves leaves is an expression of it
+-- a value of a type that has at most max_leaves leaves is an expression of it
 quoted_typed : {Σ Γ : List Ty} {v : Val} {τ : Ty} → ValueType v τ → leaves τ ≤ max_leaves → HasType Σ Γ (quoted v) τ
 unfolding quoted leaves
 quoted_typed v_unit l = t_unit

@@ -24,7 +24,7 @@ use Rattle.rows.proofs.Basics.{le_or_lt}
 use Rattle.typing.specs.BinderShapes.{EnvOf, BinderShapes}
 use Rattle.typing.specs.RowTypes.{both_are, op_shape, same_shape, if_shape, assign_shape, binder_shape, bind_shape}
 
--- r is the shape of the type, of at most maxLeaves leaves, or 0 for none
+-- r is the shape of the type, of at most max_leaves leaves, or 0 for none
 pub record Good (o : Option Ty) (r : ℕ) : Type 0 where
   pub is : r ≡ maybe_shape o
   pub small : SmallO o

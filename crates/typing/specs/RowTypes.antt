@@ -35,7 +35,7 @@ assign_shape t u = cond (eqb t 0) 0 (cond (eqb t u) (as_shape unit) 0)
 abbrev pub binder_shape : List ℕ → ℕ → ℕ → ℕ
 binder_shape env n a = cond (ltb a n) (cond (leb n max_binders) (get_or env (n - 1 - a) 0) 0) 0
 
--- what f gives with a binder of shape t more; none without t, nor past maxBinders
+-- what f gives with a binder of shape t more; none without t, nor past max_binders
 abbrev pub bind_shape : (List ℕ → ℕ → ℕ) → List ℕ → ℕ → ℕ → ℕ
 bind_shape f env n t = cond (eqb t 0) 0 (cond (ltb n max_binders) (f (set env n t) (n + 1)) 0)
 

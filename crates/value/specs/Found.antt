@@ -1,5 +1,5 @@
 -- A value or none: what the calculus' optional values are to the engine. Rests on Values.
--- For contracts only: tied to the calculus by `Found-None` and `found-Some` (proofs/Meaning).
+-- For contracts only: tied to the calculus by `found_none` and `found_some` (proofs/Meaning).
 use Rattle.std.specs.Prelude.{true, false, ◌&&◌, cond}
 use Rattle.std.proofs.Math.Option.{Option, none, some}
 use Rattle.tophat.specs.Syntax.{Val}

@@ -24,7 +24,7 @@ is_word z = ltb (mag z) half
 abbrev pub AllWords : List ℤ → Type 0
 AllWords l = (i : ℕ) → IsWord (get_or l i (pos 0))
 
--- a list of bits: what a read of a slice of u32 makes known of it, `λ i. (c.slice-known.given i).fits`
+-- a list of bits: what a read of a slice of u32 makes known of it, `λ i. (c.slice_known-1.given i).fits`
 abbrev pub AllBits : List ℕ → Type 0
 AllBits l = (i : ℕ) → get_or l i 0 < words
 
