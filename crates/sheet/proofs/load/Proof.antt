@@ -31,23 +31,20 @@ ground_of_rows_requires c κs =
     let z = is_sized (length c.args.sheet.now) (yes c.is_sized.ensures (not_from_true _ c.if-not-is_sized.false)) in
     (z.some_lines, z.few)
 
-returns_4 : tie.Need-returns-then-ground-ne0
-returns_4 c =
-    answers_rows c.args.sheet.now c.args.rows.now (yes c.is_sized.ensures (not_from_true _ c.if-not-is_sized.false)) c.if-rows-n.false
-    c.read_lines.new.own c.read_lines.result c.read_lines.ensures (not_from_true _ c.if-not-read_lines.false)
-    c.ground_of_rows-ground.result c.ground_of_rows-ground.ensures c.if-ground-ne0.true
-
 slice_aggregate_copy_out : tie.Need-slice_bounds-copy_out-end
 slice_aggregate_copy_out c =
     sym
     (own_long c.args.sheet.now c.args.rows.now (yes c.is_sized.ensures (not_from_true _ c.if-not-is_sized.false)) c.if-rows-n.false c.read_lines.new.own c.read_lines.result c.read_lines.ensures (not_from_true _ c.if-not-read_lines.false))
 
-returns_5 : tie.Need-returns
-returns_5 c =
+pub load_spec : {M : Type 1} → statement M
+load_spec = tie.close (tie.spec (λ c κs. search rules) returns (λ c. search rules) returns_2 read_lines_requires returns_3 ground_of_rows_requires
+    (λ c.
+    answers_rows c.args.sheet.now c.args.rows.now (yes c.is_sized.ensures (not_from_true _ c.if-not-is_sized.false)) c.if-rows-n.false
+    c.read_lines.new.own c.read_lines.result c.read_lines.ensures (not_from_true _ c.if-not-read_lines.false)
+    c.ground_of_rows-ground.result c.ground_of_rows-ground.ensures c.if-ground-ne0.true)
+    slice_aggregate_copy_out (λ c κs. search rules) (λ c. search rules)
+    (λ c.
     answers_0 c.args.sheet.now c.args.rows.now (yes c.is_sized.ensures (not_from_true _ c.if-not-is_sized.false)) c.if-rows-n.false
     c.read_lines.new.own c.read_lines.result c.read_lines.ensures (not_from_true _ c.if-not-read_lines.false) c.ground_of_rows-ground.result
-    c.copy_out.new.lent c.ground_of_rows-ground.ensures c.if-ground-ne0.false c.copy_out.ensures
-
-pub load_spec : {M : Type 1} → statement M
-load_spec = tie.close (tie.spec (λ c κs. search rules) returns (λ c. search rules) returns_2 read_lines_requires returns_3 ground_of_rows_requires returns_4
-    slice_aggregate_copy_out (λ c κs. search rules) (λ c. search rules) returns_5)
+    c.copy_out.new.lent c.ground_of_rows-ground.ensures c.if-ground-ne0.false c.copy_out.ensures)
+    )

@@ -14,18 +14,16 @@ returns_2 c =
     λ blank z. unknown c.args.action (leaves_by c.args.leaves blank) c.ranges.action.fits c.if-action-eq-GIVE.false (λ e. omega arith) (λ e. omega arith)
     (λ e. omega arith)
 
-returns_3 : tie.Need-returns-then-action-gt-RIGHT
-returns_3 c =
-    λ blank z. unknown c.args.action (leaves_by c.args.leaves blank) c.ranges.action.fits c.if-action-eq-GIVE.false (λ e. omega arith) (λ e. omega arith)
-    (λ e. omega arith)
-
 all_zero_requires : tie.Need-all_zero-requires
 all_zero_requires c κs = search rules
 
-returns_4 : tie.Need-returns
-returns_4 c =
-    λ blank z. known_other c.args.action (leaves_by c.args.leaves blank) c.ranges.action.fits c.if-action-eq-GIVE.false (omega arith) (omega arith)
-    c.all_zero.result (c.all_zero.ensures blank z)
-
 pub known_spec : {M : Type 1} → statement M
-known_spec = tie.close (tie.spec returns returns_2 returns_3 all_zero_requires returns_4)
+known_spec = tie.close (tie.spec returns returns_2
+    (λ c.
+    λ blank z. unknown c.args.action (leaves_by c.args.leaves blank) c.ranges.action.fits c.if-action-eq-GIVE.false (λ e. omega arith) (λ e. omega arith)
+    (λ e. omega arith))
+    all_zero_requires
+    (λ c.
+    λ blank z. known_other c.args.action (leaves_by c.args.leaves blank) c.ranges.action.fits c.if-action-eq-GIVE.false (omega arith) (omega arith)
+    c.all_zero.result (c.all_zero.ensures blank z))
+    )

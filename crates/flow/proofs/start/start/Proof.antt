@@ -39,12 +39,11 @@ state_out_requires c κs =
     let z = (site_of c.args.rows.now n.result n.ensures.0 n.ensures.1.0 n.ensures.1.1.0 c.if-n-eq0.false).3 in
     (c.if-state-n.false, few_rows z)
 
-returns_3 : tie.Need-returns
-returns_3 c =
+pub start_spec : {M : Type 1} → statement M
+start_spec = tie.close (tie.spec (λ c κs. search rules) (λ c κs. search rules) returns mul_if2 (λ c κs. search rules) returns_2 begin_requires state_out_requires (λ c. search rules)
+    (λ c.
     let n = c.accepted_rows-n in
     let z = (site_of c.args.rows.now n.result n.ensures.0 n.ensures.1.0 n.ensures.1.1.0 c.if-n-eq0.false).3 in
     start_0 c.args.state.now c.state_out.new.lent c.begin-strides.new.words c.begin-strides.result z c.if-state-n.false
-    c.begin-strides.ensures c.state_out.ensures.1 c.state_out.ensures.0
-
-pub start_spec : {M : Type 1} → statement M
-start_spec = tie.close (tie.spec (λ c κs. search rules) (λ c κs. search rules) returns mul_if2 (λ c κs. search rules) returns_2 begin_requires state_out_requires (λ c. search rules) returns_3)
+    c.begin-strides.ensures c.state_out.ensures.1 c.state_out.ensures.0)
+    )
