@@ -1,45 +1,33 @@
 -- Handle by the rules alone: for every rows memory and state memory of words and every event the relation derives what handle answers and
--- leaves, and nothing else. Rests on Grounds.
+-- leaves, and nothing else. Rests on Grounds and Outcomes.
 use mathlib.Core.Path.{◌≡◌, refl, sym, ap, subst, ◌∙◌}
-use mathlib.Core.Bool.{Bool, true, false, cond}
+use mathlib.Core.Bool.{true, false}
 use mathlib.Core.Option.{Option, none, some}
 use mathlib.Core.List.{List, []}
 use Prim.Native.Nat.{ℕ}
-use lib.Dec.{eqb}
 use lib.IntN.{ℤ}
 use Rattle.word.specs.Word.{AllWords}
 use Rattle.word.specs.Decides.{Decides}
 use Rattle.decimal.specs.Path.{Path}
 use Rattle.tophat.specs.Syntax.{Ty, Code, TaskOf, Store}
-use Rattle.tophat.specs.Typing.{TaskType, ValueTypes, v_nil}
+use Rattle.tophat.specs.Typing.{v_nil}
 use Rattle.tophat.specs.Normalising.{Normalises}
 use Rattle.tophat.specs.Handling.{Action, Handles}
-use Rattle.tophat.specs.Roles.{Gate, other_role, no_touch, of_role, touches_left, verdict, anyone, is, admits}
-use Rattle.tophat.proofs.Basics.{All, all_none, all_some}
-use Rattle.tophat.proofs.ComputeHandling.{Taken}
-use Rattle.tophat.proofs.ComputeHandling as compute
-use Rattle.tophat.proofs.Admitted.{admits_anyone, admits_role, verdict_admits}
-use Rattle.tophat.proofs.NormalisingSound.{normalise_sound}
+use Rattle.tophat.specs.Roles.{Gate, other_role, no_touch, of_role, touches_left, verdict, is, admits}
+use Rattle.tophat.proofs.Admitted.{admits_anyone, verdict_admits}
 use Rattle.tophat.proofs.NormalisingComplete.{normalises_is}
-use Rattle.tophat.proofs.Bound.{normal_rest}
-use Rattle.tophat.proofs.HandlingSound.{GoodHandling, handles_sound}
-use Rattle.tophat.proofs.HandlingComplete.{handles_is, refuses, fail_refuses}
+use Rattle.tophat.proofs.HandlingSound.{handles_sound}
+use Rattle.tophat.proofs.HandlingComplete.{handles_is}
 use Rattle.formats.specs.Touches.{event_of}
 use Rattle.rows.proofs.Basics.{no}
 use Rattle.rows.specs.GroundNumbers.{event_not_read, not_handled}
 use Rattle.call_definitions.specs.Memory.{state_of, CallAnswer, refusal}
-use Rattle.call_definitions.specs.States.{FlowState, task_state, AtRest, RefusesIn, PassesIn}
-use Rattle.call_definitions.specs.Answers.{AcceptedFlow, Writes, as_task, as_failed, IsRest, HandleAnswers, handle_shut, handle_8, handle_9, handle_30, handle_31, handle_0}
+use Rattle.call_definitions.specs.States.{RefusesIn, PassesIn}
+use Rattle.call_definitions.specs.Answers.{AcceptedFlow, IsRest, HandleAnswers, handle_shut, handle_8, handle_9, handle_30, handle_31, handle_0}
 use Rattle.call_definitions.specs.Calls.{Opened, refused_by, rest_of, opened, settled, handled, handle_read, handle_in, handle_call}
 use Rattle.call_definitions.proofs.Opening.{opens, state_typed}
 use Rattle.call_definitions.proofs.Grounds.{Opens, open_shut, open_rest, opened_derived, shut_only}
-
--- what an event that is taken comes to is a state of the flow's own code: 45 takes none
-taken_rest : {rows ws : List ℤ} {c : Code} {Σ : List Ty} {τ : Ty} {z : FlowState} {p : Path} {x : Action} {gs : List Gate} {t₁ t₂ : TaskOf z.code} {s₁ s₂ : Store}
-    → Writes rows ws c Σ τ z → Handles z.code [] z.store z.task p x t₁ s₁ gs
-    → TaskType Σ [] z.code t₂ τ → ValueTypes s₂ Σ → AtRest (task_state z.code t₂ s₂) → IsRest rows (state_of rows z.code t₂ s₂) c Σ τ
-taken_rest (as_task w) h k v d = record { state = _; writes = as_task (record { typed = k; stored = v; written = refl }); still = d }
-taken_rest (as_failed {s} f o e) h k v d = absurd (fail_refuses h)
+use Rattle.call_definitions.proofs.Outcomes.{Outcome, kept, other, spent, went, by_handling}
 
 module _ {rows ws : List ℤ} {c : Code} {Σ : List Ty} {τ : Ty} (a : AcceptedFlow rows c Σ τ) (r : IsRest rows ws c Σ τ) (event : List ℕ) where
   abbrev k : Code
@@ -57,42 +45,11 @@ module _ {rows ws : List ℤ} {c : Code} {Σ : List Ty} {τ : Ty} (a : AcceptedF
   unfolding handle_call handle_in
   rest_handle = ap (handle_in rows ws (event_of event)) (opens a r.writes r.still)
 
-  -- what a readable event comes to: no rule and the same words; or a step that passes a row of kind 50 of another role, or a spent one, and
-  -- the same words; or what the rules derive, at rest
-  pub data Outcome (role : ℕ) (p : Path) (x : Action) : CallAnswer → Type 0 where
-    kept : RefusesIn r.state p x → Outcome role p x (refusal not_handled ws)
-    other : {gs : List Gate} → PassesIn r.state p x gs → of_role role gs ≡ false → Outcome role p x (refusal other_role ws)
-    spent : {gs : List Gate} → PassesIn r.state p x gs → of_role role gs ≡ true → touches_left gs ≡ false → Outcome role p x (refusal no_touch ws)
-    went : {t₁ t₂ : TaskOf k} {s₁ s₂ : Store} {gs : List Gate} {n : ℕ}
-        → Handles k [] s t p x t₁ s₁ gs → admits (is role) gs ≡ true → Normalises k [] s₁ t₁ t₂ s₂ n → IsRest rows (state_of rows k t₂ s₂) c Σ τ
-        → Outcome role p x (record { number = 0; strides = n; state = state_of rows k t₂ s₂ })
-
-  -- by the verdict on the rows of kind 50 that a step passes
-  by_verdict : {role : ℕ} {p : Path} {x : Action} (q : Taken (TaskOf k)) → GoodHandling Σ [] τ k [] s t p x q → Outcome role p x (handled rows ws k role (some q))
-  unfolding handled settled verdict
-  by_verdict {role} {p} {x} q g = by (of_role role q.2) refl (touches_left q.2) refl
-    where
-      by : (b : Bool) → of_role role q.2 ≡ b → (d : Bool) → touches_left q.2 ≡ d
-          → let v = cond b (cond d 0 no_touch) other_role in
-          Outcome role p x (cond (eqb v 0) (settled rows k q.0 q.1) (refusal v ws))
-      by true e true f =
-          let n = normalise_sound k [] q.1 q.0 g.task v_nil g.store in
-          let w : admits (is role) q.2 ≡ true = admits_role role q.2 ∙ rw (e, f) refl in
-          went g.derived w n.derived (taken_rest r.writes g.derived n.task n.store (normal_rest n.derived))
-      by true e false f = spent (q.0, q.1, g.derived) e f
-      by false e d f = other (q.0, q.1, g.derived) e
-
-  by_handling : (role : ℕ) (p : Path) (x : Action) (o : Option (Taken (TaskOf k))) → compute.handle k [] s t p x ≡ o → All (GoodHandling Σ [] τ k [] s t p x) o
-      → Outcome role p x (handled rows ws k role o)
-  unfolding handled
-  by_handling role p x none h all_none = kept (refuses anyone k s t p x h)
-  by_handling role p x (some q) h (all_some g) = by_verdict q g
-
-  pub outcome : {role : ℕ} {p : Path} {x : Action} → event_of event ≡ some (role, p, x) → Outcome role p x (handle_call rows ws event)
+  pub outcome : {role : ℕ} {p : Path} {x : Action} → event_of event ≡ some (role, p, x) → Outcome a r event role p x (handle_call rows ws event)
   unfolding handle_read
   outcome {role} {p} {x} e =
       let (d, h) = state_typed a r.writes in
-      subst (Outcome role p x) (sym (rest_handle ∙ ap (handle_read rows ws r.state) e)) (by_handling role p x _ refl (handles_sound k [] s t p x d v_nil h))
+      subst (Outcome a r event role p x) (sym (rest_handle ∙ ap (handle_read rows ws r.state) e)) (by_handling a r event role p x _ refl (handles_sound k [] s t p x d v_nil h))
 
   pub answer_8 : event_of event ≡ none → handle_call rows ws event ≡ refusal event_not_read ws
   unfolding handle_read
@@ -102,7 +59,7 @@ module _ {rows ws : List ℤ} {c : Code} {Σ : List Ty} {τ : Ty} (a : AcceptedF
   pub rest_handled : HandleAnswers rows ws event (handle_call rows ws event)
   rest_handled = by (event_of event) refl
     where
-      by_outcome : {role : ℕ} {p : Path} {x : Action} {z : CallAnswer} → event_of event ≡ some (role, p, x) → Outcome role p x z → HandleAnswers rows ws event z
+      by_outcome : {role : ℕ} {p : Path} {x : Action} {z : CallAnswer} → event_of event ≡ some (role, p, x) → Outcome a r event role p x z → HandleAnswers rows ws event z
       by_outcome e (kept n) = handle_9 a r e n
       by_outcome e (other h n) = handle_30 a r e h n
       by_outcome e (spent h m n) = handle_31 a r e h m n
@@ -116,7 +73,7 @@ module _ {rows ws : List ℤ} {c : Code} {Σ : List Ty} {τ : Ty} (a : AcceptedF
   pub answer_9 : {role : ℕ} {p : Path} {x : Action} → event_of event ≡ some (role, p, x) → RefusesIn r.state p x → handle_call rows ws event ≡ refusal not_handled ws
   answer_9 {role} {p} {x} e n = by (outcome e)
     where
-      by : {z : CallAnswer} → Outcome role p x z → z ≡ refusal not_handled ws
+      by : {z : CallAnswer} → Outcome a r event role p x z → z ≡ refusal not_handled ws
       by (kept m) = refl
       by (other {gs} (t₁, s₁, h) m) = absurd (n t₁ s₁ gs h (admits_anyone gs))
       by (spent {gs} (t₁, s₁, h) m l) = absurd (n t₁ s₁ gs h (admits_anyone gs))

@@ -4,8 +4,11 @@ pub mod Flows
 pub mod Bits
 pub mod Opening
 pub mod Grounds
+pub mod Begun
 pub mod StartAnswered
+pub mod Looking
 pub mod LookAnswered
+pub mod Outcomes
 pub mod HandleAnswered
 -- What stands at a rest, and after every list of calls.
 pub mod Standing

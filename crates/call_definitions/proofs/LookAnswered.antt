@@ -1,14 +1,14 @@
 -- Look by the rules alone: for every rows memory and state memory of words, every role, value memory and list memory, the relation derives
--- what look answers and leaves, and nothing else. Rests on Grounds.
-use mathlib.Core.Path.{◌≡◌, refl, sym, ap, subst, ◌∙◌}
-use mathlib.Core.Bool.{Bool, true, false}
-use mathlib.Core.List.{List, [], ◌++◌}
-use Prim.Native.Nat.{ℕ, ◌*◌, ◌<◌, ◌≤◌}
-use borrow.Author.Tests.{le-leb, lt-leb, leb-true, leb-false, eqb-true, eqb-false, eq-eqb}
+-- what look answers and leaves, and nothing else. Rests on Grounds and Looking.
+use mathlib.Core.Path.{◌≡◌, refl, sym, ap, subst}
+use mathlib.Core.Bool.{Bool}
+use mathlib.Core.List.{List, []}
+use Prim.Native.Nat.{ℕ, ◌*◌}
+use borrow.Author.Tests.{leb-true, leb-false, eqb-true, eqb-false}
 use borrow.Table.Steps.{cases}
 use lib.Dec.{leb, eqb}
 use lib.IntN.{ℤ}
-use lib.ListN.{length, drop}
+use lib.ListN.{length}
 use Rattle.word.specs.Word.{AllWords}
 use Rattle.word.specs.Decides.{Decides}
 use Rattle.tophat.specs.Syntax.{max_leaves, Ty, Code}
@@ -17,30 +17,17 @@ use Rattle.tophat.specs.Showing.{Entry}
 use Rattle.tophat.proofs.ComputeNormalising.{failing}
 use Rattle.tophat.proofs.ComputeEntries.{entries}
 use Rattle.tophat.proofs.NormalisingSound.{fails_sound}
-use Rattle.tophat.proofs.NormalisingComplete.{fails_is}
-use Rattle.tophat.proofs.EntriesAgree.{shows_is, shows_sound}
-use Rattle.tophat.specs.Roles.{IsRole, is}
+use Rattle.tophat.proofs.EntriesAgree.{shows_sound}
+use Rattle.tophat.specs.Roles.{is}
 use Rattle.formats.specs.Touches.{entry_bytes}
-use Rattle.formats.specs.Lists.{list_text}
-use Rattle.formats.proofs.Roles.{is_role_lem, not_role, by_role}
-use Rattle.rows.specs.GroundNumbers.{event_not_read, list_too_short}
-use Rattle.call_definitions.specs.Memory.{LookAnswer, look_refusal, flag, value_memory, has_one}
-use Rattle.call_definitions.specs.States.{FlowState, value_in, FailsIn, ShowsIn}
+use Rattle.formats.proofs.Roles.{by_role}
+use Rattle.call_definitions.specs.Memory.{LookAnswer}
+use Rattle.call_definitions.specs.States.{FlowState, FailsIn, ShowsIn}
 use Rattle.call_definitions.specs.Answers.{AcceptedFlow, IsRest, LookAnswers, look_shut, look_8, look_24, look_0}
-use Rattle.call_definitions.specs.Calls.{Opened, refused_by, rest_of, opened, look_rest, look_in, look_call}
-use Rattle.call_definitions.proofs.Opening.{opens, state_typed}
+use Rattle.call_definitions.specs.Calls.{Opened, refused_by, rest_of, opened, look_in, look_call}
+use Rattle.call_definitions.proofs.Opening.{state_typed}
 use Rattle.call_definitions.proofs.Grounds.{Opens, open_shut, open_rest, opened_derived, shut_only}
-
--- what a look with room answers
-abbrev pub looking : FlowState → List Entry → Bool → List ℕ → LookAnswer
-looking z es x list = record {
-  number = 0;
-  has_value = has_one (value_in z);
-  fails = flag x;
-  value = value_memory (value_in z);
-  part = list_text es;
-  list = list_text es ++ drop (length (list_text es)) list;
-}
+use Rattle.call_definitions.proofs.Looking.{rest_look, answer_8, answer_24, answer_0}
 
 module _ {rows ws : List ℤ} {c : Code} {Σ : List Ty} {τ : Ty} (a : AcceptedFlow rows c Σ τ) (r : IsRest rows ws c Σ τ) (role : ℕ) (values : List ℤ) (list : List ℕ) (l : length values ≡ max_leaves) where
   abbrev z : FlowState
@@ -57,37 +44,12 @@ module _ {rows ws : List ℤ} {c : Code} {Σ : List Ty} {τ : Ty} (a : AcceptedF
 
   -- ---- at a rest, with value memory of its size
 
-  rest_look : look_call rows ws role values list ≡ look_in role values list (rest_of z)
-  unfolding look_call
-  rest_look = ap (λ b. look_in role values list (opened rows ws b)) (eq-eqb (length values) max_leaves l) ∙ ap (look_in role values list) (opens a r.writes r.still)
-
-  pub answer_8 : (IsRole role → ⊥) → look_call rows ws role values list ≡ look_refusal event_not_read values list
-  unfolding look_in
-  answer_8 n = let b = not_role role n in rest_look ∙ rw b refl
-
-  module _ (i : IsRole role) {xs : List Entry} (d : ShowsIn (is role) z xs) where
-    role_look : look_call rows ws role values list ≡ look_rest role values list z
-    unfolding look_in
-    role_look = let b = is_role_lem role i in rest_look ∙ rw b refl
-
-    pub answer_24 : length list < length xs * entry_bytes → look_call rows ws role values list ≡ look_refusal list_too_short values list
-    unfolding look_rest
-    answer_24 m =
-        let b : leb (length es * entry_bytes) (length list) ≡ false = ap (λ es. leb (length es * entry_bytes) (length list)) (shows_is d) ∙ lt-leb _ _ m in
-        role_look ∙ rw b refl
-
-    pub answer_0 : {x : Bool} → length xs * entry_bytes ≤ length list → FailsIn z x → look_call rows ws role values list ≡ looking z xs x list
-    unfolding look_rest
-    answer_0 m f =
-        let b : leb (length es * entry_bytes) (length list) ≡ true = ap (λ es. leb (length es * entry_bytes) (length list)) (shows_is d) ∙ le-leb _ _ m in
-        role_look ∙ rw b (λ j. looking z (shows_is d j) (fails_is f j) list)
-
   pub rest_looked : LookAnswers rows ws role values list (look_call rows ws role values list)
   rest_looked = by_role role
       (λ i. cases (leb (length es * entry_bytes) (length list))
-      (λ y. let m = leb-true _ _ y in subst (LookAnswers rows ws role values list) (sym (answer_0 i shows m fails)) (look_0 a r l i shows m fails))
-      (λ n. let m = leb-false _ _ n in subst (LookAnswers rows ws role values list) (sym (answer_24 i shows m)) (look_24 a r l i shows m)))
-      (λ n. subst (LookAnswers rows ws role values list) (sym (answer_8 n)) (look_8 a r l n))
+      (λ y. let m = leb-true _ _ y in subst (LookAnswers rows ws role values list) (sym (answer_0 a r role values list l i shows m fails)) (look_0 a r l i shows m fails))
+      (λ n. let m = leb-false _ _ n in subst (LookAnswers rows ws role values list) (sym (answer_24 a r role values list l i shows m)) (look_24 a r l i shows m)))
+      (λ n. subst (LookAnswers rows ws role values list) (sym (answer_8 a r role values list l n)) (look_8 a r l n))
 
 -- ---- every memory
 

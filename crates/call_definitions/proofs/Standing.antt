@@ -43,8 +43,10 @@ use Rattle.call_definitions.specs.Calls.{opened, look_in, look_call, handle_call
 use Rattle.call_definitions.specs.Touches.{Call, look, handle, after, Bounded, Refusing, Stands}
 use Rattle.call_definitions.proofs.Opening.{state_typed, state_moves, state_marks, state_once}
 use Rattle.call_definitions.proofs.Grounds.{opened_misfit}
-use Rattle.call_definitions.proofs.LookAnswered.{looking, answer_24, answer_0, rest_looked, answer_8 as look_8}
-use Rattle.call_definitions.proofs.HandleAnswered.{Outcome, kept, other, spent, went, outcome, answer_8, rest_handled}
+use Rattle.call_definitions.proofs.Looking.{looking, answer_24, answer_0, answer_8 as look_8}
+use Rattle.call_definitions.proofs.LookAnswered.{rest_looked}
+use Rattle.call_definitions.proofs.Outcomes.{Outcome, kept, other, spent, went}
+use Rattle.call_definitions.proofs.HandleAnswered.{outcome, answer_8, rest_handled}
 
 -- whom the rows passed admit, they have the role and a touch left for
 all_of : (role : ℕ) (gs : List Gate) → admits (is role) gs ≡ true → (of_role role gs ≡ true) × (touches_left gs ≡ true)

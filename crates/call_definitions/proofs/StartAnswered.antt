@@ -1,11 +1,11 @@
 -- Start by the rules alone: for every rows memory of words and every state memory the relation derives what start answers and leaves, and
--- nothing else. Start of an accepted flow leaves one and the same rest in every memory of its size. Rests on Flows and Opening.
+-- nothing else. Start of an accepted flow leaves one and the same rest in every memory of its size. Rests on Flows, Opening and Begun.
 use mathlib.Core.Path.{◌≡◌, refl, sym, ap, subst, ◌∙◌}
-use mathlib.Core.Bool.{true, false, cond}
+use mathlib.Core.Bool.{true, false}
 use mathlib.Core.List.{List, []}
 use Prim.Native.Nat.{ℕ, ◌*◌}
 use native.Mathlib.Omega.{arith}
-use borrow.Author.Tests.{eq-eqb, ne_eqb, eqb-true, eqb-false}
+use borrow.Author.Tests.{ne_eqb, eqb-true, eqb-false}
 use borrow.Table.Steps.{cases}
 use lib.Dec.{eqb}
 use lib.IntN.{ℤ, pos}
@@ -13,26 +13,26 @@ use lib.ListN.{length, replicate, length-replicate}
 use Rattle.word.specs.Word.{AllWords}
 use Rattle.tophat.specs.Syntax.{Ty, Code, TaskOf, Store}
 use Rattle.tophat.specs.Typing.{v_nil}
-use Rattle.tophat.specs.Normalising.{s_fail, Normalises, n_done}
-use Rattle.tophat.proofs.ComputeEvaluation.{evaluate, overflows_task}
+use Rattle.tophat.specs.Normalising.{s_fail, n_done}
 use Rattle.tophat.proofs.ComputeNormalising.{normalise, settle}
-use Rattle.tophat.proofs.TaskEvaluationAgrees.{GoodTask, evaluate_good, evaluate_is, overflows_task_is}
+use Rattle.tophat.proofs.TaskEvaluationAgrees.{evaluate_is, overflows_task_is}
 use Rattle.tophat.proofs.NormalisingSound.{normalise_sound}
 use Rattle.tophat.proofs.NormalisingComplete.{normalises_is}
 use Rattle.tophat.proofs.Bound.{normalises_bound, normal_rest}
 use Rattle.rows.specs.GroundNumbers.{not_accepted, wrong_memory}
 use Rattle.rows.specs.Lent.{row_count}
 use Rattle.rows.proofs.Basics.{no}
-use Rattle.rows.proofs.TreesAgree.{cells_are}
 use Rattle.sheet.specs.Accepted.{accepts_rows}
 use Rattle.state.specs.Layout.{state_words}
-use Rattle.call_definitions.specs.Memory.{state_of, failed_of, CallAnswer, refusal}
+use Rattle.call_definitions.specs.Memory.{state_of, CallAnswer, refusal}
 use Rattle.call_definitions.specs.States.{failed_state}
 use Rattle.call_definitions.specs.Answers.{AcceptedFlow, HasRoom, as_task, as_failed, IsRest, StartAnswers, start_20, start_21, start_0, start_failed}
-use Rattle.call_definitions.specs.Calls.{start_with, start_call}
+use Rattle.call_definitions.specs.Calls.{start_call}
 use Rattle.call_definitions.specs.Touches.{Started, Bounded}
 use Rattle.call_definitions.proofs.Flows.{loads_accepts, accepts_loads, accepts_not, flow_of}
-use Rattle.call_definitions.proofs.Opening.{accepts, moving, code_found, first_typed}
+use Rattle.call_definitions.proofs.Opening.{moving}
+pub use Rattle.call_definitions.proofs.Begun.{begun, start_is, by_start}
+use Rattle.call_definitions.proofs.Begun.{evaluated, evaluated_good, normal, begun_derived}
 
 pub start_20_is : (rows memory : List ℤ) → accepts_rows rows ≡ false → start_call rows memory ≡ refusal not_accepted memory
 unfolding start_call
@@ -45,68 +45,32 @@ start_21_is rows memory h n = rw (h, ne_eqb (length memory) (row_count rows * st
 -- ---- an accepted flow
 
 module _ {rows : List ℤ} {c : Code} {Σ : List Ty} {τ : Ty} (a : AcceptedFlow rows c Σ τ) where
-  -- what start answers, whatever the memory: the last row settled, or failed as a whole (CR 3)
-  abbrev answer_from : Store → CallAnswer
-  answer_from s₀ =
-      let (t, s, n) = settle c [] s₀ in
-      cond (overflows_task c [] s₀) (record { number = 0; strides = 1; state = failed_of rows s₀ }) (record { number = 0; strides = n; state = state_of rows c t s })
-
-  abbrev pub begun : CallAnswer
-  begun = answer_from a.first
-
-  pub start_is : (memory : List ℤ) → HasRoom rows memory → start_call rows memory ≡ begun
-  unfolding start_call start_with
-  start_is memory l =
-      let p = accepts a in
-      let q = eq-eqb (length memory) (row_count rows * state_words) l in
-      let r = code_found a in
-      let e = (cells_are a.flow.cells).1 in
-      rw (p, q, r) (ap answer_from (sym e))
-
-  abbrev evaluated : TaskOf c × Store
-  evaluated = evaluate c [] a.first
-
-  evaluated_good : GoodTask Σ [] c [] a.first τ evaluated (overflows_task c [] a.first)
-  evaluated_good = evaluate_good a.flow.typed [] a.first v_nil (first_typed a)
-
-  normal : Normalises c [] evaluated.1 evaluated.0 (settle c [] a.first).0 (settle c [] a.first).1 (settle c [] a.first).2
+  begun_rest : IsRest rows (begun a).state c Σ τ
   unfolding settle
-  normal = let g = evaluated_good in (normalise_sound c [] evaluated.1 evaluated.0 g.task v_nil g.store).derived
-
-  -- by whether the last row leaves the words
-  pub by_start : (P : CallAnswer → Type 0) → (overflows_task c [] a.first ≡ true → P (record { number = 0; strides = 1; state = failed_of rows a.first }))
-      → (overflows_task c [] a.first ≡ false → let (t, s, n) = settle c [] a.first in P (record { number = 0; strides = n; state = state_of rows c t s })) → P begun
-  by_start P f g = cases (overflows_task c [] a.first) (λ o. rw o (f o)) (λ o. rw o (g o))
-
-  begun_derived : (memory : List ℤ) → HasRoom rows memory → StartAnswers rows memory begun
-  begun_derived memory l = by_start (StartAnswers rows memory) (λ o. start_failed a l (evaluated_good.over o)) (λ o. start_0 a l (evaluated_good.derived o) normal)
-
-  begun_rest : IsRest rows begun.state c Σ τ
-  unfolding settle
-  begun_rest = by_start (λ r. IsRest rows r.state c Σ τ)
-      (λ o. record { state = failed_state τ a.first; writes = as_failed a.flow (evaluated_good.over o) refl; still = n_done s_fail })
+  begun_rest = by_start a (λ r. IsRest rows r.state c Σ τ)
+      (λ o. record { state = failed_state τ a.first; writes = as_failed a.flow ((evaluated_good a).over o) refl; still = n_done s_fail })
       (λ o.
-      let g = evaluated_good in
-      let k = normalise_sound c [] evaluated.1 evaluated.0 g.task v_nil g.store in
+      let g = evaluated_good a in
+      let k = normalise_sound c [] (evaluated a).1 (evaluated a).0 g.task v_nil g.store in
       record { state = _; writes = as_task (record { typed = k.task; stored = k.store; written = refl }); still = normal_rest k.derived })
 
   -- it counts at most 1 more than the rows of kind 43 and 47
   pub start_bounded : (memory : List ℤ) → HasRoom rows memory → Bounded rows (start_call rows memory).strides
   start_bounded memory l =
       let m = moving a in
-      let b = normalises_bound normal in
-      subst (λ r. Bounded rows r.strides) (sym (start_is memory l)) (by_start (λ r. Bounded rows r.strides) (λ o. omega arith) (λ o. omega (arith, m, b)))
+      let b = normalises_bound (normal a) in
+      subst (λ r. Bounded rows r.strides) (sym (start_is a memory l)) (by_start a (λ r. Bounded rows r.strides) (λ o. omega arith) (λ o. omega (arith, m, b)))
 
   -- it leaves the same words whatever the memory holds
   pub start_state : (ws : List ℤ) × Started rows ws
-  start_state = (begun.state, (λ memory l. (ap (λ r. r.number) (start_is memory l) ∙ by_start (λ r. r.number ≡ 0) (λ o. refl) (λ o. refl), ap (λ r. r.state) (start_is memory l))))
+  start_state = ((begun a).state, (λ memory l. (ap (λ r. r.number) (start_is a memory l) ∙ by_start a (λ r. r.number ≡ 0) (λ o. refl) (λ o. refl), ap (λ r. r.state) (start_is a memory l))))
 
   -- and they are a rest
   pub started_is_rest : {ws : List ℤ} → Started rows ws → IsRest rows ws c Σ τ
   started_is_rest h =
       let memory = replicate (row_count rows * state_words) (pos 0) in
       let l = length-replicate {A = ℤ} (row_count rows * state_words) (pos 0) in
-      subst (λ ws. IsRest rows ws c Σ τ) (sym (ap (λ r. r.state) (start_is memory l)) ∙ (h memory l).1) begun_rest
+      subst (λ ws. IsRest rows ws c Σ τ) (sym (ap (λ r. r.state) (start_is a memory l)) ∙ (h memory l).1) begun_rest
 
 -- ---- every memory
 
