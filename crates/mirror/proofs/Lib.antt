@@ -11,6 +11,7 @@ pub mod MirroredFlow
 -- the calls on both sheets
 pub mod MirroredOpening
 pub mod MirroredCalls
+pub mod MirroredValues
 pub mod MirroredLooks
 pub mod Mirror
 -- three choices regrouped
