@@ -1,8 +1,6 @@
 -- `handle::going_on` meets its contract, a way by its law. Assumes nothing.
-use Rattle.std.proofs.lemmas.Bool.{not_from_false, not_from_true}
 use mathlib.Core.Path.{sym, subst}
 use borrow.Author.Rules.{rules}
-use borrow.Author.Tests.{not-true, not-false}
 use Rattle.handle.specs.Taking.{GoingOk}
 use Rattle.handle.proofs.Passing.{going_none, going_value}
 use Rattle.handle.proofs.going_on.Statement.{statement}
@@ -14,8 +12,8 @@ going_on_spec = tie.close (tie.spec
     (λ c κs. search rules)
     (λ c.
     subst (GoingOk c.args.rows.now c.args.state.now c.args.row c.args.e) (sym c.none.ensures)
-    (going_none c.args.rows.now c.args.state.now c.args.row c.args.e (c.ends.ensures.no (not-true _ (not_from_false _ c.if-not-ends.true)))))
+    (going_none c.args.rows.now c.args.state.now c.args.row c.args.e (c.ends.ensures.no c.if-not-ends.true)))
     (λ c κs. c.requires)
     (λ c.
     going_value c.args.rows.now c.args.state.now c.args.row c.args.e c.value.result
-    (c.ends.ensures.yes (not-false _ (not_from_true _ c.if-not-ends.false))) c.value.ensures))
+    (c.ends.ensures.yes c.if-not-ends.false) c.value.ensures))

@@ -1,5 +1,4 @@
 -- `value::fits` meets its contract, a return by the law of its way. Assumes nothing.
-use Rattle.std.proofs.lemmas.Bool.{not_from_false, not_from_true}
 use mathlib.Core.Path.{◌≡◌, sym, ◌∙◌}
 use mathlib.Core.Bool.{true, false≢true}
 use Prim.Native.Nat.{ℕ, ◌-◌, ◌≤◌, ◌<◌}
@@ -7,7 +6,6 @@ use native.Mathlib.Omega.{arith}
 use lib.ListN.{length, get_or}
 use borrow.Author.Count.{below_more}
 use borrow.Author.Rules.{rules}
-use borrow.Author.Tests.{not-true, not-false}
 use Rattle.word.specs.Word.{words}
 use Rattle.word.proofs.Lists.{bits_below}
 use Rattle.tophat.specs.Syntax.{max_leaves}
@@ -33,11 +31,11 @@ fits_spec = tie.close (tie.spec
     (λ c.
     let a = c.args in (
       fits_unmet a.v a.shape c.leaf_kinds-kinds.result c.leaf_kinds-kinds.ensures c.if-v-shape.false (search rules) (search rules) c.if-kinds-eq-NO_LEAF.false c.loop-i.i c.loop-i-test.true
-          (sym c.meets.ensures.0 ∙ not-true _ (not_from_false _ c.if-not-meets.true)),
+          (sym c.meets.ensures.0 ∙ c.if-not-meets.true),
       λ z. absurd (false≢true z),
     ))
     (λ c. search rules) (λ c. search rules)
-    (λ c. (omega arith, below_more _ _ c.loop-i.invariant.1 (sym c.meets.ensures.0 ∙ not-false _ (not_from_true _ c.if-not-meets.false)), below_more _ _ c.loop-i.invariant.2 c.meets.ensures.1))
+    (λ c. (omega arith, below_more _ _ c.loop-i.invariant.1 (sym c.meets.ensures.0 ∙ c.if-not-meets.false), below_more _ _ c.loop-i.invariant.2 c.meets.ensures.1))
     (λ c.
     let a = c.args in
     let e : length a.v.leaves ≡ max_leaves = search rules in (

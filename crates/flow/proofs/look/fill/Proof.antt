@@ -1,8 +1,6 @@
 -- `fill` meets its contract, each way out by its law. Assumes nothing.
-use Rattle.std.proofs.lemmas.Bool.{not_from_false, not_from_true}
 use mathlib.Core.Path.{sym, ◌∙◌}
 use borrow.Author.Rules.{rules}
-use borrow.Author.Tests.{not-true, not-false}
 use Rattle.flow.proofs.LookLaws.{fill_fine, fill_shut, fill_8, fill_failed, fill_ready}
 use Rattle.flow.proofs.look.fill.Statement.{statement}
 use Rattle.flow.proofs.look.fill.Tie as tie
@@ -17,14 +15,14 @@ returns_2 : tie.Need-returns-then-not-is_role
 returns_2 c =
     let o = c.open-rest in
     fill_8 c.args.rows.now c.args.state.now c.args.role c.args.value.now c.args.list.now o.new.own
-    o.new.words o.result o.ensures c.if-rest-ne0.false (sym c.is_role.ensures ∙ not-true _ (not_from_false _ c.if-not-is_role.true))
+    o.new.words o.result o.ensures c.if-rest-ne0.false (sym c.is_role.ensures ∙ c.if-not-is_role.true)
 
 returns_3 : tie.Need-returns-then-rest
 returns_3 c =
     let o = c.open-rest in
     let h = c.show_failed in
     fill_failed c.args.rows.now c.args.state.now c.args.role c.args.value.now c.args.list.now o.new.own
-    o.new.words o.result o.ensures c.if-rest-ne0.false (sym c.is_role.ensures ∙ not-false _ (not_from_true _ c.if-not-is_role.false)) c.if-rest.true h.result h.new.value h.ensures
+    o.new.words o.result o.ensures c.if-rest-ne0.false (sym c.is_role.ensures ∙ c.if-not-is_role.false) c.if-rest.true h.result h.new.value h.ensures
 
 show_requires : tie.Need-show-requires
 show_requires c κs =
@@ -37,7 +35,7 @@ returns_4 c =
     let o = c.open-rest in
     let h = c.show in
     fill_ready c.args.rows.now c.args.state.now c.args.role c.args.value.now c.args.list.now o.new.own
-    o.new.words o.result o.ensures c.if-rest-ne0.false (sym c.is_role.ensures ∙ not-false _ (not_from_true _ c.if-not-is_role.false)) c.if-rest.false h.result h.new.value h.new.list h.ensures
+    o.new.words o.result o.ensures c.if-rest-ne0.false (sym c.is_role.ensures ∙ c.if-not-is_role.false) c.if-rest.false h.result h.new.value h.new.list h.ensures
 
 pub fill_spec : {M : Type 1} → statement M
 fill_spec = tie.close (tie.spec (λ c κs. search rules) returns (λ c κs. search rules) returns_2 (λ c κs. search rules) (λ c. search rules) returns_3 show_requires (λ c. search rules) (λ c. search rules) returns_4)

@@ -1,7 +1,5 @@
 -- `show` meets its contract, each way out by its law. Assumes nothing.
-use Rattle.std.proofs.lemmas.Bool.{not_from_false, not_from_true}
 use borrow.Author.Rules.{rules}
-use borrow.Author.Tests.{not-true, not-false}
 use Rattle.entries.proofs.Bounds.{at_start}
 use Rattle.flow.proofs.LookLaws.{show_24, show_0}
 use Rattle.flow.proofs.look.show.Statement.{statement}
@@ -10,13 +8,13 @@ use Rattle.flow.proofs.look.show.Tie as tie
 returns : tie.Need-returns-then-not-has_room
 returns c =
     let a = c.args in
-    show_24 a.role a.own.now a.words.now a.n a.value.now a.list.now c.has_room.result c.has_room.ensures (not-true _ (not_from_false _ c.if-not-has_room.true))
+    show_24 a.role a.own.now a.words.now a.n a.value.now a.list.now c.has_room.result c.has_room.ensures c.if-not-has_room.true
 
 returns_2 : tie.Need-returns
 returns_2 c =
     let a = c.args in
     let v = c.value-found in
-    show_0 a.role a.own.now a.words.now a.n a.value.now a.list.now c.has_room.result c.has_room.ensures (not-false _ (not_from_true _ c.if-not-has_room.false)) c.entries-bytes.ensures.1
+    show_0 a.role a.own.now a.words.now a.n a.value.now a.list.now c.has_room.result c.has_room.ensures c.if-not-has_room.false c.entries-bytes.ensures.1
     v.result v.ensures c.value_out.ensures.1 c.fails.ensures c.flag-failed.ensures c.flag-has_value.ensures c.value_out.ensures.0
 
 pub show_spec : {M : Type 1} → statement M

@@ -1,7 +1,6 @@
 -- `open` meets its contract, each way out by its law. Assumes nothing.
 use Rattle.std.proofs.lemmas.Bool.{not_from_false, not_from_true}
 use mathlib.Core.Path.{refl, sym, subst}
-use borrow.Author.Tests.{not-true}
 use borrow.Author.Rules.{rules}
 use native.Mathlib.Omega.{arith}
 use Rattle.flow.specs.Opens.{OpenOk}
@@ -18,11 +17,8 @@ returns c =
 
 mul_if2 : tie.Need-overflow_mul-n
 mul_if2 c =
-    let if1 = c in
-    let rows = if1.before in
-    let start = rows.before.before in
-    let q = rows.accepted_rows-n in
-    let z = (site_of start.args.rows.now q.result q.ensures.0 q.ensures.1.0 q.ensures.1.1.0 if1.if-n-eq0.false).3 in
+    let q = c.accepted_rows-n in
+    let z = (site_of c.args.rows.now q.result q.ensures.0 q.ensures.1.0 q.ensures.1.1.0 c.if-n-eq0.false).3 in
     let f = few_rows z in
     record { fits = omega (arith, f) }
 
@@ -66,7 +62,7 @@ is_failed_requires c κs =
       (
         ends c.args.rows.now c.args.state.now q.new.own w.new.own c.args.fits q.result z wr
             (not_from_true _ c.if-not-fits.false) c.if-state-n.false w.ensures.1 w.ensures.0,
-        c.held.ensures.1 (not-true c.held.result (not_from_false _ c.if-not-held.true)),
+        c.held.ensures.1 c.if-not-held.true,
       ),
     )
 

@@ -1,10 +1,8 @@
 -- `named::named`: the counts from an empty table, the test of each row, and the last row's kind.
-use Rattle.std.proofs.lemmas.Bool.{not_from_false, not_from_true}
 use mathlib.Core.Path.{ap, sym, ◌∙◌}
 use mathlib.Core.Bool.{◌&&◌}
 use Prim.Native.Nat.{◌-◌}
 use borrow.Author.Rules.{rules}
-use borrow.Author.Tests.{not-true, not-false}
 use Rattle.rows.specs.Rows.{namings, last_fits}
 use Rattle.grounds.proofs.Ground5.{more_zero, last_is}
 use Rattle.grounds.proofs.named.named.Statement.{statement}
@@ -17,11 +15,11 @@ named_spec = tie.close (tie.spec
     (c.requires.1, more_zero c.name_rows.new.table (λ i. namings c.args.rows.now i c.args.n) c.name_rows.ensures))
     (λ c.
     ap (λ b. b && last_fits c.args.rows.now (c.args.n - 1))
-    (sym (not-true c.all_named.result (not_from_false _ c.if-not-all_named.true)) ∙ c.all_named.ensures))
+    (sym c.if-not-all_named.true ∙ c.all_named.ensures))
     (λ c. search rules)
     (λ c κs. search rules)
     (λ c κs. search rules)
     (λ c.
     last_is c.args.rows.now (c.args.n - 1) c.get.result c.get.ensures c.last_fits.result c.last_fits.ensures ∙
     ap (λ b. b && last_fits c.args.rows.now (c.args.n - 1))
-    (sym (not-false c.all_named.result (not_from_true _ c.if-not-all_named.false)) ∙ c.all_named.ensures)))
+    (sym c.if-not-all_named.false ∙ c.all_named.ensures)))

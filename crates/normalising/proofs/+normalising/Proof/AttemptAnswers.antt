@@ -1,4 +1,4 @@
--- What the walk of `attempt` leaves to prove, an arm by the law of its form. Rests on Cycle.
+-- The goals of `attempt`, an arm by the law of its form. Rests on Cycle.
 use mathlib.Core.Path.{refl}
 use mathlib.Core.Bool.{false}
 use native.Mathlib.Omega.{arith}

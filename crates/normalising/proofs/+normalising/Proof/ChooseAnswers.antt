@@ -1,4 +1,4 @@
--- What the walk of `choose` leaves to prove, an arm by the law of its form. Rests on Cycle.
+-- The goals of `choose`, an arm by the law of its form. Rests on Cycle.
 use mathlib.Core.Path.{sym}
 use native.Mathlib.Omega.{arith}
 use Rattle.normalising.proofs.Calling.{call_a, call_b, fine_a, fine_b, hands_or_left, hands_or_right}

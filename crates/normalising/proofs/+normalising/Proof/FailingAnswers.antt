@@ -1,4 +1,4 @@
--- What the walk of `failing` leaves to prove, an arm by the law of its form. Rests on Cycle.
+-- The goals of `failing`, an arm by the law of its form. Rests on Cycle.
 use mathlib.Core.Path.{sym, ◌∙◌}
 use mathlib.Core.Logic.{inl, inr}
 use native.Mathlib.Omega.{arith}

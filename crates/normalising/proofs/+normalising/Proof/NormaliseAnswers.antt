@@ -1,4 +1,4 @@
--- What the walk of `normalise`, `settle` and `tried` leaves to prove, an arm by the law of its form. Rests on Cycle.
+-- The goals of `normalise`, `settle` and `tried`, an arm by the law of its form. Rests on Cycle.
 use Rattle.std.proofs.lemmas.Bool.{not_from_false, not_from_true}
 use native.Mathlib.Omega.{arith}
 use borrow.Author.Rules.{rules}

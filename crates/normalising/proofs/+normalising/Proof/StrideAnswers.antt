@@ -1,4 +1,4 @@
--- What the walk of `stride` leaves to prove, an arm by the law of its form. Rests on Cycle.
+-- The goals of `stride`, an arm by the law of its form. Rests on Cycle.
 use mathlib.Core.Path.{sym, ◌∙◌}
 use native.Mathlib.Omega.{arith}
 use Rattle.running.proofs.Handing.{stride_hands}
