@@ -12,11 +12,11 @@ use Rattle.tophat.specs.Syntax.{Ty, truth, number, Exp, Code, Store}
 use Rattle.rows.specs.Kinds.{Kind, type_k, unit_k, truth_k, number_k, pair_k, cell_k, plain_k, eunit_k, etruth_k, enumber_k, ebinder_k, eop_k, epair_k, efst_k, esnd_k, ederef_k, eassign_k}
 use Rattle.rows.specs.Kinds.{either_k, if_k, let_k, task_k, edit_k, enter_k, update_k, then_k, next_k, fail_k, and_k, or_k, xor_k, view_k, gate_k}
 use Rattle.rows.specs.Kinds.{Sort, type_s, basic_s, cell_s, plain_s, task_s, no_s, asks_of, number_of}
-use Rattle.rows.specs.Rows.{word, asks_at, OfKind, op_a, op_b, op_c, sort_by, sorts, sort_below, sort_number, same_sort, sorted_as, sorted, row_sorted}
+use Rattle.rows.specs.Rows.{word, OfKind, op_a, op_b, op_c, sort_by, sorts, sort_below, sort_number, same_sort, sorted_as, sorted, row_sorted}
 use Rattle.rows.specs.Trees.{ReadsType, r_unit, r_truth, r_number, r_pair, ReadsCell, r_cell, Cells, c_none, c_truth, c_number, c_other}
 use Rattle.rows.specs.Trees.{ReadsExp, r_eunit, r_etruth, r_enumber, r_ebinder, r_eop, r_eif, r_epair, r_efst, r_esnd, r_ederef, r_eassign, r_elet}
 use Rattle.rows.specs.Trees.{ReadsCode, r_edit, r_enter, r_update, r_then, r_next, r_fail, r_and, r_or, r_xor, r_view, r_gate, r_if, r_let}
-use Rattle.rows.proofs.Basics.{no, or_cases, le_or_lt, made_at, made_past}
+use Rattle.rows.proofs.Basics.{no, or_cases, le_or_lt, made_past}
 use Rattle.rows.proofs.KindNumbers.{by_kind, no_asks_lem}
 use Rattle.rows.proofs.SortsBelow.{sort_at, made, sort_below_lem}
 

@@ -1,8 +1,11 @@
 -- The number of each ground (01, "Grounds in the input" and "Grounds in the state"); in code src/ground_numbers.rt has the same names.
 -- 0 is no ground: the call is accepted. CR 6's 30 and 31, which handling says of the rows of kind 50 passed, stand in the calculus' Roles.
--- Rests on nothing.
+-- Rests on the calculus' Roles.
 -- Believed.
-use Rattle.std.specs.Prelude.{ℕ}
+use Rattle.std.specs.Prelude.{ℕ, Result, Ok, Err}
+use Rattle.tophat.specs.Roles.{other_role, no_touch}
+use Rattle.rows.specs.declared.ground.Ground.{Ground}
+use Rattle.rows.specs.declared.ground.Ground.TheVariants.{NotSized, NotRead, NotListed, NotSorted, NotNamed, NotSmall, NotTyped, EventNotRead, NotHandled, NotAccepted, WrongMemory, NotState, NotAtRest, ListTooShort, OtherRole, NoTouch}
 
 -- ---- grounds in the input
 
@@ -63,3 +66,28 @@ not_at_rest = 23
 -- list memory under 35 bytes an entry (CR 4)
 abbrev pub list_too_short : ℕ
 list_too_short = 24
+
+-- ---- the grounds in code
+
+abbrev pub number_of_ground : Ground → ℕ
+number_of_ground NotSized = not_sized
+number_of_ground NotRead = not_read
+number_of_ground NotListed = not_listed
+number_of_ground NotSorted = not_sorted
+number_of_ground NotNamed = not_named
+number_of_ground NotSmall = not_small
+number_of_ground NotTyped = not_typed
+number_of_ground EventNotRead = event_not_read
+number_of_ground NotHandled = not_handled
+number_of_ground NotAccepted = not_accepted
+number_of_ground WrongMemory = wrong_memory
+number_of_ground NotState = not_state
+number_of_ground NotAtRest = not_at_rest
+number_of_ground ListTooShort = list_too_short
+number_of_ground OtherRole = other_role
+number_of_ground NoTouch = no_touch
+
+-- the number that a call answers: 0 where it is accepted
+abbrev pub answer_number : {X : Type 0} → Result X Ground → ℕ
+answer_number (Ok x) = 0
+answer_number (Err g) = number_of_ground g

@@ -9,6 +9,7 @@ ghost use Rattle.rows.specs.Rows.{max_rows, row_words, word};
 use decimal::path::PATH_COLUMNS;
 use tophat::MAX_ROLE;
 
+pub mod ground;
 pub mod ground_numbers;
 pub mod kinds;
 
