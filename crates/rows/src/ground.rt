@@ -24,11 +24,11 @@ pub enum Ground {
     NoTouch = 31, // all of them have the role, but one has no touch left (CR 6)
 }
 
-impl Ground {
-    // Its number in 01.
-    pub fn number(self) -> u32
-        ensures { result ≡ number_of_ground self }
-    {
-        self as u32
+// Its number in 01.
+impl From<Ground> for u32 {
+    ghost from_gives = { λ g n. n ≡ number_of_ground g };
+
+    fn from(ground: Ground) -> u32 {
+        ground as u32
     }
 }
