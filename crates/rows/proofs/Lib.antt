@@ -4,6 +4,7 @@ pub mod Basics
 pub mod LentLaws
 -- the table of kinds, read both ways
 pub mod KindNumbers
+pub mod KindsRead
 pub mod Unused
 -- rows read as trees: what is read, what is computed, and that they are one
 pub mod TreesAgree

@@ -1,4 +1,5 @@
 pub mod Kinds
+pub mod KindsInCode
 pub mod GroundNumbers
 pub mod Rows
 pub mod Lent
