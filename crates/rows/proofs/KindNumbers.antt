@@ -106,7 +106,7 @@ no_asks_lem w = table_at (λ n k s. true) refl w (λ o s. o ≡ none → s ≡ n
 pub kind_past : (w : ℕ) → kind_limit ≤ w → kind_of w ≡ none
 kind_past w l = table_at (λ n k s. leb (suc n) kind_limit) refl w (λ o s. o ≡ none) refl (λ k s h. absurd (omega (arith, leb-true (suc w) kind_limit h)))
 
-abbrev unknown : Option Kind → Bool
+abbrev pub unknown : Option Kind → Bool
 unknown none = true
 unknown (some k) = false
 

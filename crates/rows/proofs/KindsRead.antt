@@ -2,13 +2,15 @@
 -- its number (`of_kind`); in the arm `_`, what holds of the number of each kind that no other arm names (`other_kind`, and `other_test`
 -- by one computed test); that a kind is, or is not, the one asked (`kind_read`, `not_read`). Rests on KindsInCode and KindNumbers.
 use mathlib.Core.Path.{◌≡◌, refl, sym, ap, subst, ◌∙◌}
-use mathlib.Core.Bool.{Bool, true, false, ◌&&◌, ◌||◌}
+use mathlib.Core.Bool.{Bool, true, false, not, ◌&&◌, ◌||◌}
+use mathlib.Core.Logic.{◌⊎◌, inl, inr}
+use mathlib.Core.Option.{none}
 use mathlib.Core.List.{List, [], ◌∷◌}
-use Prim.Native.Nat.{ℕ}
+use Prim.Native.Nat.{ℕ, ◌+◌, ◌<◌, ◌≤◌}
 use lib.Dec.{eqb}
-use borrow.Author.Tests.{eqb-true, ne_eqb}
+use borrow.Author.Tests.{eqb-true, eq-eqb, ne_eqb}
 use Rattle.std.specs.Prelude.{Option, Some, None}
-use Rattle.match_laws.proofs.Ranges.{Unless, and_left, and_right}
+use Rattle.match_laws.proofs.Ranges.{Unless, test_all, within, and_left, and_right}
 use Rattle.tophat.proofs.Basics.{no_some}
 use Rattle.rows.specs.Kinds as table
 use Rattle.rows.specs.Kinds.{type_k, unit_k, truth_k, number_k, pair_k, cell_k, plain_k, eunit_k, etruth_k, enumber_k, ebinder_k, eop_k, epair_k, efst_k, esnd_k, ederef_k, eassign_k}
@@ -16,7 +18,7 @@ use Rattle.rows.specs.Kinds.{either_k, if_k, let_k, task_k, edit_k, enter_k, upd
 use Rattle.rows.specs.KindsInCode.{in_table, IsKind}
 use Rattle.rows.specs.declared.kinds.Kind.{Kind}
 use Rattle.rows.specs.declared.kinds.Kind.TheVariants.{UnitType, TruthType, NumberType, PairType, Cell, Unit as UnitValue, Truth, Number, Binder, Operator, If, Pair, First, Second, Read, Assign, Let, Edit, Enter, Update, Then, Next, Fail, And, Or, Xor, View, Gate}
-use Rattle.rows.proofs.KindNumbers.{one_kind, number_kind}
+use Rattle.rows.proofs.KindNumbers.{one_kind, number_kind, unknown, is_unknown}
 
 -- ---- an arm that names a kind
 
@@ -93,6 +95,46 @@ number k = number_of (in_table k)
 pub same_number : (k j : Kind) → number_of (in_table k) ≡ number_of (in_table j) → k ≡ j
 same_number k j e = sym (of_table-in_table k) ∙ ap of_table (one_kind (in_table k) (in_table j) e) ∙ of_table-in_table j
 
+-- ---- no kind
+
+-- in a range of numbers that are each a kind's, by one computed test
+pub each_known : (a n : ℕ) {w : ℕ} → test_all (λ j. not (is_unknown j)) a n ≡ true → kind_of w ≡ none → a ≤ w → w < a + n → ⊥
+each_known a n {w} t e l h = by (is_unknown w) (ap unknown e) (within (λ j. not (is_unknown j)) a n [] w t l h tt)
+  where
+    by : (b : Bool) → b ≡ true → not b ≡ true → ⊥
+    by true p q = cc
+    by false p q = cc
+
+-- ---- an arm of several kinds: `A | B`
+
+abbrev pub IsOneOf : List Kind → Kind → Type 0
+IsOneOf [] k = ⊥
+IsOneOf (j ∷ []) k = k ≡ j
+IsOneOf (j ∷ i ∷ js) k = k ≡ j ⊎ IsOneOf (i ∷ js) k
+
+-- what is so of the number of each kind in js
+abbrev pub EachOf : List Kind → (ℕ → Type 0) → Type 0
+EachOf [] P = Unit {0}
+EachOf (j ∷ js) P = P (number_of (in_table j)) × EachOf js P
+
+pub of_kinds : (js : List Kind) (P : ℕ → Type 0) (k : Kind) {w : ℕ} → w ≡ number_of (in_table k) → IsOneOf js k → EachOf js P → P w
+of_kinds [] P k e o h = absurd o
+of_kinds (j ∷ []) P k e o h = subst P (sym (of_kind e o)) h.0
+of_kinds (j ∷ i ∷ js) P k e (inl o) h = subst P (sym (of_kind e o)) h.0
+of_kinds (j ∷ i ∷ js) P k e (inr o) h = of_kinds (i ∷ js) P k e o h.1
+
+-- the same for a test, by one computed test
+abbrev pub test_of : List Kind → (ℕ → Bool) → Bool
+test_of [] p = true
+test_of (j ∷ js) p = p (number_of (in_table j)) && test_of js p
+
+each_of : (js : List Kind) (p : ℕ → Bool) → test_of js p ≡ true → EachOf js (λ w. p w ≡ true)
+each_of [] p h = tt
+each_of (j ∷ js) p h = (and_left _ _ h, each_of js p (and_right _ _ h))
+
+pub of_kinds_test : (js : List Kind) (p : ℕ → Bool) (k : Kind) {w : ℕ} → w ≡ number_of (in_table k) → IsOneOf js k → test_of js p ≡ true → p w ≡ true
+of_kinds_test js p k e o h = of_kinds js (λ w. p w ≡ true) k e o (each_of js p h)
+
 -- ---- the kind asked: `kind_at(rows, row) == Some(k)`
 
 pub kind_read : {o : Option Kind} {w : ℕ} (k : Kind) → IsKind o w → w ≡ number_of (in_table k) → o ≡ Some k
@@ -108,9 +150,12 @@ abbrev pub IsNoneOf : List Kind → Kind → Type 0
 IsNoneOf [] k = Unit {0}
 IsNoneOf (j ∷ js) k = (k ≡ j → ⊥) × IsNoneOf js k
 
+abbrev pub has_number : List Kind → ℕ → Bool
+has_number [] w = false
+has_number (j ∷ js) w = eqb w (number_of (in_table j)) || has_number js w
+
 abbrev pub is_among : List Kind → Kind → Bool
-is_among [] k = false
-is_among (j ∷ js) k = eqb (number_of (in_table k)) (number_of (in_table j)) || is_among js k
+is_among js k = has_number js (number_of (in_table k))
 
 abbrev pub all_kinds : List Kind
 all_kinds = UnitType ∷ TruthType ∷ NumberType ∷ PairType ∷ Cell ∷ UnitValue ∷ Truth ∷ Number ∷ Binder ∷ Operator ∷ If ∷ Pair ∷ First ∷ Second ∷ Read ∷ Assign ∷ Let ∷ Edit ∷ Enter ∷ Update ∷ Then ∷ Next ∷ Fail ∷ And ∷ Or ∷ Xor ∷ View ∷ Gate ∷ []
@@ -118,6 +163,34 @@ all_kinds = UnitType ∷ TruthType ∷ NumberType ∷ PairType ∷ Cell ∷ Unit
 none_among : (js : List Kind) (k : Kind) → IsNoneOf js k → is_among js k ≡ false
 none_among [] k g = refl
 none_among (j ∷ js) k g = rw (ne_eqb (number k) (number j) (λ e. g.0 (same_number k j e))) (none_among js k g.1)
+
+-- the word is the number of none of js: in the arm `_`, and where it is that of no kind
+abbrev pub IsOther : List Kind → ℕ → Type 0
+IsOther js w = (k : Kind) → is_among js k ≡ true → w ≡ number_of (in_table k) → ⊥
+
+pub other_arm : (js : List Kind) (j : Kind) {w : ℕ} → w ≡ number_of (in_table j) → IsNoneOf js j → IsOther js w
+other_arm js j e n k m q =
+    let z : true ≡ false = sym m ∙ ap (is_among js) (sym (same_number j k (sym e ∙ q))) ∙ none_among js j n in
+    cc
+
+or_true : (b : Bool) → b || true ≡ true
+or_true true = refl
+or_true false = refl
+
+pub one_among : (js : List Kind) (k : Kind) → IsOneOf js k → is_among js k ≡ true
+one_among [] k o = absurd o
+one_among (j ∷ []) k o = ap (λ b. b || false) (eq-eqb (number k) (number j) (ap number o))
+one_among (j ∷ i ∷ js) k (inl o) = ap (λ b. b || is_among (i ∷ js) k) (eq-eqb (number k) (number j) (ap number o))
+one_among (j ∷ i ∷ js) k (inr o) = ap (λ b. eqb (number k) (number j) || b) (one_among (i ∷ js) k o) ∙ or_true (eqb (number k) (number j))
+
+-- the word of a kind of js is that of no other kind
+pub only_among : (js : List Kind) (k j : Kind) {w : ℕ} → is_among js k ≡ true → w ≡ number_of (in_table k) → is_among js j ≡ false → w ≡ number_of (in_table j) → ⊥
+only_among js k j m e n q =
+    let z : true ≡ false = sym m ∙ ap (has_number js) (sym e ∙ q) ∙ n in
+    cc
+
+pub other_none : (js : List Kind) {w : ℕ} → kind_of w ≡ none → IsOther js w
+other_none js e k m q = no_some (sym e ∙ ap kind_of q ∙ number_kind (in_table k))
 
 -- each of the kinds in ks that is not among js
 abbrev pub EachBut : List Kind → (Kind → Type 0) → List Kind → Type 0

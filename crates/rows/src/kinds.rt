@@ -47,12 +47,12 @@ pub enum Kind {
 #[derive(Clone, Copy, PartialEq, Eq)]
 pub struct UnknownKind(pub u32);
 
-impl Kind {
-    // Its number in 01.
-    pub fn number(self) -> u32
-        ensures { result ≡ number_of (in_table self) }
-    {
-        self as u32
+// Its number in 01.
+impl From<Kind> for u32 {
+    ghost from_gives = { λ k n. n ≡ number_of (in_table k) };
+
+    fn from(kind: Kind) -> u32 {
+        kind as u32
     }
 }
 
