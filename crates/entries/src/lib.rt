@@ -19,12 +19,12 @@ use decimal::{field, path};
 use formats::{ENTRY_ACTION_AT, ENTRY_BYTES, ENTRY_KINDS_AT, write_numbers};
 use normalising::{attempt, tried};
 use rows::kinds::GATE;
-use rows::{MAX_BINDERS, MAX_MARKS, MAX_ROWS, ROWS_WORDS, get, operand};
+use rows::{MAX_MARKS, MAX_ROWS, ROWS_WORDS, get, operand};
 use running::{enclose, handed_on, value};
 use shape::leaf_kinds;
 use state::{ENV_WORDS, STATE_SIZE, read, read_touches};
 use tophat::{CONTINUE, GIVE, LEFT, MAX_LEAVES, RIGHT};
-use typing::row_type;
+use typing::{Binders, row_type};
 
 // How many bytes of entries a task shows at most.
 pub const LIST_BYTES: usize = MAX_ROWS * ENTRY_BYTES;
@@ -81,10 +81,7 @@ fn content(rows: &[u32; ROWS_WORDS], state: &[u32; STATE_SIZE], row: usize) -> u
     let a = operand(rows, row, 1);
     match kind {
         40 => read(state, row, 1),
-        41 => {
-            let none = [0u32; MAX_BINDERS];
-            row_type(rows, a, none, 0)
-        }
+        41 => row_type(rows, a, &Binders::new()).unwrap_or(0),
         _ => read(state, a, 1),
     }
 }

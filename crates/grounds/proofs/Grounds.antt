@@ -1,6 +1,8 @@
 -- The grounds in their order, and the rows that ground 20 lets pass. Rests on rows, shape and Accepted.
+use Rattle.std.proofs.Common.{Option as Answer, Some, None}
+use Rattle.std.specs.Option.{is_some as has_value}
 use mathlib.Core.Path.{◌≡◌, refl, sym, ap, ◌∙◌}
-use mathlib.Core.Bool.{Bool, true, false, not, cond}
+use mathlib.Core.Bool.{Bool, true, false, not, cond, false≢true}
 use mathlib.Core.Option.{Option, none, some}
 use mathlib.Core.List.{List}
 use Prim.Native.Nat.{ℕ, ◌*◌, ◌/◌, ◌%◌, ◌<◌, ◌≤◌}
@@ -8,7 +10,8 @@ use native.Mathlib.Omega.{arith}
 use lib.Dec.{eqb}
 use borrow.Author.Tests.{le-leb, lt-leb, eq-eqb, ne_eqb, not-true, not-false}
 use Rattle.tophat.specs.Syntax.{Ty}
-use Rattle.shape.specs.Shape.{maybe_shape}
+use Rattle.shape.specs.Shape.{maybe_shape, shape_or_none}
+use Rattle.shape.proofs.Coded.{shape_not}
 use Rattle.shape.proofs.Puts.{shape_pos}
 use Rattle.rows.specs.GroundNumbers.{not_listed, not_sorted, not_named, not_small, not_typed}
 use Rattle.rows.specs.Rows.{max_rows, row_words}
@@ -70,6 +73,10 @@ by_small true true false d h = absurd (omega arith)
 by_small true true true false h = absurd (omega arith)
 by_small true true true true h = refl
 
+none_of : (o : Answer ℕ) → has_value o ≡ false → o ≡ None
+none_of None e = refl
+none_of (Some s) e = absurd (false≢true (sym e))
+
 -- a shape is 0 where there is no type
 typed : (o : Option Ty) → (maybe_shape o ≡ 0 → ⊥) → is_some o ≡ true
 unfolding maybe_shape is_some
@@ -86,8 +93,8 @@ module _ (rs : List ℕ) (n : ℕ) {form : ℕ} (e : form ≡ ground_of_form rs 
   unfolding ground_of_form ground_of_rows
   ground_form h = e ∙ by_form (passes3 rs n) (passes4 rs n) (passes5 rs n) (passes6 rs n) (passes7 rs n) (λ z. h (e ∙ z))
 
-  module _ (h : form ≡ 0) {t : ℕ} (f : passes4 rs n ≡ true → passes6 rs n ≡ true → t ≡ maybe_shape (flow_type rs n)) where
-    type_is : t ≡ maybe_shape (flow_type rs n)
+  module _ (h : form ≡ 0) {t : Answer ℕ} (f : passes4 rs n ≡ true → passes6 rs n ≡ true → t ≡ shape_or_none (maybe_shape (flow_type rs n))) where
+    type_is : t ≡ shape_or_none (maybe_shape (flow_type rs n))
     unfolding ground_of_form
     type_is = f (by_sorted (passes3 rs n) (passes4 rs n) (passes5 rs n) (passes6 rs n) (sym e ∙ h)) (by_small (passes3 rs n) (passes4 rs n) (passes5 rs n) (passes6 rs n) (sym e ∙ h))
 
@@ -95,13 +102,13 @@ module _ (rs : List ℕ) (n : ℕ) {form : ℕ} (e : form ≡ ground_of_form rs 
     unfolding ground_of_form ground_of_rows
     last b g = ap (λ b. cond b 0 not_typed) (sym g) ∙ by_last (passes3 rs n) (passes4 rs n) (passes5 rs n) (passes6 rs n) (passes7 rs n) (sym e ∙ h)
 
-    pub ground_7 : t ≡ 0 → not_typed ≡ ground_of_rows rs n
+    pub ground_7 : {b : Bool} → has_value t ≡ not b → b ≡ true → not_typed ≡ ground_of_rows rs n
     unfolding passes7
-    ground_7 g = last false (untyped (flow_type rs n) (sym type_is ∙ g))
+    ground_7 q g = last false (untyped (flow_type rs n) (shape_not (sym (none_of t (q ∙ ap not g)) ∙ type_is)))
 
-    pub ground_0 : (t ≡ 0 → ⊥) → 0 ≡ ground_of_rows rs n
+    pub ground_0 : {b : Bool} → has_value t ≡ not b → b ≡ false → 0 ≡ ground_of_rows rs n
     unfolding passes7
-    ground_0 g = last true (typed (flow_type rs n) (λ z. g (type_is ∙ z)))
+    ground_0 q g = last true (typed (flow_type rs n) (λ z. false≢true (ap has_value (sym (type_is ∙ ap shape_or_none z)) ∙ q ∙ ap not g)))
 
 -- ---- ground 20
 

@@ -51,7 +51,7 @@ pub fn ground_of_rows(rows: &[u32; ROWS_WORDS], n: usize) -> u32
     if form != 0 {
         return form;
     }
-    if typing::flow_type(rows, n) == 0 {
+    if typing::flow_type(rows, n).is_none() {
         return NOT_TYPED;
     }
     0

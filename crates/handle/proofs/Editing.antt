@@ -29,6 +29,7 @@ use Rattle.rows.specs.Kinds.{task_k, edit_k, enter_k, update_k}
 use Rattle.rows.specs.Rows.{word, op_a, OfKind}
 use Rattle.shape.specs.Shape.{as_shape, as_type, shape_leaves}
 use Rattle.shape.proofs.Puts.{as_type_lem}
+use Rattle.shape.proofs.Shapes.{no_type}
 use Rattle.shape.proofs.Counts.{by_type, shape_leaves_lem}
 use Rattle.typing.specs.RowTypes as typing
 use Rattle.typing.proofs.TypeRows.{type_shape}
@@ -79,6 +80,11 @@ module _ (ws : List ℕ) (i x c : ℕ) (e : Event) where
   pub fill_not_given : (e.path ≡ 0 → e.action ≡ give_number → ⊥) → FillOk ws ws i x c e false
   unfolding bind
   fill_not_given h = by_type c (λ o. Filled ws ws i x false (bind o λ τ. taken_by τ e)) (refl, refl) (λ τ q l. subst (Filled ws ws i x false) (sym (not_given e τ h)) (refl, refl))
+
+  -- no shape
+  pub fill_untyped : c ≡ 0 → FillOk ws ws i x c e false
+  unfolding bind
+  fill_untyped h = subst (λ o. Filled ws ws i x false (bind o λ τ. taken_by τ e)) (sym (ap as_type h ∙ no_type)) (refl, refl)
 
   module _ (g : (e.path ≡ 0) × (e.action ≡ give_number)) (n : ℕ) (q : n ≡ shape_leaves c) (y : Bool) (b : NoneBlank e.blank n y) where
     -- of a type's leaves
@@ -154,9 +160,9 @@ module _ (rs ws ws₁ : List ℕ) (i : ℕ) (env : List ℕ) (d : ℕ) (e : Even
       c z τ t y h
 
   -- 41
-  pub handle_enter : (a n : ℕ) (zs : List ℕ) → OfKind rs i (task_k enter_k) → a ≡ op_a rs i → n ≡ typing.type_of rs zs 0 a → FillOk ws ws₁ i one n e r → HandleOk rs ws ws₁ i env d e.role (event_path e) (event_action e) (answer_of r)
+  pub handle_enter : (a n : ℕ) (zs : List ℕ) (b : ℕ) → OfKind rs i (task_k enter_k) → a ≡ op_a rs i → n ≡ typing.type_of rs zs b a → FillOk ws ws₁ i one n e r → HandleOk rs ws ws₁ i env d e.role (event_path e) (event_action e) (answer_of r)
   unfolding handle
-  handle_enter a n zs q ea m f = on_code rs d i (task_k enter_k) (HandleAt rs ws ws₁ i env d e.role (event_path e) (event_action e) (answer_of r)) q (λ τ z. by τ z)
+  handle_enter a n zs b q ea m f = on_code rs d i (task_k enter_k) (HandleAt rs ws ws₁ i env d e.role (event_path e) (event_action e) (answer_of r)) q (λ τ z. by τ z)
     where
       small : {Σ Γ : List Ty} {υ τ : Ty} {t : TaskOf (enter υ)} → TaskType Σ Γ (enter υ) t τ → leaves υ ≤ max_leaves
       small (k_blank l) = l
@@ -165,7 +171,7 @@ module _ (rs ws ws₁ : List ℕ) (i : ℕ) (env : List ℕ) (d : ℕ) (e : Even
       by : (τ : Ty) → Sits rs d i (enter τ) → HandleAt rs ws ws₁ i env d e.role (event_path e) (event_action e) (answer_of r) (enter τ)
       by υ z Σ Γ τ s ρ t y w h =
           let l = small y in
-          filled_by (enter υ) υ n i one entered (λ v. s) (m ∙ ap (typing.type_of rs zs 0) ea ∙ type_shape z.1 l zs 0) l f
+          filled_by (enter υ) υ n i one entered (λ v. s) (m ∙ ap (typing.type_of rs zs b) ea ∙ type_shape z.1 l zs b) l f
           (λ v l. record { holds = l.row; stores = stores_laid w.stores (λ k. foot_cell rs d i (enter υ) z i k refl) l; same = laid_same l (inl refl) })
 
   -- 42

@@ -18,14 +18,14 @@ use decimal::path::{Front, front_mark};
 use normalising::{attempt, settle};
 use rows::ground_numbers::{NO_TOUCH, NOT_HANDLED, OTHER_ROLE};
 use rows::kinds::GATE;
-use rows::{MAX_BINDERS, ROWS_WORDS, get, operand};
+use rows::{ROWS_WORDS, get, operand};
 use running::{enclose, handed_on, value};
 use shape::leaves_of;
 use state::{
     ENV_WORDS, ONE, OTHER, OWN, STATE_SIZE, put_tag, put_touches, put_value, read, read_touches,
 };
 use tophat::{CONTINUE, GIVE, LEFT, MAX_LEAVES, RIGHT};
-use typing::row_type;
+use typing::{Binders, row_type};
 use value::{Found, Value, fits, none};
 
 // An event: a role (CR 6), a path as one number (crate decimal), an action's number, and leaves; a blank leaf's bits are 0.
@@ -97,11 +97,10 @@ fn edit(rows: &[u32; ROWS_WORDS], state: &mut [u32; STATE_SIZE], row: usize, e: 
             let shape = read(state, row, 1);
             return fill(state, row, OWN, shape, e);
         }
-        41 => {
-            let none = [0u32; MAX_BINDERS];
-            let shape = row_type(rows, a, none, 0);
-            return fill(state, row, ONE, shape, e);
-        }
+        41 => match row_type(rows, a, &Binders::new()) {
+            Some(shape) => fill(state, row, ONE, shape, e),
+            None => false,
+        },
         _ => {
             let shape = read(state, a, 1);
             return fill(state, a, OWN, shape, e);

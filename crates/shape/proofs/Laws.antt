@@ -1,8 +1,8 @@
 -- What the code of this crate does at each way, against its definitions. Rests on Puts and Counts.
 use mathlib.Core.Path.{◌≡◌, refl, sym, ap, subst, ◌∙◌}
 use mathlib.Core.Option.{Option, none, some, bind}
-use Prim.Native.Nat.{ℕ, zero, suc, ◌+◌, ◌-◌, ◌*◌, ◌/◌, ◌%◌, ◌^◌, ◌<◌, ◌≤◌}
-use native.Mathlib.Nat.{mod-eq_of_lt, div-eq_of_lt, add-mul-div_left, add-mul-mod_self_left}
+use Prim.Native.Nat.{ℕ, zero, suc, ◌+◌, ◌-◌, ◌*◌, ◌/◌, ◌%◌, ◌^◌, ◌<◌, ◌≤◌, max}
+use native.Mathlib.Nat.{pow-suc, mod-eq_of_lt, div-eq_of_lt, add-mul-div_left, add-mul-mod_self_left}
 use native.Mathlib.Numerals.{sub-one}
 use native.Mathlib.Omega.{arith}
 use borrow.Author.Tests.{eq-eqb, ne_eqb}
@@ -41,17 +41,18 @@ count_leaf (suc d) k c r z y x e = let w : suc d - 1 ≡ d = omega arith in ap (
 
 -- ---- width_of
 
-pub width_one : (n : ℕ) → n < 2 → 4 ≡ width n
+-- a leaf has a digit, and each leaf more another two
+width_suc : (n : ℕ) → width (suc n) ≡ 4 ^ suc (2 * n)
 unfolding width
-width_one zero h = refl
-width_one (suc zero) h = refl
-width_one (suc (suc n)) h = absurd (omega arith)
+width_suc zero = refl
+width_suc (suc n) =
+    let e : suc (2 * suc n) ≡ suc (suc (suc (2 * n))) = omega arith in
+    ap (λ x. 16 * x) (width_suc n) ∙ omega (arith, pow-suc 4 (suc (2 * n)), pow-suc 4 (suc (suc (2 * n)))) ∙ ap (λ k. 4 ^ k) (sym e)
 
-pub width_more : (n r : ℕ) → 2 ≤ n → r ≡ width (n - 1) → 16 * r ≡ width n
+pub width_power : (n m : ℕ) → m ≡ max n 1 → 4 ^ (2 * m - 1) ≡ width n
 unfolding width
-width_more zero r h e = absurd (omega arith)
-width_more (suc zero) r h e = absurd (omega arith)
-width_more (suc (suc n)) r h e = let z : suc (suc n) - 1 ≡ suc n = omega arith in ap (λ x. 16 * x) (e ∙ ap width z)
+width_power zero m h = ap (λ m. 4 ^ (2 * m - 1)) h
+width_power (suc n) m h = let e : 2 * m - 1 ≡ suc (2 * n) = omega arith in ap (λ k. 4 ^ k) e ∙ sym (width_suc n)
 
 width_next : (n : ℕ) → width n ≤ width (suc n)
 unfolding width
@@ -115,7 +116,7 @@ module _ (a b m n : ℕ) (h : m ≡ shape_leaves a) (g : n ≡ shape_leaves b) (
       sym (rw (q, s, t))
 
   -- it is the shape of the pair, and fits
-  pair_is : (w : ℕ) → w ≡ width m → m + n ≤ max_leaves → (τ : Ty) × (leaves τ ≤ max_leaves) × ((a + w * b) * 4 ≡ as_shape τ) × (pair_shape a b ≡ as_shape τ)
+  pub pair_is : (w : ℕ) → w ≡ width m → m + n ≤ max_leaves → (τ : Ty) × (leaves τ ≤ max_leaves) × ((a + w * b) * 4 ≡ as_shape τ) × (pair_shape a b ≡ as_shape τ)
   unfolding pair_shape bind maybe_shape leaves
   pair_is w x l =
       let (τ, p, _, k, q) = read_some a (λ e. y (h ∙ e)) in
@@ -166,7 +167,7 @@ unfolding second_shape second_to
 second_no c h = sym (one_leaf second_to refl refl refl c h)
 
 module _ (c w : ℕ) (h : 2 ≤ shape_leaves c) (e : w ≡ width (count max_digits 1 (c / 4))) where
-  split : (τ : Ty) × (υ : Ty) × (c / 4 ≡ as_shape τ + w * as_shape υ) × (as_shape τ < w) × (as_type c ≡ some (pair τ υ))
+  pub split : (τ : Ty) × (υ : Ty) × (c / 4 ≡ as_shape τ + w * as_shape υ) × (as_shape τ < w) × (as_type c ≡ some (pair τ υ))
   split =
       let (τ, υ, l, p, q) = pair_of c h in
       let k : w ≡ width (leaves τ) = e ∙ ap width (ap (count max_digits 1) p ∙ count_first τ (as_shape υ) (omega arith)) in

@@ -3,3 +3,4 @@ pub mod Counts
 pub mod Laws
 pub mod LeafKinds
 pub mod Shapes
+pub mod Coded

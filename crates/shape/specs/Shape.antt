@@ -1,7 +1,7 @@
 -- A type as one number, its shape: what code carries for a type (01: "Types are equal when their shapes are"). What the
 -- functions of this crate give is said by the types that the numbers are shapes of. Rests on the calculus.
 -- Believed: `base`, `put` and `as_shape`. The rest is for contracts only: tied to types by `as_type_again` and the laws after it (proofs/Shapes).
-use Rattle.std.specs.Prelude.{cond, List, [], map, ℕ, zero, suc, ◌+◌, ◌*◌, ◌/◌, ◌%◌, eqb, length}
+use Rattle.std.specs.Prelude.{Option as Answer, Some, None, cond, List, [], map, ℕ, zero, suc, ◌+◌, ◌*◌, ◌/◌, ◌%◌, eqb, length}
 use Rattle.std.proofs.Math.Option.{Option, none, some, bind}
 use Rattle.tophat.specs.Syntax.{max_leaves, Ty, unit, truth, number, pair, leaves}
 use Rattle.tophat.specs.Leaves.{unit_leaf, truth_leaf, number_leaf, leaf_number, leaf_table, padded, leaf_kinds}
@@ -26,6 +26,11 @@ as_shape τ = put τ 0
 unfoldable pub maybe_shape : Option Ty → ℕ
 maybe_shape none = 0
 maybe_shape (some τ) = as_shape τ
+
+-- a shape in code, where 0 is the shape of no type
+abbrev pub shape_or_none : ℕ → Answer ℕ
+shape_or_none zero = None
+shape_or_none (suc s) = Some (suc s)
 
 -- ---- a number as a type
 

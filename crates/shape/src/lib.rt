@@ -3,7 +3,7 @@
 
 ghost use Rattle.std.specs.Prelude.{◌≡◌, ◌+◌, ◌*◌, ◌/◌, ◌^◌, ◌<◌, ◌≤◌, length};
 ghost use Rattle.tophat.specs.Syntax.{max_leaves};
-ghost use Rattle.shape.specs.Shape.{base, pair_shape, first_shape, second_shape, shape_leaves, kinds_of};
+ghost use Rattle.shape.specs.Shape.{base, shape_or_none, pair_shape, first_shape, second_shape, shape_leaves, kinds_of};
 ghost use Rattle.shape.specs.Digits.{max_digits, count, width, leaf_digits, stored_from};
 
 use match_laws;
@@ -14,8 +14,6 @@ pub use tophat::{NUMBER, TRUTH, UNIT};
 
 // a type's number has a digit for each of its nodes: a leaf's kind, or 0 for a pair
 const BASE: u32 = 4;
-
-const TWO_DIGITS: u32 = BASE * BASE;
 
 const MAX_DIGITS: usize = 2 * MAX_LEAVES - 1;
 
@@ -41,10 +39,7 @@ fn width_of(n: usize) -> u32
     requires { n ≤ max_leaves }
     ensures { (result ≡ width n) × (base ≤ result) }
 {
-    if n < 2 {
-        return BASE;
-    }
-    TWO_DIGITS * width_of(n - 1)
+    BASE.pow(2 * n.max(1) as u32 - 1)
 }
 
 // the leaves of a shape, 0 of any other number
@@ -68,22 +63,19 @@ fn joined(a: u32, w: u32, b: u32) -> u32
     (a + w * b) * BASE
 }
 
-// the shape of the pair of two types; 0 past MAX_LEAVES, or where a or b is no shape
-pub fn pair_shape(a: u32, b: u32) -> u32
-    ensures { result ≡ pair_shape a b }
+// the shape of the pair of two types; none past MAX_LEAVES, or where a or b is no shape
+pub fn pair_shape(a: u32, b: u32) -> Option<u32>
+    ensures { result ≡ shape_or_none (pair_shape a b) }
 {
     let m = leaves_of(a);
-    if m == 0 {
-        return 0;
-    }
     let n = leaves_of(b);
-    if n == 0 {
-        return 0;
+    if m == 0 || n == 0 {
+        return None;
     }
     if MAX_LEAVES < m + n {
-        return 0;
+        return None;
     }
-    joined(a, width_of(m), b)
+    Some(joined(a, width_of(m), b))
 }
 
 // the width of the first component of a pair
@@ -94,50 +86,51 @@ fn first_width(c: u32) -> u32
     width_of(count_leaves(c / BASE, 1, MAX_DIGITS))
 }
 
-// the shape of a pair's first component, 0 of any other number
-pub fn first_shape(shape: u32) -> u32
-    ensures { result ≡ first_shape shape }
+// the shape of a pair's first component, none of any other number
+pub fn first_shape(shape: u32) -> Option<u32>
+    ensures { result ≡ shape_or_none (first_shape shape) }
 {
     if leaves_of(shape) < 2 {
-        return 0;
+        return None;
     }
     let w = first_width(shape);
-    shape / BASE % w
+    Some(shape / BASE % w)
 }
 
-// the shape of a pair's second component, 0 of any other number
-pub fn second_shape(shape: u32) -> u32
-    ensures { result ≡ second_shape shape }
+// the shape of a pair's second component, none of any other number
+pub fn second_shape(shape: u32) -> Option<u32>
+    ensures { result ≡ shape_or_none (second_shape shape) }
 {
     if leaves_of(shape) < 2 {
-        return 0;
+        return None;
     }
     let w = first_width(shape);
-    shape / BASE / w
+    Some(shape / BASE / w)
 }
 
-fn store_leaves(kinds: [u32; MAX_LEAVES], i: usize, c: u32, d: usize) -> [u32; MAX_LEAVES]
+// the digits of c that are leaves, of the first d, stored from place i on
+fn store_leaves(kinds: &mut [u32; MAX_LEAVES], i: usize, c: u32, d: usize)
     requires { i + length (leaf_digits d c) ≤ max_leaves }
-    ensures { result ≡ stored_from kinds i (leaf_digits d c) }
+    ensures { kinds.new ≡ stored_from kinds.old i (leaf_digits d c) }
 {
     if d == 0 {
-        return kinds;
+        return;
     }
     if c % BASE == 0 {
-        return store_leaves(kinds, i, c / BASE, d - 1);
+        store_leaves(kinds, i, c / BASE, d - 1);
+    } else {
+        kinds[i] = c % BASE;
+        store_leaves(kinds, i + 1, c / BASE, d - 1);
     }
-    let mut more = kinds;
-    more[i] = c % BASE;
-    store_leaves(more, i + 1, c / BASE, d - 1)
 }
 
 // the leaf kinds of a shape, in order, then 0; all 0 of any other number
 pub fn leaf_kinds(shape: u32) -> [u32; MAX_LEAVES]
     ensures { result ≡ kinds_of shape }
 {
-    let none = [0; MAX_LEAVES];
-    if leaves_of(shape) == 0 {
-        return none;
+    let mut kinds = [0; MAX_LEAVES];
+    if leaves_of(shape) != 0 {
+        store_leaves(&mut kinds, 0, shape, MAX_DIGITS);
     }
-    store_leaves(none, 0, shape, MAX_DIGITS)
+    kinds
 }

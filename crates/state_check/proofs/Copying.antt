@@ -1,5 +1,6 @@
 -- Copying the task of a row: what was done at the row by its part, and the rows below it copied, answers as reading the task
 -- does. Rests on Laying and on crate typing's agreement with the calculus.
+use Rattle.std.proofs.Common.{Some, None}
 use mathlib.Core.Path.{◌≡◌, refl, sym, ap, subst, ◌∙◌}
 use mathlib.Core.Bool.{Bool, true, false, cond, false≢true}
 use mathlib.Core.Option.{Option, none, some, bind}
@@ -12,7 +13,8 @@ use lib.ListN.{length, set}
 use borrow.Author.Tests.{eqb-true}
 use Rattle.tophat.specs.Syntax.{max_leaves, Ty, leaves, Code, gate, Val, TaskOf, entered, before, after, both, either, or_left, or_right, picked_left, picked_right, gated, if_true, if_false, bound}
 use Rattle.tophat.proofs.ComputeTyping.{infer, infer_task}
-use Rattle.shape.specs.Shape.{as_shape, maybe_shape}
+use Rattle.shape.specs.Shape.{as_shape, maybe_shape, shape_or_none}
+use Rattle.shape.proofs.Coded.{shape_is, shape_not}
 use Rattle.rows.specs.Kinds.{kind_of}
 use Rattle.rows.specs.Rows.{word, op_a, op_b, op_c}
 use Rattle.rows.specs.Enclosing.{max_binders}
@@ -61,6 +63,9 @@ value_none {ws} {y} {y₁} {i} {x} {s} {r} q g = none_of (subst (Got r (λ v. La
   where
     none_of : {Q : Val → Type 0} → Got r Q none → r ≡ false
     none_of (got_none e) = e
+
+value_unread : {ws y : List ℕ} {i x s : ℕ} → s ≡ 0 → ValueOk ws y y i x s false
+value_unread {ws} {y} {i} {x} {s} q = record { got = subst (Got false (λ v. Laid y y i (x ∷ value_words v))) (sym (ap (value_for (value_at ws i)) q ∙ for_none (value_at ws i))) (got_none refl) }
 
 -- ---- what was done at a row
 
@@ -235,33 +240,43 @@ module _ (rs ws y : List ℕ) (i : ℕ) (env : List ℕ) (d x : ℕ) (p : Part) 
   pub copy_alone : {y₁ : List ℕ} → p ≡ Alone → Laid y y₁ i (x ∷ []) → CopyOk rs ws y y₁ i env d true
   copy_alone e l = copied e (s_alone refl (tag_is l))
 
-  pub copy_filled : {y₁ : List ℕ} {a t : ℕ} {r : Bool} → p ≡ Filled a → t ≡ type_of rs env d a → ValueOk ws y y₁ i x t r → CopyOk rs ws y y₁ i env d r
-  copy_filled e f h = copied e (s_filled (value_is f h))
+  pub copy_filled : {y₁ : List ℕ} {a t : ℕ} {r : Bool} → p ≡ Filled a → Some t ≡ shape_or_none (type_of rs env d a) → ValueOk ws y y₁ i x t r → CopyOk rs ws y y₁ i env d r
+  copy_filled e f h = copied e (s_filled (value_is (shape_is f).0 h))
+
+  pub copy_untyped : {a : ℕ} → p ≡ Filled a → None ≡ shape_or_none (type_of rs env d a) → CopyOk rs ws y y i env d false
+  copy_untyped e f = copied e (s_filled (value_unread (shape_not f)))
 
   pub copy_below : {z y₁ : List ℕ} {k : ℕ} {r : Bool} → p ≡ Below k → Laid y z i (x ∷ []) → CopyOk rs ws z y₁ k env d r → CopyOk rs ws y y₁ i env d r
   copy_below e l h = copied e (s_below (tag_is l) h)
 
-  module _ {a b t : ℕ} (e : p ≡ Bound a b) (f : t ≡ type_of rs env d a) where
-    pub copy_bound : {z y₁ env₁ : List ℕ} {q r : Bool} → ValueOk ws y z i x t q → q ≡ true → env₁ ≡ set env d t → CopyOk rs ws z y₁ b env₁ (d + 1) r → CopyOk rs ws y y₁ i env d r
-    copy_bound {z} {y₁} {r = r} h q g ok =
-        copied e (s_bound (value_is f h) (λ n. absurd (false≢true (sym n ∙ q))) (λ _ _. subst (λ v. CopyOk rs ws z y₁ b v (d + 1) r) (g ∙ ap (set env d) f) ok))
+  module _ {a b : ℕ} (e : p ≡ Bound a b) where
+    module _ {t : ℕ} (f : Some t ≡ shape_or_none (type_of rs env d a)) where
+      pub copy_bound : {z y₁ env₁ : List ℕ} {d₁ : ℕ} {q r : Bool} → ValueOk ws y z i x t q → q ≡ true → env₁ ≡ set env d t → d₁ ≡ d + 1 → CopyOk rs ws z y₁ b env₁ d₁ r → CopyOk rs ws y y₁ i env d r
+      copy_bound {z} {y₁} {d₁ = d₁} {r = r} h q g k ok =
+          let s = (shape_is f).0 in
+          copied e
+          (s_bound (value_is s h) (λ n. absurd (false≢true (sym n ∙ q)))
+          (λ _ _. subst (λ m. CopyOk rs ws z y₁ b (set env d (type_of rs env d a)) m r) k (subst (λ v. CopyOk rs ws z y₁ b v d₁ r) (g ∙ ap (set env d) s) ok)))
 
-    pub copy_deep : {z : List ℕ} {q : Bool} → ValueOk ws y z i x t q → max_binders ≤ d → CopyOk rs ws y z i env d false
-    copy_deep h l = copied e (s_bound (value_is f h) (λ _. refl) (λ _ m. absurd (omega arith)))
+      pub copy_deep : {z : List ℕ} {q r : Bool} → ValueOk ws y z i x t q → max_binders ≤ d → r ≡ false → CopyOk rs ws y z i env d r
+      copy_deep h l n = copied e (s_bound (value_is (shape_is f).0 h) (λ _. n) (λ _ m. absurd (omega arith)))
 
-    pub copy_unbound : {z : List ℕ} {q : Bool} → ValueOk ws y z i x t q → q ≡ false → CopyOk rs ws y z i env d false
-    copy_unbound h q = copied e (s_bound (value_is f h) (λ _. refl) (λ n _. absurd (false≢true (sym q ∙ n))))
+      pub copy_unbound : {z : List ℕ} {q r : Bool} → ValueOk ws y z i x t q → q ≡ false → r ≡ false → CopyOk rs ws y z i env d r
+      copy_unbound h q n = copied e (s_bound (value_is (shape_is f).0 h) (λ _. n) (λ m _. absurd (false≢true (sym q ∙ m))))
+
+    pub copy_unshaped : None ≡ shape_or_none (type_of rs env d a) → CopyOk rs ws y y i env d false
+    copy_unshaped f = copied e (s_bound (value_unread (shape_not f)) (λ _. refl) (λ n _. absurd (false≢true n)))
 
   module _ {a b : ℕ} (e : p ≡ Two a b) where
     pub copy_two : {z z₁ y₁ : List ℕ} {q r : Bool} → Laid y z i (x ∷ []) → CopyOk rs ws z z₁ a env d q → q ≡ true → CopyOk rs ws z₁ y₁ b env d r → CopyOk rs ws y y₁ i env d r
     copy_two l h q ok = copied e (s_two (tag_is l) h (λ n. absurd (false≢true (sym n ∙ q))) (λ _. ok))
 
-    pub copy_first : {z z₁ : List ℕ} {q : Bool} → Laid y z i (x ∷ []) → CopyOk rs ws z z₁ a env d q → q ≡ false → CopyOk rs ws y z₁ i env d false
-    copy_first l h q = copied e (s_two (tag_is l) h (λ _. refl) (λ n. absurd (false≢true (sym q ∙ n))))
+    pub copy_first : {z z₁ : List ℕ} {q : Bool} → Laid y z i (x ∷ []) → CopyOk rs ws z z₁ a env d q → q ≡ false → CopyOk rs ws y z₁ i env d q
+    copy_first l h q = copied e (s_two (tag_is l) h (λ n. n) (λ n. absurd (false≢true (sym q ∙ n))))
 
   module _ {b m : ℕ} (e : p ≡ Gate b m) where
     pub copy_gate : {z y₁ : List ℕ} {q r : Bool} → TouchesOk ws y z i m q → q ≡ true → CopyOk rs ws z y₁ b env d r → CopyOk rs ws y y₁ i env d r
     copy_gate h q ok = copied e (s_gate h (λ n. absurd (false≢true (sym n ∙ q))) (λ _. ok))
 
-    pub copy_ungated : {z : List ℕ} {q : Bool} → TouchesOk ws y z i m q → q ≡ false → CopyOk rs ws y z i env d false
-    copy_ungated h q = copied e (s_gate h (λ _. refl) (λ n. absurd (false≢true (sym q ∙ n))))
+    pub copy_ungated : {z : List ℕ} {q : Bool} → TouchesOk ws y z i m q → q ≡ false → CopyOk rs ws y z i env d q
+    copy_ungated h q = copied e (s_gate h (λ n. n) (λ n. absurd (false≢true (sym q ∙ n))))

@@ -128,6 +128,10 @@ module _ (rs : List ℕ) (n : ℕ) (ws : List ℕ) (l : 1 ≤ n) (a : AcceptedRo
         no_task : p ≡ false → State rs n a ws → ⊥
         no_task h st = nothing_there h tasks (task_there st)
 
+-- copied under no binders
+pub unbound : (rs ws y y₁ : List ℕ) (i : ℕ) (env : List ℕ) (d : ℕ) {p : Bool} → env ≡ replicate max_binders 0 → d ≡ 0 → CopyOk rs ws y y₁ i env d p → CopyOk rs ws y y₁ i (replicate max_binders 0) 0 p
+unbound rs ws y y₁ i env d {p} e h ok = subst (λ d. CopyOk rs ws y y₁ i (replicate max_binders 0) d p) h (subst (λ e. CopyOk rs ws y y₁ i e d p) e ok)
+
 -- words of zeros have no live row
 pub zero_rows : {zs : List ℕ} (n : ℕ) → zs ≡ zero_words n → (j : ℕ) → Row zs j []
 zero_rows n e j = subst (λ zs. Row zs j []) (sym e) (zero_row n j)

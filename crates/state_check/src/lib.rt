@@ -13,13 +13,13 @@ ghost use Rattle.state_check.specs.Copies.{CopyOk, ValueOk, TouchesOk, CellOk, C
 ghost use Rattle.state_check.specs.States.{Alike, ToWrite, HeldOk};
 
 use rows::kinds::CELL;
-use rows::{MAX_BINDERS, MAX_ROWS, ROW_WORDS, ROWS_WORDS, get, operand};
+use rows::{MAX_ROWS, ROW_WORDS, ROWS_WORDS, get, operand};
 use state::{
     ONE, OTHER, OWN, STATE_SIZE, STATE_WORDS, put_tag, put_touches, put_value, read, read_touches,
     read_value,
 };
 use tophat::NUMBER;
-use typing::{bound, cell_shape, row_type};
+use typing::{Binders, cell_shape, row_type};
 use value::fits;
 
 // What reading does with a state row, and the rows that it then reads.
@@ -118,17 +118,16 @@ fn copy_touches(
     true
 }
 
-// The task of the row, under binders whose shapes env holds.
+// The task of the row, under the binders.
 fn copy_task(
     rows: &[u32; ROWS_WORDS],
     state: &[u32; STATE_SIZE],
     work: &mut [u32; STATE_SIZE],
     row: usize,
-    env: [u32; MAX_BINDERS],
-    depth: usize,
+    binders: &Binders,
 ) -> bool
-    requires { Fine rows.now row depth }
-    ensures { CopyOk rows.now state.now work.old work.new row env depth result }
+    requires { Fine rows.now row binders.now.count }
+    ensures { CopyOk rows.now state.now work.old work.new row binders.now.shapes binders.now.count result }
 {
     let tag = read(state, row, 0);
     let part = part_at(rows, row, tag);
@@ -138,37 +137,28 @@ fn copy_task(
             put_tag(work, row, tag);
             true
         }
-        Part::Filled(a) => {
-            let t = row_type(rows, a, env, depth);
-            copy_value(state, work, row, tag, t)
-        }
+        Part::Filled(a) => match row_type(rows, a, binders) {
+            Some(t) => copy_value(state, work, row, tag, t),
+            None => false,
+        },
         Part::Below(k) => {
             put_tag(work, row, tag);
-            copy_task(rows, state, work, k, env, depth)
+            copy_task(rows, state, work, k, binders)
         }
-        Part::Bound(a, b) => {
-            let t = row_type(rows, a, env, depth);
-            if copy_value(state, work, row, tag, t) {
-                if depth < MAX_BINDERS {
-                    let inner = bound(env, depth, t);
-                    return copy_task(rows, state, work, b, inner, depth + 1);
-                }
-                return false;
+        Part::Bound(a, b) => match row_type(rows, a, binders) {
+            Some(t) => {
+                copy_value(state, work, row, tag, t)
+                    && !binders.is_full()
+                    && copy_task(rows, state, work, b, &binders.with(t))
             }
-            false
-        }
+            None => false,
+        },
         Part::Two(a, b) => {
             put_tag(work, row, tag);
-            if copy_task(rows, state, work, a, env, depth) {
-                return copy_task(rows, state, work, b, env, depth);
-            }
-            false
+            copy_task(rows, state, work, a, binders) && copy_task(rows, state, work, b, binders)
         }
         Part::Gate(b, most) => {
-            if copy_touches(state, work, row, most) {
-                return copy_task(rows, state, work, b, env, depth);
-            }
-            false
+            copy_touches(state, work, row, most) && copy_task(rows, state, work, b, binders)
         }
     }
 }
@@ -233,8 +223,7 @@ fn written(
     ensures { HeldOk rows.now n state.now work.new result }
 {
     if copy_cells(rows, n, state, work) {
-        let none = [0u32; MAX_BINDERS];
-        if copy_task(rows, state, work, n - 1, none, 0) {
+        if copy_task(rows, state, work, n - 1, &Binders::new()) {
             return alike(state, work, n * STATE_WORDS);
         }
         return false;

@@ -1,7 +1,7 @@
 -- The type of a row by shapes is the shape of the type that the calculus gives the tree which the row reads as; so in rows
 -- that pass grounds 4 and 6 the last row's is that of the flow's own type. Rests on Steps, Cells, TypeRows and TaskLaws.
 use mathlib.Core.Path.{◌≡◌, refl, sym, ap, subst, ◌∙◌}
-use mathlib.Core.Bool.{Bool, true, false}
+use mathlib.Core.Bool.{Bool, true, false, cond, ◌&&◌}
 use mathlib.Core.Option.{none, some, bind}
 use mathlib.Core.List.{List, [], ◌∷◌}
 use Prim.Native.Nat.{ℕ, suc, ◌-◌, ◌<◌, ◌≤◌}
@@ -36,7 +36,6 @@ use Rattle.rows.proofs.CodeRead.{type_none, cell_none, exp_none}
 use Rattle.rows.proofs.Most.{small_of}
 use Rattle.rows.proofs.Binders.{code_fits}
 use Rattle.rows.specs.Fits.{FitsExp, FitsCode}
-use Rattle.typing.specs.Nodes.{lower1, lower2, lower3}
 use Rattle.typing.specs.BinderShapes.{BinderShapes}
 use Rattle.typing.specs.RowTypes.{type_of, is_task, flow_shape}
 use Rattle.typing.specs.declared.Node.{Node}
@@ -65,13 +64,13 @@ number_good w = by (dec_le (suc (mag (to_z w32 w))) half) (word_is w)
 -- ---- a row by its kind
 
 module _ (rs : List ℕ) where
-  is1 : (i a : ℕ) (x : Node) → a < i → lower1 i a x ≡ x
+  is1 : (i a : ℕ) (x : Node) → a < i → cond (ltb a i) (some x) none ≡ some x
   is1 i a x p = rw (lt-ltb a i p)
 
-  is2 : (i a b : ℕ) (x : Node) → a < i → b < i → lower2 i a b x ≡ x
+  is2 : (i a b : ℕ) (x : Node) → a < i → b < i → cond (ltb a i && ltb b i) (some x) none ≡ some x
   is2 i a b x p q = rw (lt-ltb a i p, lt-ltb b i q)
 
-  is3 : (i a b c : ℕ) (x : Node) → a < i → b < i → c < i → lower3 i a b c x ≡ x
+  is3 : (i a b c : ℕ) (x : Node) → a < i → b < i → c < i → cond (ltb a i && ltb b i && ltb c i) (some x) none ≡ some x
   is3 i a b c x p q r = rw (lt-ltb a i p, lt-ltb b i q, lt-ltb c i r)
 
   module _ (N : ℕ) (cells : List Ty) (known : (i : ℕ) (τ : Ty) → i < N → ReadsCell rs i τ → nth cells i ≡ some τ) (small : (i : ℕ) (τ : Ty) → i < N → ReadsType rs i τ → leaves τ ≤ max_leaves) where

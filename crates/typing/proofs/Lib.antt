@@ -5,3 +5,4 @@ pub mod Cells
 pub mod Steps
 pub mod Agree
 pub mod TypeRows
+pub mod Rules

@@ -32,7 +32,7 @@ pub record Good (o : Option Ty) (r : ℕ) : Type 0 where
 pub good_by : {o : Option Ty} {x y : ℕ} → x ≡ y → Good o y → Good o x
 good_by e g = record { is = e ∙ g.is; small = g.small }
 
-if_zero : (b : Bool) → ◌≡◌ {A = ℕ} (cond b 0 0) 0
+pub if_zero : (b : Bool) → ◌≡◌ {A = ℕ} (cond b 0 0) 0
 if_zero true = refl
 if_zero false = refl
 
@@ -85,11 +85,11 @@ op_step o τ υ l =
 none_both : (x r y : ℕ) → (x ≡ 0 → ⊥) → both_are 0 y x r ≡ 0
 none_both x r y h = rw (ne_eqb 0 x (λ e. h (sym e)))
 
-op_none : (o y : ℕ) → op_shape o 0 y ≡ 0
+pub op_none : (o y : ℕ) → op_shape o 0 y ≡ 0
 unfolding op_shape
 op_none o y = none_both (as_shape (takes (operator_of o))) (as_shape (gives (operator_of o))) y (shape_pos (takes (operator_of o)))
 
-op_none' : (o x : ℕ) → op_shape o x 0 ≡ 0
+pub op_none' : (o x : ℕ) → op_shape o x 0 ≡ 0
 unfolding op_shape
 op_none' o x =
     let t = as_shape (takes (operator_of o)) in
@@ -129,11 +129,11 @@ if_step κ τ υ l =
     record { is = ap (λ y. cond (eqb (as_shape κ) (as_shape truth)) y 0) g.is ∙ eq_shape κ truth (Ty-discrete κ truth) (same_to τ υ); small = small_ask _ (same_to τ υ) g.small }
 
 -- no type in a branch, none of the condition
-if_none : (x t u : ℕ) → same_shape t u ≡ 0 → if_shape x t u ≡ 0
+pub if_none : (x t u : ℕ) → same_shape t u ≡ 0 → if_shape x t u ≡ 0
 unfolding if_shape
 if_none x t u e = ap (λ y. cond (eqb x (as_shape truth)) y 0) e ∙ if_zero (eqb x (as_shape truth))
 
-if_zero_first : (t u : ℕ) → if_shape 0 t u ≡ 0
+pub if_zero_first : (t u : ℕ) → if_shape 0 t u ≡ 0
 unfolding if_shape
 if_zero_first t u = rw (ne_eqb 0 (as_shape truth) (λ e. shape_pos truth (sym e)))
 

@@ -1,4 +1,5 @@
 -- Which rows are tasks: `is_task` follows the B of 25 and 31. Rests on RowTypes, and on the crates match_laws and rows.
+use Rattle.std.proofs.Common.{Option as Answer, None}
 use mathlib.Core.Path.{◌≡◌, refl, sym, ap, ◌∙◌}
 use mathlib.Core.Bool.{Bool, true, false, not}
 use mathlib.Core.List.{List, [], ◌∷◌}
@@ -8,6 +9,7 @@ use lib.ListN.{replicate}
 use types.Run.{OneOf}
 use borrow.Author.Tests.{not-true}
 use Rattle.match_laws.proofs.Ranges.{one_of, NoneOf, within}
+use Rattle.shape.specs.Shape.{shape_or_none}
 use Rattle.rows.specs.Kinds.{Sort, task_s, either_k, if_k, let_k, task_k, edit_k, asks_of, number_of, kind_limit}
 use Rattle.rows.specs.Rows.{word, op_b, sort_by, sort_below, sort_number, same_sort}
 use Rattle.rows.specs.Enclosing.{max_binders}
@@ -73,10 +75,10 @@ module _ (rs : List ℕ) (i : ℕ) where
 -- ---- flow_type
 
 module _ (rs : List ℕ) (n : ℕ) (b : Bool) (e : b ≡ is_task rs (n - 1)) where
-  pub flow_yes : (r : ℕ) → b ≡ true → r ≡ type_of rs (replicate max_binders 0) 0 (n - 1) → r ≡ flow_shape rs n
+  pub flow_yes : {r : Answer ℕ} (env : List ℕ) (m : ℕ) → b ≡ true → env ≡ replicate max_binders 0 → m ≡ 0 → r ≡ shape_or_none (type_of rs env m (n - 1)) → r ≡ shape_or_none (flow_shape rs n)
   unfolding flow_shape
-  flow_yes r t h = let z = sym e ∙ t in h ∙ sym (rw z)
+  flow_yes env m t p q h = let z = sym e ∙ t in h ∙ (λ i. shape_or_none (type_of rs (p i) (q i) (n - 1))) ∙ sym (rw z)
 
-  pub flow_no : b ≡ false → 0 ≡ flow_shape rs n
+  pub flow_no : b ≡ false → None ≡ shape_or_none (flow_shape rs n)
   unfolding flow_shape
   flow_no t = let z = sym e ∙ t in sym (rw z)

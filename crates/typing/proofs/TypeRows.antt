@@ -13,16 +13,16 @@ use Rattle.rows.specs.Kinds.{Kind, type_k, unit_k, truth_k, number_k, pair_k}
 use Rattle.rows.specs.Rows.{op_a, op_b, op_c, OfKind}
 use Rattle.rows.specs.Trees.{ReadsType, r_unit, r_truth, r_number, r_pair}
 use Rattle.rows.proofs.KindNumbers.{kind_at_lem}
-use Rattle.typing.specs.Nodes.{lower2, node_by, node_of}
-use Rattle.typing.specs.RowTypes.{type_node, type_of}
+use Rattle.typing.specs.Nodes.{lower, node_by, node_of}
+use Rattle.typing.specs.RowTypes.{type_node, type_row, type_of}
 use Rattle.typing.specs.declared.Node.{Node}
 use Rattle.typing.specs.declared.Node.TheVariants.{Pair}
 use Rattle.typing.proofs.TypeLaws.{type_is}
 
--- a row is typed as the node of its kind is
-pub row_is : (rs env : List ℕ) (n i : ℕ) (k : Kind) (x : Node) → OfKind rs i k → node_by (some k) i (op_a rs i) (op_b rs i) (op_c rs i) ≡ x → type_of rs env n i ≡ type_node (λ e m j. type_of rs e m j) env n x
+-- a row is typed as the node of its kind is, if what it names is lower
+pub row_is : (rs env : List ℕ) (n i : ℕ) (k : Kind) (x : Node) → OfKind rs i k → lower i (node_by (some k) (op_a rs i) (op_b rs i) (op_c rs i)) ≡ some x → type_of rs env n i ≡ type_node (λ e m j. type_of rs e m j) env n x
 unfolding node_of
-row_is rs env n i k x e h = type_is rs env n i ∙ ap (type_node (λ e m j. type_of rs e m j) env n) (ap (λ o. node_by o i (op_a rs i) (op_b rs i) (op_c rs i)) (kind_at_lem rs i k e) ∙ h)
+row_is rs env n i k x e h = type_is rs env n i ∙ ap (type_row (λ e m j. type_of rs e m j) env n) (ap (λ o. lower i (node_by o (op_a rs i) (op_b rs i) (op_c rs i))) (kind_at_lem rs i k e) ∙ h)
 
 pair_is : (τ υ : Ty) → leaves (pair τ υ) ≤ max_leaves → pair_shape (as_shape τ) (as_shape υ) ≡ as_shape (pair τ υ)
 unfolding leaves bind maybe_shape
@@ -34,7 +34,7 @@ type_shape {rs} (r_unit {i = i} k) l env n = row_is rs env n i (type_k unit_k) _
 type_shape {rs} (r_truth {i = i} k) l env n = row_is rs env n i (type_k truth_k) _ k refl
 type_shape {rs} (r_number {i = i} k) l env n = row_is rs env n i (type_k number_k) _ k refl
 type_shape {rs} (r_pair {i = i} {τ = τ} {υ = υ} k p q d d₁) l env n =
-    let e : lower2 i (op_a rs i) (op_b rs i) (Pair (op_a rs i) (op_b rs i)) ≡ Pair (op_a rs i) (op_b rs i) = rw (lt-ltb (op_a rs i) i p, lt-ltb (op_b rs i) i q) in
+    let e : lower i (some (Pair (op_a rs i) (op_b rs i))) ≡ some (Pair (op_a rs i) (op_b rs i)) = rw (lt-ltb (op_a rs i) i p, lt-ltb (op_b rs i) i q) in
     row_is rs env n i (type_k pair_k) _ k e
     ∙ ap₂ pair_shape (type_shape d (omega arith) env n) (type_shape d₁ (omega arith) env n)
     ∙ pair_is τ υ l

@@ -1,60 +1,69 @@
--- A row by what typing does with it: 14 ways for all kinds. A type row's type is itself, so types and cells are typed
--- like all other rows. An operand that is not a lower row makes the row bad. Rests on Kinds and Rows.
+-- A row by what typing does with it: 13 ways for all kinds. A type row's type is itself, so types and cells are typed
+-- like all other rows. An operand that is not a lower row leaves none. Rests on Kinds and Rows.
 -- For contracts only: tied to the calculus' typing by `code_good` (proofs/Agree).
-use Rattle.std.specs.Prelude.{cond, List, ℕ, ◌<◌, ltb}
+use Rattle.std.specs.Prelude.{Bool, true, ◌&&◌, cond, List, ℕ, ◌<◌, ltb}
 use Rattle.std.proofs.Math.Option.{Option, none, some}
 use Rattle.rows.specs.Kinds.{Kind, type_k, unit_k, truth_k, number_k, pair_k, cell_k, plain_k, eunit_k, etruth_k, enumber_k, ebinder_k, eop_k, epair_k, efst_k, esnd_k, ederef_k, eassign_k}
 use Rattle.rows.specs.Kinds.{either_k, if_k, let_k, task_k, edit_k, enter_k, update_k, then_k, next_k, fail_k, and_k, or_k, xor_k, view_k, gate_k, kind_of}
 use Rattle.rows.specs.Rows.{word, op_a, op_b, op_c}
 use Rattle.typing.specs.declared.Node.{Node}
-use Rattle.typing.specs.declared.Node.TheVariants.{Unit, Truth, Number, Binder, Op, If, Pair, First, Second, Through, Assign, Bind, Same, Bad}
+use Rattle.typing.specs.declared.Node.TheVariants.{Unit, Truth, Number, Binder, Op, If, Pair, First, Second, Through, Assign, Bind, Same}
 
-abbrev pub lower1 : ℕ → ℕ → Node → Node
-lower1 i a x = cond (ltb a i) x Bad
+-- a row of a kind, or of none, with operands a, b, c
+abbrev pub node_by : Option Kind → ℕ → ℕ → ℕ → Option Node
+node_by none a b c = none
+node_by (some (type_k unit_k)) a b c = some Unit
+node_by (some (type_k truth_k)) a b c = some Truth
+node_by (some (type_k number_k)) a b c = some Number
+node_by (some (type_k pair_k)) a b c = some (Pair a b)
+node_by (some cell_k) a b c = some (Through a)
+node_by (some (plain_k eunit_k)) a b c = some Unit
+node_by (some (plain_k etruth_k)) a b c = some Truth
+node_by (some (plain_k enumber_k)) a b c = some Number
+node_by (some (plain_k ebinder_k)) a b c = some (Binder a)
+node_by (some (plain_k eop_k)) a b c = some (Op a b c)
+node_by (some (either_k if_k)) a b c = some (If a b c)
+node_by (some (plain_k epair_k)) a b c = some (Pair a b)
+node_by (some (plain_k efst_k)) a b c = some (First a)
+node_by (some (plain_k esnd_k)) a b c = some (Second a)
+node_by (some (plain_k ederef_k)) a b c = some (Through a)
+node_by (some (plain_k eassign_k)) a b c = some (Assign a b)
+node_by (some (either_k let_k)) a b c = some (Bind a b)
+node_by (some (task_k edit_k)) a b c = some (Through a)
+node_by (some (task_k enter_k)) a b c = some (Through a)
+node_by (some (task_k update_k)) a b c = some (Through a)
+node_by (some (task_k then_k)) a b c = some (Bind a b)
+node_by (some (task_k next_k)) a b c = some (Bind a b)
+node_by (some (task_k fail_k)) a b c = some (Through a)
+node_by (some (task_k and_k)) a b c = some (Pair a b)
+node_by (some (task_k or_k)) a b c = some (Same a b)
+node_by (some (task_k xor_k)) a b c = some (Same a b)
+node_by (some (task_k view_k)) a b c = some (Through a)
+node_by (some (task_k gate_k)) a b c = some (Through b)
 
-abbrev pub lower2 : ℕ → ℕ → ℕ → Node → Node
-lower2 i a b x = cond (ltb a i) (cond (ltb b i) x Bad) Bad
+-- the rows that it names are lower than row i
+abbrev pub names_lower : ℕ → Node → Bool
+names_lower i Unit = true
+names_lower i Truth = true
+names_lower i Number = true
+names_lower i (Binder a) = true
+names_lower i (Op o b c) = ltb b i && ltb c i
+names_lower i (If a b c) = ltb a i && ltb b i && ltb c i
+names_lower i (Pair a b) = ltb a i && ltb b i
+names_lower i (First a) = ltb a i
+names_lower i (Second a) = ltb a i
+names_lower i (Through a) = ltb a i
+names_lower i (Assign a b) = ltb a i && ltb b i
+names_lower i (Bind a b) = ltb a i && ltb b i
+names_lower i (Same a b) = ltb a i && ltb b i
 
-abbrev pub lower3 : ℕ → ℕ → ℕ → ℕ → Node → Node
-lower3 i a b c x = cond (ltb a i) (cond (ltb b i) (cond (ltb c i) x Bad) Bad) Bad
+-- the node, if the rows that it names are lower than row i
+abbrev pub lower : ℕ → Option Node → Option Node
+lower i none = none
+lower i (some x) = cond (names_lower i x) (some x) none
 
--- row i of a kind, or of none, with operands a, b, c
-abbrev pub node_by : Option Kind → ℕ → ℕ → ℕ → ℕ → Node
-node_by none i a b c = Bad
-node_by (some (type_k unit_k)) i a b c = Unit
-node_by (some (type_k truth_k)) i a b c = Truth
-node_by (some (type_k number_k)) i a b c = Number
-node_by (some (type_k pair_k)) i a b c = lower2 i a b (Pair a b)
-node_by (some cell_k) i a b c = lower1 i a (Through a)
-node_by (some (plain_k eunit_k)) i a b c = Unit
-node_by (some (plain_k etruth_k)) i a b c = Truth
-node_by (some (plain_k enumber_k)) i a b c = Number
-node_by (some (plain_k ebinder_k)) i a b c = Binder a
-node_by (some (plain_k eop_k)) i a b c = lower2 i b c (Op a b c)
-node_by (some (either_k if_k)) i a b c = lower3 i a b c (If a b c)
-node_by (some (plain_k epair_k)) i a b c = lower2 i a b (Pair a b)
-node_by (some (plain_k efst_k)) i a b c = lower1 i a (First a)
-node_by (some (plain_k esnd_k)) i a b c = lower1 i a (Second a)
-node_by (some (plain_k ederef_k)) i a b c = lower1 i a (Through a)
-node_by (some (plain_k eassign_k)) i a b c = lower2 i a b (Assign a b)
-node_by (some (either_k let_k)) i a b c = lower2 i a b (Bind a b)
-node_by (some (task_k edit_k)) i a b c = lower1 i a (Through a)
-node_by (some (task_k enter_k)) i a b c = lower1 i a (Through a)
-node_by (some (task_k update_k)) i a b c = lower1 i a (Through a)
-node_by (some (task_k then_k)) i a b c = lower2 i a b (Bind a b)
-node_by (some (task_k next_k)) i a b c = lower2 i a b (Bind a b)
-node_by (some (task_k fail_k)) i a b c = lower1 i a (Through a)
-node_by (some (task_k and_k)) i a b c = lower2 i a b (Pair a b)
-node_by (some (task_k or_k)) i a b c = lower2 i a b (Same a b)
-node_by (some (task_k xor_k)) i a b c = lower2 i a b (Same a b)
-node_by (some (task_k view_k)) i a b c = lower1 i a (Through a)
-node_by (some (task_k gate_k)) i a b c = lower1 i b (Through b)
-
-abbrev pub node_from : ℕ → ℕ → ℕ → ℕ → ℕ → Node
-node_from k i a b c = node_by (kind_of k) i a b c
-
-unfoldable pub node_of : List ℕ → ℕ → Node
-node_of rs i = node_from (word rs i 0) i (op_a rs i) (op_b rs i) (op_c rs i)
+unfoldable pub node_of : List ℕ → ℕ → Option Node
+node_of rs i = lower i (node_by (kind_of (word rs i 0)) (op_a rs i) (op_b rs i) (op_c rs i))
 
 -- the rows that it names are lower
 abbrev pub Below : Node → ℕ → Type 0
@@ -71,4 +80,3 @@ Below (Through a) i = a < i
 Below (Assign a b) i = (a < i) × (b < i)
 Below (Bind a b) i = (a < i) × (b < i)
 Below (Same a b) i = (a < i) × (b < i)
-Below Bad i = Prim.Unit {0}

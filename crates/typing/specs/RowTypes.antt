@@ -2,6 +2,7 @@
 -- env holds, the outermost first. proofs/Agree ties it to the calculus. Rests on Nodes, and on the crates shape and rows.
 -- For contracts only: tied to rows' `flow_type` by `flow_agrees` (proofs/Agree).
 use Rattle.std.specs.Prelude.{Bool, cond, List, ℕ, zero, suc, ◌+◌, ◌-◌, leb, ltb, eqb, get_or, set, replicate}
+use Rattle.std.proofs.Math.Option.{Option, none, some}
 use Rattle.tophat.specs.Syntax.{unit, truth}
 use Rattle.tophat.proofs.ComputeTyping.{takes, gives}
 use Rattle.shape.specs.Shape.{as_shape, pair_shape, first_shape, second_shape}
@@ -11,7 +12,7 @@ use Rattle.rows.specs.Enclosing.{max_binders}
 use Rattle.rows.specs.Trees.{operator_of}
 use Rattle.typing.specs.Nodes.{node_of}
 use Rattle.typing.specs.declared.Node.{Node}
-use Rattle.typing.specs.declared.Node.TheVariants.{Unit, Truth, Number, Binder, Op, If, Pair, First, Second, Through, Assign, Bind, Same, Bad}
+use Rattle.typing.specs.declared.Node.TheVariants.{Unit, Truth, Number, Binder, Op, If, Pair, First, Second, Through, Assign, Bind, Same}
 
 -- ---- each step, on shapes
 
@@ -56,12 +57,16 @@ type_node f env n (Through a) = f env n a
 type_node f env n (Assign a b) = assign_shape (f env n a) (f env n b)
 type_node f env n (Bind a b) = bind_shape (λ e m. f e m b) env n (f env n a)
 type_node f env n (Same a b) = same_shape (f env n a) (f env n b)
-type_node f env n Bad = 0
+
+-- 0 without a node
+abbrev pub type_row : (List ℕ → ℕ → ℕ → ℕ) → List ℕ → ℕ → Option Node → ℕ
+type_row f env n none = 0
+type_row f env n (some x) = type_node f env n x
 
 -- at most d rows deep
 unfoldable pub type_within : ℕ → List ℕ → List ℕ → ℕ → ℕ → ℕ
 type_within zero rs env n i = 0
-type_within (suc d) rs env n i = type_node (λ e m j. type_within d rs e m j) env n (node_of rs i)
+type_within (suc d) rs env n i = type_row (λ e m j. type_within d rs e m j) env n (node_of rs i)
 
 -- the type of row i; the rows below it are enough
 abbrev pub type_of : List ℕ → List ℕ → ℕ → ℕ → ℕ

@@ -2,14 +2,16 @@
 
 #![tactic(auto)]
 
-ghost use Rattle.std.specs.Prelude.{◌≡◌, true, ◌+◌, ◌<◌, ◌≤◌, set};
-ghost use Rattle.shape.specs.Shape.{as_shape, maybe_shape};
+ghost use Rattle.std.specs.Prelude.{◌≡◌, true, ◌+◌, ◌<◌, ◌≤◌, ◌↔◌, set, replicate, IsTrue, IfSome};
+ghost use Rattle.word.specs.Options.{in_code};
+ghost use Rattle.shape.specs.Shape.{as_shape, maybe_shape, shape_or_none};
+ghost use Rattle.rows.specs.Kinds.{kind_of};
 ghost use Rattle.rows.specs.Rows.{max_rows};
 ghost use Rattle.rows.specs.Enclosing.{max_binders};
 ghost use Rattle.rows.specs.ComputeTrees.{content_type};
 ghost use Rattle.rows.specs.Ground.{flow_type, passes4, passes6};
-ghost use Rattle.typing.specs.Nodes.{lower1, lower2, lower3, node_from, node_of, Below};
-ghost use Rattle.typing.specs.RowTypes.{both_are, op_shape, same_shape, if_shape, assign_shape, binder_shape, type_of, is_task, flow_shape};
+ghost use Rattle.typing.specs.Nodes.{node_by, node_of, names_lower, Below};
+ghost use Rattle.typing.specs.RowTypes.{op_shape, same_shape, if_shape, assign_shape, binder_shape, type_of, is_task, flow_shape};
 
 use match_laws;
 use rows::{MAX_BINDERS, ROWS_WORDS, get, kind, kinds, operand};
@@ -17,7 +19,57 @@ use shape;
 use shape::TRUTH;
 use tophat;
 
-// what typing does with a row
+// The shapes of the binders around a row, the outermost first.
+#[derive(Clone, Copy)]
+pub struct Binders {
+    pub shapes: [u32; MAX_BINDERS],
+    pub count: usize,
+}
+
+impl Binders {
+    // No binder.
+    pub fn new() -> Binders
+        ensures { (result.shapes ≡ replicate max_binders 0) × (result.count ≡ 0) }
+    {
+        Binders {
+            shapes: [0; MAX_BINDERS],
+            count: 0,
+        }
+    }
+
+    // The shape of binder a, counted outward, 0 the nearest; none where there is no such binder, or more than MAX_BINDERS.
+    fn get(&self, a: usize) -> Option<u32>
+        ensures { result ≡ shape_or_none (binder_shape self.now.shapes self.now.count a) }
+    {
+        if self.count <= a || MAX_BINDERS < self.count {
+            return None;
+        }
+        let shape = self.shapes[self.count - 1 - a];
+        (shape != 0).then_some(shape)
+    }
+
+    // No binder more has room.
+    pub fn is_full(&self) -> bool
+        ensures { IsTrue result ↔ (max_binders ≤ self.now.count) }
+    {
+        MAX_BINDERS <= self.count
+    }
+
+    // One binder more, of the shape.
+    pub fn with(&self, shape: u32) -> Binders
+        requires { self.now.count < max_binders }
+        ensures { (result.shapes ≡ set self.now.shapes self.now.count shape) × (result.count ≡ self.now.count + 1) }
+    {
+        let mut shapes = self.shapes;
+        shapes[self.count] = shape;
+        Binders {
+            shapes: shapes,
+            count: self.count + 1,
+        }
+    }
+}
+
+// What typing does with a row.
 #[derive(Clone, Copy)]
 pub enum Node {
     Unit,
@@ -33,202 +85,158 @@ pub enum Node {
     Assign(usize, usize),
     Bind(usize, usize),
     Same(usize, usize),
-    Bad,
 }
 
-fn both_are(t: u32, u: u32, x: u32, r: u32) -> u32
-    ensures { result ≡ both_are t u x r }
-{
-    if t == x {
-        if u == x {
-            return r;
+impl Node {
+    // Are the rows that it names lower than the row?
+    fn names_lower(&self, row: usize) -> bool
+        ensures { result ≡ names_lower row self.now }
+    {
+        match *self {
+            Node::Unit | Node::Truth | Node::Number | Node::Binder(_) => true,
+            Node::First(a) | Node::Second(a) | Node::Through(a) => a < row,
+            Node::Pair(a, b) | Node::Assign(a, b) | Node::Bind(a, b) | Node::Same(a, b) => {
+                a < row && b < row
+            }
+            Node::Op(_, b, c) => b < row && c < row,
+            Node::If(a, b, c) => a < row && b < row && c < row,
         }
-        return 0;
     }
-    0
 }
 
-fn op_shape(o: u32, t: u32, u: u32) -> u32
-    ensures { result ≡ op_shape o t u }
+// The shape of an operator's result, where both sides have the shape that it takes.
+fn op_shape(o: u32, t: u32, u: u32) -> Option<u32>
+    ensures { result ≡ shape_or_none (op_shape o t u) }
 {
-    match o {
-        0..=3 => both_are(t, u, shape::NUMBER, shape::NUMBER),
-        4..=6 => both_are(t, u, shape::NUMBER, shape::TRUTH),
-        7..=8 => both_are(t, u, shape::TRUTH, shape::TRUTH),
-        _ => both_are(t, u, shape::NUMBER, shape::NUMBER),
-    }
+    let (takes, gives) = match o {
+        0..=3 => (shape::NUMBER, shape::NUMBER),
+        4..=6 => (shape::NUMBER, shape::TRUTH),
+        7..=8 => (shape::TRUTH, shape::TRUTH),
+        _ => (shape::NUMBER, shape::NUMBER),
+    };
+    (t == takes && u == takes).then_some(gives)
 }
 
-fn same_shape(t: u32, u: u32) -> u32
-    ensures { result ≡ same_shape t u }
+fn same_shape(t: u32, u: u32) -> Option<u32>
+    requires { 0 < t }
+    ensures { result ≡ shape_or_none (same_shape t u) }
 {
-    if t == u {
-        return t;
-    }
-    0
+    (t == u).then_some(t)
 }
 
-fn if_shape(x: u32, t: u32, u: u32) -> u32
-    ensures { result ≡ if_shape x t u }
+fn if_shape(x: u32, t: u32, u: u32) -> Option<u32>
+    requires { 0 < t }
+    ensures { result ≡ shape_or_none (if_shape x t u) }
 {
-    if x == shape::TRUTH {
-        return same_shape(t, u);
+    if x != shape::TRUTH {
+        return None;
     }
-    0
+    same_shape(t, u)
 }
 
-fn assign_shape(t: u32, u: u32) -> u32
-    ensures { result ≡ assign_shape t u }
+fn assign_shape(t: u32, u: u32) -> Option<u32>
+    requires { 0 < t }
+    ensures { result ≡ shape_or_none (assign_shape t u) }
 {
-    if t == 0 {
-        return 0;
-    }
-    if t == u {
-        return shape::UNIT;
-    }
-    0
+    (t == u).then_some(shape::UNIT)
 }
 
-fn binder_shape(env: [u32; MAX_BINDERS], n: usize, a: usize) -> u32
-    ensures { result ≡ binder_shape env n a }
-{
-    if a < n {
-        if n <= MAX_BINDERS {
-            return env[n - 1 - a];
-        }
-        return 0;
-    }
-    0
-}
-
-// one binder more, of shape t
-pub fn bound(env: [u32; MAX_BINDERS], n: usize, t: u32) -> [u32; MAX_BINDERS]
-    requires { n < max_binders }
-    ensures { result ≡ set env n t }
-{
-    let mut more = env;
-    more[n] = t;
-    more
-}
-
-// the node, if the rows that it names are lower than row i
-fn named1(i: usize, a: usize, x: Node) -> Node
-    ensures { result ≡ lower1 i a x }
-{
-    if a < i {
-        return x;
-    }
-    Node::Bad
-}
-
-fn named2(i: usize, a: usize, b: usize, x: Node) -> Node
-    ensures { result ≡ lower2 i a b x }
-{
-    if a < i {
-        return named1(i, b, x);
-    }
-    Node::Bad
-}
-
-fn named3(i: usize, a: usize, b: usize, c: usize, x: Node) -> Node
-    ensures { result ≡ lower3 i a b c x }
-{
-    if a < i {
-        return named2(i, b, c, x);
-    }
-    Node::Bad
-}
-
-fn node_from(k: u32, i: usize, a: u32, b: u32, c: u32) -> Node
-    ensures { result ≡ node_from k i a b c }
+// A row of kind k with the operands a, b and c.
+fn node_from(k: u32, a: u32, b: u32, c: u32) -> Option<Node>
+    ensures { result ≡ in_code (node_by (kind_of k) a b c) }
 {
     let p = a as usize;
     let q = b as usize;
     let s = c as usize;
     match k {
-        1 | 20 => Node::Unit,
-        2 | 21 => Node::Truth,
-        3 | 22 => Node::Number,
-        23 => Node::Binder(p),
-        24 => named2(i, q, s, Node::Op(a, q, s)),
-        25 => named3(i, p, q, s, Node::If(p, q, s)),
-        4 | 26 | 46 => named2(i, p, q, Node::Pair(p, q)),
-        27 => named1(i, p, Node::First(p)),
-        28 => named1(i, p, Node::Second(p)),
-        10 | 29 | 45 | 49 => named1(i, p, Node::Through(p)),
-        40..=42 => named1(i, p, Node::Through(p)),
-        30 => named2(i, p, q, Node::Assign(p, q)),
-        31 => named2(i, p, q, Node::Bind(p, q)),
-        50 => named1(i, q, Node::Through(q)),
-        43..=44 => named2(i, p, q, Node::Bind(p, q)),
-        47..=48 => named2(i, p, q, Node::Same(p, q)),
-        _ => Node::Bad,
+        1 | 20 => Some(Node::Unit),
+        2 | 21 => Some(Node::Truth),
+        3 | 22 => Some(Node::Number),
+        23 => Some(Node::Binder(p)),
+        24 => Some(Node::Op(a, q, s)),
+        25 => Some(Node::If(p, q, s)),
+        4 | 26 | 46 => Some(Node::Pair(p, q)),
+        27 => Some(Node::First(p)),
+        28 => Some(Node::Second(p)),
+        10 | 29 | 45 | 49 => Some(Node::Through(p)),
+        40..=42 => Some(Node::Through(p)),
+        30 => Some(Node::Assign(p, q)),
+        31 => Some(Node::Bind(p, q)),
+        50 => Some(Node::Through(q)),
+        43..=44 => Some(Node::Bind(p, q)),
+        47..=48 => Some(Node::Same(p, q)),
+        _ => None,
     }
 }
 
-fn node_at(rows: &[u32; ROWS_WORDS], row: usize) -> Node
+// What typing does with the row; none where its kind is none, or a row that it names is not lower.
+fn node_at(rows: &[u32; ROWS_WORDS], row: usize) -> Option<Node>
     requires { row < max_rows }
-    ensures { (result ≡ node_of rows.now row) × Below result row }
+    ensures is { result ≡ in_code (node_of rows.now row) }
+    ensures below { IfSome result (λ x. Below x row) }
 {
     let k = get(rows, row, 0);
     let a = get(rows, row, 1);
     let b = get(rows, row, 2);
     let c = get(rows, row, 3);
-    node_from(k, row, a, b, c)
+    let node = node_from(k, a, b, c)?;
+    node.names_lower(row).then_some(node)
 }
 
-// the shape of the type of a row under n binders, 0 for none; linear where each row of kind 20 or more is named once
-pub fn row_type(rows: &[u32; ROWS_WORDS], row: usize, env: [u32; MAX_BINDERS], n: usize) -> u32
+// The shape of the type of a row under the binders, if it has one; linear where each row of kind 20 or more is named once.
+pub fn row_type(rows: &[u32; ROWS_WORDS], row: usize, binders: &Binders) -> Option<u32>
     requires { row < max_rows }
-    ensures { result ≡ type_of rows.now env n row }
+    ensures { result ≡ shape_or_none (type_of rows.now binders.now.shapes binders.now.count row) }
 {
-    let x = node_at(rows, row);
-    match x {
-        Node::Unit => shape::UNIT,
-        Node::Truth => shape::TRUTH,
-        Node::Number => shape::NUMBER,
-        Node::Binder(a) => binder_shape(env, n, a),
+    let node = node_at(rows, row)?;
+    match node {
+        Node::Unit => Some(shape::UNIT),
+        Node::Truth => Some(shape::TRUTH),
+        Node::Number => Some(shape::NUMBER),
+        Node::Binder(a) => binders.get(a),
         Node::Op(o, b, c) => {
-            let t = row_type(rows, b, env, n);
-            let u = row_type(rows, c, env, n);
+            let t = row_type(rows, b, binders)?;
+            let u = row_type(rows, c, binders)?;
             op_shape(o, t, u)
         }
         Node::If(a, b, c) => {
-            let s = row_type(rows, a, env, n);
-            let t = row_type(rows, b, env, n);
-            let u = row_type(rows, c, env, n);
+            let s = row_type(rows, a, binders)?;
+            let t = row_type(rows, b, binders)?;
+            let u = row_type(rows, c, binders)?;
             if_shape(s, t, u)
         }
         Node::Pair(a, b) => {
-            let t = row_type(rows, a, env, n);
-            let u = row_type(rows, b, env, n);
+            let t = row_type(rows, a, binders)?;
+            let u = row_type(rows, b, binders)?;
             shape::pair_shape(t, u)
         }
-        Node::First(a) => shape::first_shape(row_type(rows, a, env, n)),
-        Node::Second(a) => shape::second_shape(row_type(rows, a, env, n)),
-        Node::Through(a) => row_type(rows, a, env, n),
+        Node::First(a) => {
+            let t = row_type(rows, a, binders)?;
+            shape::first_shape(t)
+        }
+        Node::Second(a) => {
+            let t = row_type(rows, a, binders)?;
+            shape::second_shape(t)
+        }
+        Node::Through(a) => row_type(rows, a, binders),
         Node::Assign(a, b) => {
-            let t = row_type(rows, a, env, n);
-            let u = row_type(rows, b, env, n);
+            let t = row_type(rows, a, binders)?;
+            let u = row_type(rows, b, binders)?;
             assign_shape(t, u)
         }
         Node::Bind(a, b) => {
-            let t = row_type(rows, a, env, n);
-            if t == 0 {
-                return 0;
+            let t = row_type(rows, a, binders)?;
+            if binders.is_full() {
+                return None;
             }
-            if n < MAX_BINDERS {
-                let inner = bound(env, n, t);
-                return row_type(rows, b, inner, n + 1);
-            }
-            0
+            let inner = binders.with(t);
+            row_type(rows, b, &inner)
         }
         Node::Same(a, b) => {
-            let t = row_type(rows, a, env, n);
-            let u = row_type(rows, b, env, n);
+            let t = row_type(rows, a, binders)?;
+            let u = row_type(rows, b, binders)?;
             same_shape(t, u)
         }
-        Node::Bad => 0,
     }
 }
 
@@ -263,15 +271,14 @@ pub fn cell_shape(rows: &[u32; ROWS_WORDS], row: usize) -> u32
     shape::NUMBER
 }
 
-// the shape of the type of the last of n rows as a task, 0 for none
-pub fn flow_type(rows: &[u32; ROWS_WORDS], n: usize) -> u32
+// the shape of the type of the last of n rows as a task, if it has one
+pub fn flow_type(rows: &[u32; ROWS_WORDS], n: usize) -> Option<u32>
     requires { (1 ≤ n) × (n ≤ max_rows) }
-    ensures value { result ≡ flow_shape rows.now n }
-    ensures value_2 { passes4 rows.now n ≡ true → passes6 rows.now n ≡ true → result ≡ maybe_shape (flow_type rows.now n) }
+    ensures value { result ≡ shape_or_none (flow_shape rows.now n) }
+    ensures value_2 { passes4 rows.now n ≡ true → passes6 rows.now n ≡ true → result ≡ shape_or_none (maybe_shape (flow_type rows.now n)) }
 {
-    if is_task(rows, n - 1) {
-        let none = [0; MAX_BINDERS];
-        return row_type(rows, n - 1, none, 0);
+    if !is_task(rows, n - 1) {
+        return None;
     }
-    0
+    row_type(rows, n - 1, &Binders::new())
 }

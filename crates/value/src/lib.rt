@@ -244,7 +244,7 @@ pub fn pair(a: Value, b: Value) -> Value
     let ys = b.leaves;
     let leaves = joined(leaves_of(a.shape), xs, ys);
     Value {
-        shape: pair_shape(a.shape, b.shape),
+        shape: pair_shape(a.shape, b.shape).unwrap_or(0),
         leaves: leaves,
     }
 }
@@ -253,7 +253,7 @@ pub fn pair(a: Value, b: Value) -> Value
 pub fn first(a: Value) -> Value
     ensures { result ≡ first_value a }
 {
-    let shape = first_shape(a.shape);
+    let shape = first_shape(a.shape).unwrap_or(0);
     let xs = a.leaves;
     let leaves = joined(leaves_of(shape), xs, [0; MAX_LEAVES]);
     Value {
@@ -267,9 +267,9 @@ pub fn second(a: Value) -> Value
     ensures { result ≡ second_value a }
 {
     let xs = a.leaves;
-    let leaves = leaves_from(leaves_of(first_shape(a.shape)), xs);
+    let leaves = leaves_from(leaves_of(first_shape(a.shape).unwrap_or(0)), xs);
     Value {
-        shape: second_shape(a.shape),
+        shape: second_shape(a.shape).unwrap_or(0),
         leaves: leaves,
     }
 }

@@ -1,0 +1,10 @@
+use Rattle.shape.proofs.Coded.{none_first, some_first}
+use Rattle.shape.proofs.first_shape.Goals as goal
+
+pub returns-then-leaves_of-lt2 : goal.returns-then-leaves_of-lt2
+returns-then-leaves_of-lt2 c = none_first c.args.shape c.leaves_of.result c.leaves_of.ensures.0 c.if-leaves_of-lt2.true
+
+pub returns : goal.returns
+returns c =
+    some_first c.args.shape c.leaves_of.result c.leaves_of.ensures.0 c.first_width-w.result c.if-leaves_of-lt2.false
+    c.first_width-w.ensures.0
