@@ -54,10 +54,28 @@ pub after3 : (f : ℕ → ℕ → ℕ → ℕ) {r : Answer ℕ} (w x y : ℕ) {s
 after3 f w x y {s} {t} {u} e o p q = after2 (f w) x y (after1 (λ s. f s t u) w e o) p q
 
 -- none without one of them
-pub none_at : (f : ℕ → ℕ) {r : Answer ℕ} (x : ℕ) → f 0 ≡ 0 → r ≡ None → None ≡ shape_or_none x → r ≡ shape_or_none (f x)
-none_at f x z e p = e ∙ ap shape_or_none (sym (ap f (shape_not p) ∙ z))
+pub no_only : (f : ℕ → ℕ) {r : Answer ℕ} (x : ℕ) → f 0 ≡ 0 → r ≡ None → None ≡ shape_or_none x → r ≡ shape_or_none (f x)
+no_only f x z e p = e ∙ ap shape_or_none (sym (ap f (shape_not p) ∙ z))
+
+pub no_left : (f : ℕ → ℕ → ℕ) {r : Answer ℕ} (x y : ℕ) → ((y : ℕ) → f 0 y ≡ 0) → r ≡ None → None ≡ shape_or_none x → r ≡ shape_or_none (f x y)
+no_left f x y z e p = no_only (λ x. f x y) x (z y) e p
+
+pub no_right : (f : ℕ → ℕ → ℕ) {r : Answer ℕ} (x y : ℕ) → ((x : ℕ) → f x 0 ≡ 0) → r ≡ None → None ≡ shape_or_none y → r ≡ shape_or_none (f x y)
+no_right f x y z e p = no_only (f x) y (z x) e p
+
+pub no_first : (f : ℕ → ℕ → ℕ → ℕ) {r : Answer ℕ} (w x y : ℕ) → ((x y : ℕ) → f 0 x y ≡ 0) → r ≡ None → None ≡ shape_or_none w → r ≡ shape_or_none (f w x y)
+no_first f w x y z e p = no_only (λ w. f w x y) w (z x y) e p
+
+pub no_second : (f : ℕ → ℕ → ℕ → ℕ) {r : Answer ℕ} (w x y : ℕ) → ((w y : ℕ) → f w 0 y ≡ 0) → r ≡ None → None ≡ shape_or_none x → r ≡ shape_or_none (f w x y)
+no_second f w x y z e p = no_only (λ x. f w x y) x (z w y) e p
+
+pub no_third : (f : ℕ → ℕ → ℕ → ℕ) {r : Answer ℕ} (w x y : ℕ) → ((w x : ℕ) → f w x 0 ≡ 0) → r ≡ None → None ≡ shape_or_none y → r ≡ shape_or_none (f w x y)
+no_third f w x y z e p = no_only (f w x) y (z w x) e p
 
 -- ---- which needs all of them
+
+pub same_left : (u : ℕ) → same_shape 0 u ≡ 0
+same_left u = if_zero (eqb 0 u)
 
 pub same_right : (t : ℕ) → same_shape t 0 ≡ 0
 same_right t = by_test (λ r. r ≡ 0) (eqb t 0) (λ e. eqb-true t 0 e) (λ e. refl)
