@@ -16,9 +16,10 @@ use Rattle.tophat.proofs.ComputeNormalising.{right_fails}
 use Rattle.tophat.proofs.ComputeEntries.{continue_if}
 use Rattle.tophat.proofs.Preservation.{option_is, value_type}
 use Rattle.rows.specs.Rows.{op_a}
-use Rattle.value.specs.declared.Found.{Found}
-use Rattle.value.specs.Found.{as_found}
-use Rattle.value.proofs.Operators.{differ}
+use Rattle.std.specs.Prelude.{Some, None}
+use Rattle.std.proofs.lemmas.Option.{none-some, same_Some}
+use Rattle.value.specs.declared.Value.{Value}
+use Rattle.value.specs.Found.{Found, as_found}
 use Rattle.state.specs.Ensured.{ValueOk}
 use Rattle.normalising.specs.Trying.{Attempted, AttemptOk}
 use Rattle.entries.specs.Listing.{GoesOnOk}
@@ -27,15 +28,15 @@ module _ (rs ws : List ℕ) (i : ℕ) (env : List ℕ) (d a : ℕ) (e : a ≡ op
   left_value : ValueOk rs ws (op_a rs i) f
   left_value = subst (λ a. ValueOk rs ws a f) e hv
 
-  pub goes_none : f.has ≡ false → GoesOnOk rs ws i env d false
+  pub goes_none : f ≡ None → GoesOnOk rs ws i env d false
   unfolding as_found continue_if button_if
   goes_none n a b k Σ Γ τ υ s ρ t y x w g = by _ (value a t s) (left_value d a k.1 Σ Γ τ s t y w.store_typed w.store_small w.binders_small g.1 w.stores)
     where
       by : (F : Val → Bool) (o : Option Val) → f ≡ as_found o → button_if false continue ≡ continue_if o F
       by F none p = refl
-      by F (some v) p = differ (sym (ap (λ f. f.has) p) ∙ n)
+      by F (some v) p = absurd (none-some _ (sym n ∙ p))
 
-  pub goes_tried : (ws₁ : List ℕ) (r : Bool) → f.has ≡ true → AttemptOk rs ws ws₁ i env d f.value r → GoesOnOk rs ws i env d r
+  pub goes_tried : {x : Value} (ws₁ : List ℕ) (r : Bool) → f ≡ Some x → AttemptOk rs ws ws₁ i env d x r → GoesOnOk rs ws i env d r
   unfolding as_found continue_if
   goes_tried ws₁ r n h a b k Σ Γ τ υ s ρ t y x w g =
       by (value a t s) (left_value d a k.1 Σ Γ τ s t y w.store_typed w.store_small w.binders_small g.1 w.stores) (λ v q. option_is (value_type y w.store_typed) q)
@@ -45,5 +46,5 @@ module _ (rs ws : List ℕ) (i : ℕ) (env : List ℕ) (d a : ℕ) (e : a ≡ op
       flag v q false p = p.0
 
       by : (o : Option Val) → f ≡ as_found o → ((v : Val) → o ≡ some v → ValueType v τ) → button_if r continue ≡ continue_if o (λ v. right_fails b (v ∷ ρ) s)
-      by none p m = differ (sym n ∙ ap (λ f. f.has) p)
-      by (some v) p m = ap (λ z. button_if z continue) (flag v (evaluate b (v ∷ ρ) s) (right_fails b (v ∷ ρ) s) (h a b (inr k) Σ Γ τ υ s ρ t v (ap (λ f. f.value) p) (m v refl) y x w g))
+      by none p m = absurd (none-some _ (sym p ∙ n))
+      by (some v) p m = ap (λ z. button_if z continue) (flag v (evaluate b (v ∷ ρ) s) (right_fails b (v ∷ ρ) s) (h a b (inr k) Σ Γ τ υ s ρ t v (same_Some _ _ (sym n ∙ p)) (m v refl) y x w g))

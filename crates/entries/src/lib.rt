@@ -112,12 +112,11 @@ fn goes_on(
     requires { Fine rows.now row depth × FromKind rows.now row (either_k if_k) × UpToKind rows.now row (task_k view_k) }
     ensures { GoesOnOk rows.now state.now row env.now depth result }
 {
-    let found = value(rows, state, operand(rows, row, 1));
-    if !found.has {
+    let Some(v) = value(rows, state, operand(rows, row, 1)) else {
         return false;
-    }
+    };
     let mut work = *state;
-    attempt(rows, &mut work, row, env, depth, found.value)
+    attempt(rows, &mut work, row, env, depth, v)
 }
 
 // A choice of kind 48 not yet made: Left and Right, each where that branch, settled in a copy of the state, does not fail.

@@ -25,9 +25,9 @@ use Rattle.tophat.proofs.ComputeEntries.{entries}
 use Rattle.tophat.proofs.EntriesQuiet.{failing_empty}
 use Rattle.tophat.proofs.Preservation.{OptionType, o_some, value_type}
 use Rattle.rows.specs.GroundNumbers.{event_not_read, list_too_short}
-use Rattle.value.specs.declared.Found.{Found}
 use Rattle.value.specs.Values.{as_value, no_value}
-use Rattle.value.specs.Found.{as_found}
+use Rattle.std.specs.Option.{is_some, unwrap_or}
+use Rattle.value.specs.Found.{Found, as_found}
 use Rattle.value.proofs.Meaning.{leaves_back}
 use Rattle.state.specs.Ensured.{Fine, ValueOk}
 use Rattle.tophat.specs.Roles.{is_role, is}
@@ -48,12 +48,12 @@ use Rattle.flow.proofs.OpenLaws.{opened_fine, opened_fits}
 
 -- ---- the value
 
-value_back : {τ : Ty} (o : Option Val) → OptionType o τ → map (to_z w32) (as_found o).value.leaves ≡ value_memory o
+value_back : {τ : Ty} (o : Option Val) → OptionType o τ → map (to_z w32) (unwrap_or (as_found o) no_value).leaves ≡ value_memory o
 unfolding as_found as_value value_memory
 value_back none h = refl
 value_back (some v) (o_some h) = leaves_back h
 
-value_flag : (o : Option Val) → flag (as_found o).has ≡ has_one o
+value_flag : (o : Option Val) → flag (is_some (as_found o)) ≡ has_one o
 unfolding as_found has_one
 value_flag none = refl
 value_flag (some v) = refl
@@ -127,8 +127,8 @@ module _ (role : ℕ) (own words : List ℕ) (n : ℕ) where
     show_24 z rows ws c t s x e i = let b = sym (room rows ws c t s x i) ∙ z in rw b (refused_filled list_too_short vs list)
 
     module _ (z : has ≡ true) {env list₁ : List ℕ} {bytes : ℕ} (f : EntriesOk (who_of role) own words (n - 1) env 0 (path_of 0) list list₁ bytes) (found : Found) (v : ValueOk own words (n - 1) found)
-        (long : length found.value.leaves ≡ max_leaves) where
-      pub show_0 : {vs₁ : List ℤ} {valued failed : ℕ} {b : Bool} → FailsOk own words (n - 1) bytes b → failed ≡ flag b → valued ≡ flag found.has → vs₁ ≡ laid (to_z w32) found.value.leaves vs
+        (long : length (unwrap_or found no_value).leaves ≡ max_leaves) where
+      pub show_0 : {vs₁ : List ℤ} {valued failed : ℕ} {b : Bool} → FailsOk own words (n - 1) bytes b → failed ≡ flag b → valued ≡ flag (is_some found) → vs₁ ≡ laid (to_z w32) (unwrap_or found no_value).leaves vs
           → ShowOk own words n role vs list (record { number = 0; valued = valued; fails = failed; bytes = bytes }) vs₁ list₁
       unfolding look_rest
       show_0 {b = b} fb p q u rows ws c t s x e i =
@@ -140,10 +140,10 @@ module _ (role : ℕ) (own words : List ℕ) (n : ℕ) where
           let g = leb-true (length (entries (is role) c [] s t) * entry_bytes) (length list) o in
           rw o (record {
             number = refl;
-            has_value = q ∙ ap (λ r. flag r.has) d ∙ value_flag (value c t s);
+            has_value = q ∙ ap (λ r. flag (is_some r)) d ∙ value_flag (value c t s);
             fails = p ∙ ap flag (fails_is f x i b fb);
             bytes = y.count;
-            value = u ∙ laid_all found.value.leaves vs (long ∙ sym e) ∙ ap (λ r. map (to_z w32) r.value.leaves) d ∙ value_back (value c t s) (value_type x.writes.typed x.writes.stored);
+            value = u ∙ laid_all (unwrap_or found no_value).leaves vs (long ∙ sym e) ∙ ap (λ r. map (to_z w32) (unwrap_or r no_value).leaves) d ∙ value_back (value c t s) (value_type x.writes.typed x.writes.stored);
             list = y.fits (omega (arith, l, g));
           })
 

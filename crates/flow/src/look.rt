@@ -102,8 +102,8 @@ fn show(
     let bytes = entries(own, words, n - 1, &none, 0, role, 0, 1, list);
     let found = running::value(own, words, n - 1);
     let failed = flag(fails(own, words, n - 1, bytes));
-    let has_value = flag(found.has);
-    value_out(found.value, value);
+    let has_value = flag(found.is_some());
+    value_out(found.unwrap_or(NO_VALUE), value);
     Looked {
         number: 0,
         valued: has_value,

@@ -23,8 +23,9 @@ use Rattle.tophat.proofs.Preservation.{option_is, value_type}
 use Rattle.rows.specs.GroundNumbers.{not_handled}
 use Rattle.rows.specs.Kinds.{task_k, then_k, next_k, and_k, or_k, number_of}
 use Rattle.rows.specs.Rows.{word, op_a, op_b, OfKind, FromKind, UpToKind}
-use Rattle.value.specs.declared.Found.{Found}
-use Rattle.value.specs.Found.{as_found, none_found}
+use Rattle.std.specs.Prelude.{Some, None}
+use Rattle.value.specs.declared.Value.{Value}
+use Rattle.value.specs.Found.{Found, as_found}
 use Rattle.value.proofs.Meaning.{found_none, found_some}
 use Rattle.state.specs.Holds.{tree_of, Holds, Ran}
 use Rattle.state.specs.Ensured.{ValueOk, Handled, HandleOk}
@@ -62,17 +63,17 @@ module _ {X : Type 0} (F : Val → Option X) (G : Unit {0} → Option X) where
 
 -- going_on, way by way
 module _ (rs ws : List ℕ) (i : ℕ) (e : Event) where
-  pub going_none : (e.path ≡ 0 → e.action ≡ continue_number → ⊥) → GoingOk rs ws i e none_found
+  pub going_none : (e.path ≡ 0 → e.action ≡ continue_number → ⊥) → GoingOk rs ws i e None
   unfolding going_on as_found
   going_none h d c z Σ Γ τ s t y st gs gb g w = by (ℕ_discrete e.path 0)
     where
-      at_end : e.path ≡ 0 → (x : Action) → event_action e ≡ x → none_found ≡ as_found (going_on (event_path e) (event_action e) (value c t s))
+      at_end : e.path ≡ 0 → (x : Action) → event_action e ≡ x → None ≡ as_found (going_on (event_path e) (event_action e) (value c t s))
       at_end p (give ls) q = rw (path_0 e.path p, q)
       at_end p (press continue) q = absurd (h p (continue_is e.action (leaves_by e.leaves e.blank) q))
       at_end p (press left) q = rw (path_0 e.path p, q)
       at_end p (press right) q = rw (path_0 e.path p, q)
 
-      by : Dec (e.path ≡ 0) → none_found ≡ as_found (going_on (event_path e) (event_action e) (value c t s))
+      by : Dec (e.path ≡ 0) → None ≡ as_found (going_on (event_path e) (event_action e) (value c t s))
       by (yes p) = at_end p (event_action e) refl
       by (no n) = rw (some_marks e.path n)
 
@@ -132,7 +133,7 @@ module _ (rs ws ws₁ : List ℕ) (i : ℕ) (env : List ℕ) (d r : ℕ) where
     within a b ρ s t u = map_task before (handle a ρ s t (event_path e) (event_action e))
 
     -- 44: what does not go on is passed on
-    pub handle_next : f.has ≡ false → HandleOk rs ws ws₁ a env d e.role (event_path e) (event_action e) r → HandleOk rs ws ws₁ i env d e.role (event_path e) (event_action e) r
+    pub handle_next : f ≡ None → HandleOk rs ws ws₁ a env d e.role (event_path e) (event_action e) r → HandleOk rs ws ws₁ i env d e.role (event_path e) (event_action e) r
     unfolding handle
     handle_next n h c k Σ Γ τ s ρ t y w g =
         let l = subst (λ a. HandleOk rs ws ws₁ a env d e.role (event_path e) (event_action e) r) ea h in
@@ -149,7 +150,7 @@ module _ (rs ws ws₁ : List ℕ) (i : ℕ) (env : List ℕ) (d r : ℕ) where
     attempted q m a b v u s true h = (m ∙ ap answer_of h.0, h.1)
     attempted q m a b v u s false h = (m ∙ ap answer_of h.0 ∙ sym (verdict_none e.role), ran_next h.1)
 
-    pub handle_continue : (q : Bool) → r ≡ answer_of q → f.has ≡ true → AttemptOk rs ws ws₁ i env d f.value q → HandleOk rs ws ws₁ i env d e.role (event_path e) (event_action e) r
+    pub handle_continue : {x : Value} (q : Bool) → r ≡ answer_of q → f ≡ Some x → AttemptOk rs ws ws₁ i env d x q → HandleOk rs ws ws₁ i env d e.role (event_path e) (event_action e) r
     unfolding handle
     handle_continue b₀ m₀ n h c k Σ Γ τ s ρ t y w g =
         on_next_before rs ws d i Σ Γ (λ c t τ. Handled rs ws ws₁ i env d c e.role r (handle c ρ s t (event_path e) (event_action e))) z q

@@ -16,8 +16,7 @@ use Rattle.rows.specs.GroundNumbers.{not_handled}
 use Rattle.rows.specs.Kinds.{task_k, gate_k}
 use Rattle.rows.specs.Rows.{OfKind, op_a}
 use Rattle.shape.specs.Shape.{as_type}
-use Rattle.value.specs.declared.Found.{Found}
-use Rattle.value.specs.Found.{as_found}
+use Rattle.value.specs.Found.{Found, as_found}
 use Rattle.state.specs.Layout.{at, own, value_words, touch_words}
 use Rattle.state.specs.Holds.{tree_of, Sits, Clear, Holds, Stores, World, Ran}
 use Rattle.state.specs.Words.{Laid}

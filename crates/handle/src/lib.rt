@@ -26,7 +26,7 @@ use state::{
 };
 use tophat::{CONTINUE, GIVE, LEFT, MAX_LEAVES, RIGHT};
 use typing::{Binders, row_type};
-use value::{Found, Value, fits, none};
+use value::{Value, fits};
 
 // An event: a role (CR 6), a path as one number (crate decimal), an action's number, and leaves; a blank leaf's bits are 0.
 #[derive(Clone, Copy)]
@@ -109,12 +109,17 @@ fn edit(rows: &[u32; ROWS_WORDS], state: &mut [u32; STATE_SIZE], row: usize, e: 
 }
 
 // The value of the task at the row, if the event is Continue at the path's end.
-fn going_on(rows: &[u32; ROWS_WORDS], state: &[u32; STATE_SIZE], row: usize, e: Event) -> Found
+fn going_on(
+    rows: &[u32; ROWS_WORDS],
+    state: &[u32; STATE_SIZE],
+    row: usize,
+    e: Event,
+) -> Option<Value>
     requires { Fine rows.now row 0 }
     ensures { GoingOk rows.now state.now row e result }
 {
     if !ends(e, CONTINUE) {
-        return none();
+        return None;
     }
     value(rows, state, row)
 }
@@ -254,9 +259,8 @@ pub fn handle(
         40..=42 => answer(edit(rows, state, row, e)),
         43 => handle(rows, state, a, env, depth, e),
         44 => {
-            let found = going_on(rows, state, a, e);
-            if found.has {
-                return answer(attempt(rows, state, row, env, depth, found.value));
+            if let Some(v) = going_on(rows, state, a, e) {
+                return answer(attempt(rows, state, row, env, depth, v));
             }
             handle(rows, state, a, env, depth, e)
         }

@@ -14,9 +14,11 @@ use Rattle.tophat.proofs.ComputeNormalising.{go_on, go_on_with, choose_right, ch
 use Rattle.tophat.proofs.Preservation.{value_type, option_is, stride_kept}
 use Rattle.rows.specs.Kinds.{task_k, then_k, next_k, and_k, or_k}
 use Rattle.rows.specs.Rows.{op_a, op_b, OfKind}
-use Rattle.value.specs.declared.Found.{Found}
-use Rattle.value.specs.Found.{as_found}
-use Rattle.value.proofs.Meaning.{found_none, found_some}
+use Rattle.std.specs.Prelude.{Some, None}
+use Rattle.std.specs.Option.{is_some}
+use Rattle.value.specs.declared.Value.{Value}
+use Rattle.value.specs.Found.{Found, as_found}
+use Rattle.value.proofs.Meaning.{found_none, found_some, found_not, found_one}
 use Rattle.state.specs.Layout.{own, one, other}
 use Rattle.state.specs.Holds.{tree_of, fork, Sits, Row, Holds, Stores, Same, World, Ran}
 use Rattle.state.specs.Words.{Laid}
@@ -86,7 +88,7 @@ module _ (rs ws ws₁ : List ℕ) (i : ℕ) (env : List ℕ) (d : ℕ) (z : Unha
     left_value = subst (λ a. ValueOk rs ws₁ a f) ea hv
 
     -- 43: without a value the step waits
-    pub step_waits : OfKind rs i (task_k then_k) → f.has ≡ false → StrideOk rs ws ws₁ i env d m
+    pub step_waits : OfKind rs i (task_k then_k) → f ≡ None → StrideOk rs ws ws₁ i env d m
     unfolding stride go_on_with
     step_waits q n c k Σ Γ τ s ρ t y w g =
         on_then_before rs ws d i Σ Γ (λ c t τ. Strides rs ws ws₁ i m ρ s c t) z q
@@ -109,7 +111,7 @@ module _ (rs ws ws₁ : List ℕ) (i : ℕ) (env : List ℕ) (d : ℕ) (z : Unha
           let o = h.1 in
           (record { holds = o.holds; stores = o.stores; same = same_trans (same_weak p.kids.up_a n.same) o.same }, er ∙ ap (λ u. u || m) h.0)
 
-      pub step_tries : OfKind rs i (task_k then_k) → f.has ≡ true → AttemptOk rs ws₁ ws₂ i env d f.value u → StrideOk rs ws ws₂ i env d r
+      pub step_tries : {x : Value} → OfKind rs i (task_k then_k) → f ≡ Some x → AttemptOk rs ws₁ ws₂ i env d x u → StrideOk rs ws ws₂ i env d r
       unfolding stride go_on_with
       step_tries q n hu c k Σ Γ τ s ρ t y w g =
           on_then_before rs ws d i Σ Γ (λ c t τ. Strides rs ws ws₂ i r ρ s c t) z q
@@ -127,14 +129,14 @@ module _ (rs ws ws₁ : List ℕ) (i : ℕ) (env : List ℕ) (d : ℕ) (z : Unha
           c k τ t y g
 
     -- 47: the left, strided, has a value: it replaces the choice
-    pub choose_left_lem : (ws₂ ws₃ : List ℕ) (b : ℕ) → OfKind rs i (task_k or_k) → f.has ≡ true → b ≡ op_b rs i → ClearOk rs ws₁ ws₂ b → Laid ws₂ ws₃ i (one ∷ []) → StrideOk rs ws ws₃ i env d true
+    pub choose_left_lem : (ws₂ ws₃ : List ℕ) (b : ℕ) → OfKind rs i (task_k or_k) → is_some f ≡ true → b ≡ op_b rs i → ClearOk rs ws₁ ws₂ b → Laid ws₂ ws₃ i (one ∷ []) → StrideOk rs ws ws₃ i env d true
     unfolding stride choose_left
     choose_left_lem ws₂ ws₃ b₀ q n eb hc l c k Σ Γ τ s ρ t y w g =
         on_either rs ws d i Σ Γ (λ c t τ. Strides rs ws ws₃ i true ρ s c t) z q
         (λ a b t u σ k g y x.
         let p = strode left k.1 y w g.1 in
         let r = stride a ρ s t in
-        let h = found_some (value a r.0 r.1) (valued left_value k.1 p) n in
+        let h = found_one (value a r.0 r.1) (valued left_value k.1 p) n in
         let o = kids_or rs d i a b k in
         let e = subst (λ b. ClearOk rs ws₁ ws₂ b) eb hc d b k.2 in
         subst (λ v. Gives rs ws ws₃ i true (or a b) (choose_left v r.0 u r.1 r.2 (λ s u. stride b ρ s u) (λ u s. value b u s))) (sym h.1) (
@@ -192,9 +194,9 @@ module _ (rs ws ws₁ ws₂ : List ℕ) (i : ℕ) (env : List ℕ) (d : ℕ) (a 
       c k τ t y g
 
   -- 47: the left has no value
-  module _ (z : Unhanded rs ws i) (f f₁ : Found) (hv : ValueOk rs ws₁ a f) (hw : ValueOk rs ws₂ b f₁) (q : OfKind rs i (task_k or_k)) (x₀ : f.has ≡ false) where
+  module _ (z : Unhanded rs ws i) (f f₁ : Found) (hv : ValueOk rs ws₁ a f) (hw : ValueOk rs ws₂ b f₁) (q : OfKind rs i (task_k or_k)) (x₀ : is_some f ≡ false) where
     -- nor has the right
-    pub choose_none : (r : Bool) → f₁.has ≡ false → r ≡ (m || n) → StrideOk rs ws ws₂ i env d r
+    pub choose_none : (r : Bool) → is_some f₁ ≡ false → r ≡ (m || n) → StrideOk rs ws ws₂ i env d r
     unfolding stride choose_left choose_right
     choose_none r x₁ e c k Σ Γ τ s ρ t y w g =
         on_either rs ws d i Σ Γ (λ c t τ. Strides rs ws ws₂ i r ρ s c t) z q
@@ -202,15 +204,15 @@ module _ (rs ws ws₁ ws₂ : List ℕ) (i : ℕ) (env : List ℕ) (d : ℕ) (a 
         let p = two (kids_or rs d i a b k) k.1 k.2 y x w g.0 g.1 g.2 in
         let l = stride a ρ s t in
         let o = stride b ρ l.1 u in
-        let v = found_none (value a l.0 l.1) (valued (subst (λ a. ValueOk rs ws₁ a f) ea hv) k.1 p.left) x₀ in
-        let v₁ = found_none (value b o.0 o.1) (valued (subst (λ b. ValueOk rs ws₂ b f₁) eb hw) k.2 p.right) x₁ in
+        let v = found_not (value a l.0 l.1) (valued (subst (λ a. ValueOk rs ws₁ a f) ea hv) k.1 p.left) x₀ in
+        let v₁ = found_not (value b o.0 o.1) (valued (subst (λ b. ValueOk rs ws₂ b f₁) eb hw) k.2 p.right) x₁ in
         subst (λ v. Gives rs ws ws₂ i r (or a b) (choose_left v l.0 u l.1 l.2 (λ s u. stride b ρ s u) (λ u s. value b u s))) (sym v)
         (subst (λ v. Gives rs ws ws₂ i r (or a b) (choose_right v l.0 o.0 o.1 (l.2 || o.2))) (sym v₁)
         (record { holds = (p.row, p.holds, p.right.ran.holds); stores = p.right.ran.stores; same = p.same }, e ∙ ap₂ ◌||◌ p.left.flag p.right.flag)))
         c k τ t y g
 
     -- the right has: it replaces the choice
-    pub choose_right_lem : (ws₃ ws₄ : List ℕ) → f₁.has ≡ true → ClearOk rs ws₂ ws₃ a → Laid ws₃ ws₄ i (other ∷ []) → StrideOk rs ws ws₄ i env d true
+    pub choose_right_lem : (ws₃ ws₄ : List ℕ) → is_some f₁ ≡ true → ClearOk rs ws₂ ws₃ a → Laid ws₃ ws₄ i (other ∷ []) → StrideOk rs ws ws₄ i env d true
     unfolding stride choose_left choose_right
     choose_right_lem ws₃ ws₄ x₁ hc l c k Σ Γ τ s ρ t y w g =
         on_either rs ws d i Σ Γ (λ c t τ. Strides rs ws ws₄ i true ρ s c t) z q
@@ -219,8 +221,8 @@ module _ (rs ws ws₁ ws₂ : List ℕ) (i : ℕ) (env : List ℕ) (d : ℕ) (a 
         let p = two o k.1 k.2 y x w g.0 g.1 g.2 in
         let r = stride a ρ s t in
         let r₁ = stride b ρ r.1 u in
-        let v = found_none (value a r.0 r.1) (valued (subst (λ a. ValueOk rs ws₁ a f) ea hv) k.1 p.left) x₀ in
-        let h = found_some (value b r₁.0 r₁.1) (valued (subst (λ b. ValueOk rs ws₂ b f₁) eb hw) k.2 p.right) x₁ in
+        let v = found_not (value a r.0 r.1) (valued (subst (λ a. ValueOk rs ws₁ a f) ea hv) k.1 p.left) x₀ in
+        let h = found_one (value b r₁.0 r₁.1) (valued (subst (λ b. ValueOk rs ws₂ b f₁) eb hw) k.2 p.right) x₁ in
         let e = subst (λ a. ClearOk rs ws₂ ws₃ a) ea hc d a k.1 in
         subst (λ v. Gives rs ws ws₄ i true (or a b) (choose_left v r.0 u r.1 r.2 (λ s u. stride b ρ s u) (λ u s. value b u s))) (sym v)
         (subst (λ v. Gives rs ws ws₄ i true (or a b) (choose_right v r.0 r₁.0 r₁.1 (r.2 || r₁.2))) (sym h.1) (

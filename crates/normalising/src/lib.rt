@@ -137,11 +137,10 @@ pub fn stride(
         43 => {
             let a = operand(rows, row, 1);
             let moved = stride(rows, state, a, env, depth);
-            let found = value(rows, state, a);
-            if !found.has {
+            let Some(v) = value(rows, state, a) else {
                 return moved;
-            }
-            attempt(rows, state, row, env, depth, found.value) || moved
+            };
+            attempt(rows, state, row, env, depth, v) || moved
         }
         44 => stride(rows, state, operand(rows, row, 1), env, depth),
         46 => {
@@ -169,15 +168,13 @@ fn choose(
     let a = operand(rows, row, 1);
     let b = operand(rows, row, 2);
     let left = stride(rows, state, a, env, depth);
-    let first = value(rows, state, a);
-    if first.has {
+    if value(rows, state, a).is_some() {
         clear(rows, state, b);
         put_tag(state, row, ONE);
         return true;
     }
     let right = stride(rows, state, b, env, depth);
-    let second = value(rows, state, b);
-    if second.has {
+    if value(rows, state, b).is_some() {
         clear(rows, state, a);
         put_tag(state, row, OTHER);
         return true;

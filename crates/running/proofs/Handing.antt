@@ -17,8 +17,7 @@ use Rattle.tophat.proofs.ComputeHandling.{Taken, handle, map_task}
 use Rattle.rows.specs.Kinds.{task_k, gate_k, number_of}
 use Rattle.rows.specs.Rows.{word, LowWords}
 use Rattle.rows.specs.Enclosing.{max_binders}
-use Rattle.value.specs.declared.Found.{Found}
-use Rattle.value.specs.Found.{as_found}
+use Rattle.value.specs.Found.{Found, as_found}
 use Rattle.state.specs.Layout.{at}
 use Rattle.state.specs.Holds.{Sits, Binders, World, Ran}
 use Rattle.state.specs.Ensured.{Fine, ValueOk, FailingOk, StrideOk, Handled, HandleOk}

@@ -16,9 +16,9 @@ use Rattle.tophat.proofs.TypeLeaves.{at_leaves, type_leaves}
 use Rattle.rows.specs.Kinds.{task_k, enter_k, update_k, and_k, or_k}
 use Rattle.rows.specs.Rows.{word, OfKind}
 use Rattle.value.specs.declared.Value.{Value}
-use Rattle.value.specs.declared.Found.{Found}
-use Rattle.value.specs.Values as values
-use Rattle.value.specs.Found.{as_found, some_found, none_found, both_found}
+use Rattle.std.specs.Prelude.{Some, None}
+use Rattle.std.specs.Option.{is_some}
+use Rattle.value.specs.Found.{Found, as_found, both_found}
 use Rattle.value.proofs.Meaning.{pair_value_lem}
 use Rattle.value.proofs.Operators.{differ}
 use Rattle.state.specs.Layout.{at, one}
@@ -35,28 +35,17 @@ unfolding as_found pair_of leaves
 both_found_lem o_none k l = refl
 both_found_lem (o_some h) o_none l = refl
 both_found_lem (o_some {v} h) (o_some {v = w} k) l =
-    ap some_found (pair_value_lem v w (subst (λ n. n ≤ max_leaves) (sym (ap₂ (λ τ υ. leaves τ + leaves υ) (type_of_lem h) (type_of_lem k))) l))
+    ap Some (pair_value_lem v w (subst (λ n. n ≤ max_leaves) (sym (ap₂ (λ τ υ. leaves τ + leaves υ) (type_of_lem h) (type_of_lem k))) l))
 
-first_found : (o p : Option Val) → (as_found o).has ≡ true → as_found o ≡ as_found (first_of o p)
+first_found : (o p : Option Val) → is_some (as_found o) ≡ true → as_found o ≡ as_found (first_of o p)
 unfolding as_found first_of
 first_found none p h = differ (sym h)
 first_found (some v) p h = refl
 
-else_found : (o p : Option Val) → (as_found o).has ≡ false → as_found p ≡ as_found (first_of o p)
+else_found : (o p : Option Val) → is_some (as_found o) ≡ false → as_found p ≡ as_found (first_of o p)
 unfolding as_found first_of
 else_found none p h = refl
 else_found (some v) p h = differ h
-
--- what `both` returns, way by way
-module _ (x y : Found) where
-  pub both_two : {v : Value} {r : Found} → x.has ≡ true → y.has ≡ true → v ≡ values.pair_value x.value y.value → r ≡ some_found v → r ≡ both_found x y
-  both_two e f p q = q ∙ ap some_found p ∙ sym (rw (e, f))
-
-  pub both_none_right : {r : Found} → x.has ≡ true → y.has ≡ false → r ≡ none_found → r ≡ both_found x y
-  both_none_right e f q = q ∙ sym (rw (e, f))
-
-  pub both_none_left : {r : Found} → x.has ≡ false → r ≡ none_found → r ≡ both_found x y
-  both_none_left e q = q ∙ sym (rw e)
 
 -- ---- the arms
 
@@ -65,24 +54,24 @@ module _ (rs ws : List ℕ) (i : ℕ) where
   Is r s c t τ = r ≡ as_found (value c t s)
 
   -- 40 and 49
-  pub value_content : (v : Value) → OfContent rs i → v ≡ value_at ws i → ValueOk rs ws i (some_found v)
+  pub value_content : (v : Value) → OfContent rs i → v ≡ value_at ws i → ValueOk rs ws i (Some v)
   unfolding value as_found
-  value_content v (inl q) e d c z Σ Γ τ s t y st gs gb h w = on_filled rs ws d i Σ Γ (Is (some_found v) s) q (λ x v τ z r y k. ap some_found (e ∙ value_at_lem r k (type_leaves y gs gb))) c z τ t y h
-  value_content v (inr q) e d c z Σ Γ τ s t y st gs gb h w = on_viewed rs ws d i Σ Γ (Is (some_found v) s) q (λ x v τ z r y k. ap some_found (e ∙ value_at_lem r k (type_leaves y gs gb))) c z τ t y h
+  value_content v (inl q) e d c z Σ Γ τ s t y st gs gb h w = on_filled rs ws d i Σ Γ (Is (Some v) s) q (λ x v τ z r y k. ap Some (e ∙ value_at_lem r k (type_leaves y gs gb))) c z τ t y h
+  value_content v (inr q) e d c z Σ Γ τ s t y st gs gb h w = on_viewed rs ws d i Σ Γ (Is (Some v) s) q (λ x v τ z r y k. ap Some (e ∙ value_at_lem r k (type_leaves y gs gb))) c z τ t y h
 
-  pub value_entered : (v : Value) → OfKind rs i (task_k enter_k) → at ws i 0 ≡ one → v ≡ value_at ws i → ValueOk rs ws i (some_found v)
+  pub value_entered : (v : Value) → OfKind rs i (task_k enter_k) → at ws i 0 ≡ one → v ≡ value_at ws i → ValueOk rs ws i (Some v)
   unfolding value as_found
-  value_entered v q x e d c z Σ Γ τ s t y st gs gb h w = on_entered rs ws d i Σ Γ (Is (some_found v) s) q x (λ v τ z r l k. ap some_found (e ∙ value_at_lem r k l)) c z τ t y h
+  value_entered v q x e d c z Σ Γ τ s t y st gs gb h w = on_entered rs ws d i Σ Γ (Is (Some v) s) q x (λ v τ z r l k. ap Some (e ∙ value_at_lem r k l)) c z τ t y h
 
-  pub value_blank : OfKind rs i (task_k enter_k) → (at ws i 0 ≡ one → ⊥) → ValueOk rs ws i none_found
+  pub value_blank : OfKind rs i (task_k enter_k) → (at ws i 0 ≡ one → ⊥) → ValueOk rs ws i None
   unfolding value as_found
-  value_blank q x d c z Σ Γ τ s t y st gs gb h w = on_blank rs ws d i Σ Γ (Is none_found s) q x (λ τ z r l. refl) c z τ t y h
+  value_blank q x d c z Σ Γ τ s t y st gs gb h w = on_blank rs ws d i Σ Γ (Is None s) q x (λ τ z r l. refl) c z τ t y h
 
-  pub value_shared : (a : ℕ) (v : Value) → OfKind rs i (task_k update_k) → a ≡ word rs i 1 → v ≡ value_at ws a → ValueOk rs ws i (some_found v)
+  pub value_shared : (a : ℕ) (v : Value) → OfKind rs i (task_k update_k) → a ≡ word rs i 1 → v ≡ value_at ws a → ValueOk rs ws i (Some v)
   unfolding value as_found
   value_shared a v q ea e d c z Σ Γ τ s t y st gs gb h w =
-      on_shared rs ws d i Σ Γ (Is (some_found v) s) q
-      (λ k τ z r y. ap some_found (e ∙ ap (value_at ws) (ea ∙ z.1) ∙ value_at_lem (w.cells k z.2) (look_up st y).1 (at_leaves y gs))) c z τ t y h
+      on_shared rs ws d i Σ Γ (Is (Some v) s) q
+      (λ k τ z r y. ap Some (e ∙ ap (value_at ws) (ea ∙ z.1) ∙ value_at_lem (w.cells k z.2) (look_up st y).1 (at_leaves y gs))) c z τ t y h
 
   -- of parts at rows a and b
   module _ (a : ℕ) (ea : a ≡ word rs i 1) where
@@ -103,35 +92,35 @@ module _ (rs ws : List ℕ) (i : ℕ) where
         c z τ t n h
 
     module _ (u : Unhanded rs ws i) (q : OfKind rs i (task_k or_k)) (x : Found) (f : ValueOk rs ws a x) where
-      pub value_first : x.has ≡ true → ValueOk rs ws i x
+      pub value_first : is_some x ≡ true → ValueOk rs ws i x
       unfolding value
       value_first e d c z Σ Γ τ s t n st gs gb h w =
           on_either rs ws d i Σ Γ (Is x s) u q
-          (λ a₁ b₁ t v τ z h m k. let p = left_at x f d a₁ z.1 Σ Γ τ s t m st gs gb h.1 w in p ∙ first_found (value a₁ t s) (value b₁ v s) (sym (ap (λ x. x.has) p) ∙ e))
+          (λ a₁ b₁ t v τ z h m k. let p = left_at x f d a₁ z.1 Σ Γ τ s t m st gs gb h.1 w in p ∙ first_found (value a₁ t s) (value b₁ v s) (sym (ap is_some p) ∙ e))
           c z τ t n h
 
-      pub value_else : (b : ℕ) (y : Found) → b ≡ word rs i 2 → x.has ≡ false → ValueOk rs ws b y → ValueOk rs ws i y
+      pub value_else : (b : ℕ) (y : Found) → b ≡ word rs i 2 → is_some x ≡ false → ValueOk rs ws b y → ValueOk rs ws i y
       unfolding value
       value_else b y eb e g d c z Σ Γ τ s t n st gs gb h w =
           on_either rs ws d i Σ Γ (Is y s) u q
           (λ a₁ b₁ t v τ z h m k.
           let p = left_at x f d a₁ z.1 Σ Γ τ s t m st gs gb h.1 w in
-          right_at eb y g d b₁ z.2 Σ Γ τ s v k st gs gb h.2 w ∙ else_found (value a₁ t s) (value b₁ v s) (sym (ap (λ x. x.has) p) ∙ e))
+          right_at eb y g d b₁ z.2 Σ Γ τ s v k st gs gb h.2 w ∙ else_found (value a₁ t s) (value b₁ v s) (sym (ap is_some p) ∙ e))
           c z τ t n h
 
   -- any other row that does not hand on
-  pub value_none : Unhanded rs ws i → (OfContent rs i → ⊥) → (OfKind rs i (task_k enter_k) → ⊥) → (OfKind rs i (task_k update_k) → ⊥) → (OfKind rs i (task_k and_k) → ⊥) → (OfKind rs i (task_k or_k) → ⊥) → ValueOk rs ws i none_found
+  pub value_none : Unhanded rs ws i → (OfContent rs i → ⊥) → (OfKind rs i (task_k enter_k) → ⊥) → (OfKind rs i (task_k update_k) → ⊥) → (OfKind rs i (task_k and_k) → ⊥) → (OfKind rs i (task_k or_k) → ⊥) → ValueOk rs ws i None
   unfolding value as_found
   value_none u x₀ x₁ x₂ x₆ x₇ d (edit e) z Σ Γ τ s t y st gs gb h w = absurd (x₀ (inl z.0))
   value_none u x₀ x₁ x₂ x₆ x₇ d (enter υ) z Σ Γ τ s t y st gs gb h w = absurd (x₁ z.0)
   value_none u x₀ x₁ x₂ x₆ x₇ d (update k) z Σ Γ τ s t y st gs gb h w = absurd (x₂ z.0)
-  value_none u x₀ x₁ x₂ x₆ x₇ d (then a b) z Σ Γ τ s t y st gs gb h w = on_then_before rs ws d i Σ Γ (Is none_found s) u z.0 (λ a b t τ υ z h y e. refl) (then a b) z τ t y h
-  value_none u x₀ x₁ x₂ x₆ x₇ d (next a b) z Σ Γ τ s t y st gs gb h w = on_next_before rs ws d i Σ Γ (Is none_found s) u z.0 (λ a b t τ υ z h y e. refl) (next a b) z τ t y h
+  value_none u x₀ x₁ x₂ x₆ x₇ d (then a b) z Σ Γ τ s t y st gs gb h w = on_then_before rs ws d i Σ Γ (Is None s) u z.0 (λ a b t τ υ z h y e. refl) (then a b) z τ t y h
+  value_none u x₀ x₁ x₂ x₆ x₇ d (next a b) z Σ Γ τ s t y st gs gb h w = on_next_before rs ws d i Σ Γ (Is None s) u z.0 (λ a b t τ υ z h y e. refl) (next a b) z τ t y h
   value_none u x₀ x₁ x₂ x₆ x₇ d (fail υ) z Σ Γ τ s t y st gs gb h w = refl
   value_none u x₀ x₁ x₂ x₆ x₇ d (and a b) z Σ Γ τ s t y st gs gb h w = absurd (x₆ z.0)
   value_none u x₀ x₁ x₂ x₆ x₇ d (or a b) z Σ Γ τ s t y st gs gb h w = absurd (x₇ z.0)
-  value_none u x₀ x₁ x₂ x₆ x₇ d (xor a b) z Σ Γ τ s t y st gs gb h w = on_unpicked rs ws d i Σ Γ (Is none_found s) u z.0 (λ a b τ z h y e. refl) (xor a b) z τ t y h
+  value_none u x₀ x₁ x₂ x₆ x₇ d (xor a b) z Σ Γ τ s t y st gs gb h w = on_unpicked rs ws d i Σ Γ (Is None s) u z.0 (λ a b τ z h y e. refl) (xor a b) z τ t y h
   value_none u x₀ x₁ x₂ x₆ x₇ d (view e) z Σ Γ τ s t y st gs gb h w = absurd (x₀ (inr z.0))
-  value_none u x₀ x₁ x₂ x₆ x₇ d (gate r n b) z Σ Γ τ s t y st gs gb h w = on_no_gate rs ws d i Σ Γ (Is none_found s) u z.0 (gate r n b) z τ t y h
-  value_none u x₀ x₁ x₂ x₆ x₇ d (if e a b) z Σ Γ τ s t y st gs gb h w = on_no_if rs ws d i Σ Γ (Is none_found s) u z.0 (if e a b) z τ t y h
-  value_none u x₀ x₁ x₂ x₆ x₇ d (let' e b) z Σ Γ τ s t y st gs gb h w = on_no_let rs ws d i Σ Γ (Is none_found s) u z.0 (let' e b) z τ t y h
+  value_none u x₀ x₁ x₂ x₆ x₇ d (gate r n b) z Σ Γ τ s t y st gs gb h w = on_no_gate rs ws d i Σ Γ (Is None s) u z.0 (gate r n b) z τ t y h
+  value_none u x₀ x₁ x₂ x₆ x₇ d (if e a b) z Σ Γ τ s t y st gs gb h w = on_no_if rs ws d i Σ Γ (Is None s) u z.0 (if e a b) z τ t y h
+  value_none u x₀ x₁ x₂ x₆ x₇ d (let' e b) z Σ Γ τ s t y st gs gb h w = on_no_let rs ws d i Σ Γ (Is None s) u z.0 (let' e b) z τ t y h

@@ -16,7 +16,7 @@ use rows::{MAX_BINDERS, ROWS_WORDS, get, operand};
 use state::{
     ENV_WORDS, ONE, OTHER, OWN, STATE_SIZE, push, put_tag, put_touches, put_value, read, read_value,
 };
-use value::{Found, is_true, none, pair, some};
+use value::{Value, is_true, pair};
 
 // The operand that names the row which the row hands on to, or 0.
 pub fn handed_on(rows: &[u32; ROWS_WORDS], state: &[u32; STATE_SIZE], row: usize) -> usize
@@ -75,22 +75,14 @@ pub fn enclose(
 }
 
 // The pair of two values, where both are there.
-fn both(x: Found, y: Found) -> Found
+fn both(x: Option<Value>, y: Option<Value>) -> Option<Value>
     ensures { result ≡ both_found x y }
 {
-    if x.has {
-        if y.has {
-            let v = x.value;
-            let w = y.value;
-            return some(pair(v, w));
-        }
-        return none();
-    }
-    none()
+    Some(pair(x?, y?))
 }
 
 // The value of the task at the row.
-pub fn value(rows: &[u32; ROWS_WORDS], state: &[u32; STATE_SIZE], row: usize) -> Found
+pub fn value(rows: &[u32; ROWS_WORDS], state: &[u32; STATE_SIZE], row: usize) -> Option<Value>
     requires { Fine rows.now row 0 }
     ensures { ValueOk rows.now state.now row result }
 {
@@ -100,16 +92,16 @@ pub fn value(rows: &[u32; ROWS_WORDS], state: &[u32; STATE_SIZE], row: usize) ->
     }
     let kind = get(rows, row, 0);
     match kind {
-        40 | 49 => some(read_value(state, row)),
+        40 | 49 => Some(read_value(state, row)),
         41 => {
             if read(state, row, 0) == ONE {
-                return some(read_value(state, row));
+                return Some(read_value(state, row));
             }
-            none()
+            None
         }
         42 => {
             let cell = operand(rows, row, 1);
-            some(read_value(state, cell))
+            Some(read_value(state, cell))
         }
         46 => {
             let x = value(rows, state, operand(rows, row, 1));
@@ -118,12 +110,12 @@ pub fn value(rows: &[u32; ROWS_WORDS], state: &[u32; STATE_SIZE], row: usize) ->
         }
         47 => {
             let left = value(rows, state, operand(rows, row, 1));
-            if left.has {
+            if left.is_some() {
                 return left;
             }
             value(rows, state, operand(rows, row, 2))
         }
-        _ => none(),
+        _ => None,
     }
 }
 

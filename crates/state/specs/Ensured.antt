@@ -16,9 +16,8 @@ use Rattle.rows.specs.GroundNumbers.{not_handled}
 use Rattle.rows.specs.Rows.{max_rows, LowWords}
 use Rattle.rows.specs.Enclosing.{max_binders}
 use Rattle.value.specs.declared.Evaluation.{Evaluation}
-use Rattle.value.specs.declared.Found.{Found}
 use Rattle.value.specs.Values.{as_value}
-use Rattle.value.specs.Found.{as_found}
+use Rattle.value.specs.Found.{Found, as_found}
 use Rattle.state.specs.Holds.{SitsExp, Sits, tree_of, Foot, Clear, Holds, Cell, Stores, Same, World, Ran}
 
 -- ---- what safety asks: a row, at most 16 binders, and operands that are lower

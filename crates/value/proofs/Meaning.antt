@@ -6,6 +6,9 @@ use mathlib.Core.Option.{Option, none, some, bind}
 use mathlib.Core.List.{List, [], ◌∷◌, ◌++◌, map}
 use Prim.Native.Nat.{ℕ, zero, suc, ◌+◌, ◌-◌, ◌≤◌}
 use native.Mathlib.Omega.{arith}
+use Rattle.std.specs.Prelude.{Some, None}
+use Rattle.std.specs.Option.{is_some}
+use Rattle.std.proofs.lemmas.Option.{none-some, same_Some}
 use lib.Dec.{ltb, lit<}
 use lib.IntN.{pos}
 use lib.ListN.{length, get_or, replicate, length-replicate, length-append, length-map, get_or-append, get_or-map}
@@ -28,10 +31,10 @@ use Rattle.shape.specs.Shape.{as_shape, maybe_shape, pair_shape, first_shape, se
 use Rattle.match_laws.proofs.Ranges.{past}
 use Rattle.shape.proofs.Puts.{by_test, leaves_pos, as_type_lem}
 use Rattle.shape.proofs.Counts.{shape_leaves_lem}
-use Rattle.value.specs.declared.Found.{Found}
+use Rattle.value.specs.declared.Value.{Value}
 use Rattle.value.specs.Values.{leaf_bits, as_value, no_leaves, first_number, joined_at, pair_value, first_value, second_value}
 use Rattle.value.specs.Evaluations.{applied}
-use Rattle.value.specs.Found.{as_found}
+use Rattle.value.specs.Found.{Found, as_found}
 
 -- ---- leaves by place
 
@@ -200,14 +203,25 @@ unfolding exceeds leaf
 applied_value o v w h g =
     ap₂ (λ x y. applied o x y) (first_number_lem v h) (first_number_lem w g) ∙ ap (λ z. record { over = exceeds o v w; value = as_value z }) (by_leaf o v w)
 
--- ---- a value found, or none
+-- ---- a value that may be missing
 
-pub found_none : {f : Found} (o : Option Val) → f ≡ as_found o → f.has ≡ false → o ≡ none
+pub found_none : {f : Found} (o : Option Val) → f ≡ as_found o → f ≡ None → o ≡ none
 unfolding as_found
 found_none none e n = refl
-found_none (some v) e n = absurd (false≢true (sym n ∙ ap (λ f. f.has) e))
+found_none (some v) e n = absurd (none-some _ (sym n ∙ e))
 
-pub found_some : {f : Found} (o : Option Val) → f ≡ as_found o → f.has ≡ true → (v : Val) × (o ≡ some v) × (f.value ≡ as_value v)
+pub found_some : {f : Found} {x : Value} (o : Option Val) → f ≡ as_found o → f ≡ Some x → (v : Val) × (o ≡ some v) × (x ≡ as_value v)
 unfolding as_found
-found_some none e n = absurd (false≢true (sym (ap (λ f. f.has) e) ∙ n))
-found_some (some v) e n = (v, refl, ap (λ f. f.value) e)
+found_some none e n = absurd (none-some _ (sym e ∙ n))
+found_some (some v) e n = (v, refl, same_Some _ _ (sym n ∙ e))
+
+-- by the test
+pub found_not : {f : Found} (o : Option Val) → f ≡ as_found o → is_some f ≡ false → o ≡ none
+unfolding as_found
+found_not none e n = refl
+found_not (some v) e n = absurd (false≢true (sym n ∙ ap is_some e))
+
+pub found_one : {f : Found} (o : Option Val) → f ≡ as_found o → is_some f ≡ true → (v : Val) × (o ≡ some v)
+unfolding as_found
+found_one none e n = absurd (false≢true (sym (ap is_some e) ∙ n))
+found_one (some v) e n = (v, refl)

@@ -1,6 +1,6 @@
-// Values as the engine passes them: a shape, which is the value's type as one number, and its leaves, unused ones 0; a value or
-// none; and what plain expressions do with values. Rests on crate word for numbers, on crate shape for types, and on
-// specs/Values.antt for what a value stands for.
+// Values as the engine passes them: a shape, which is the value's type as one number, and its leaves, unused ones 0; and what
+// plain expressions do with values. Rests on crate word for numbers, on crate shape for types, and on specs/Values.antt for what
+// a value stands for.
 #![tactic(auto)]
 
 ghost use Rattle.std.specs.Prelude.{◌≡◌, true, ◌≤◌, ◌<◌, ℤ, get_or};
@@ -15,7 +15,6 @@ ghost use Rattle.tophat.proofs.ComputeEvaluation.{is_true};
 ghost use Rattle.rows.specs.Trees.{operator_of};
 ghost use Rattle.value.specs.Fits.{fits_in};
 ghost use Rattle.value.specs.Values.{as_value, first_number, single, joined, leaves_from, pair_value, first_value, second_value};
-ghost use Rattle.value.specs.Found.{some_found, none_found};
 ghost use Rattle.value.specs.Evaluations.{sure_of, after_over, exactly, applied};
 
 use shape::{first_shape, leaf_kinds, leaves_of, pair_shape, second_shape};
@@ -26,13 +25,6 @@ use word::{Reckoning, add, at_most, equal, less, mul, sub};
 pub struct Value {
     pub shape: u32,
     pub leaves: [u32; MAX_LEAVES],
-}
-
-// A value, or none: then the value is all 0.
-#[derive(Clone, Copy)]
-pub struct Found {
-    pub has: bool,
-    pub value: Value,
 }
 
 // What evaluating gives: a value, and whether a result left the words on the way; then the value goes on with 0 for it (CR 3).
@@ -46,24 +38,6 @@ pub const NO_VALUE: Value = Value {
     shape: 0,
     leaves: [0; MAX_LEAVES],
 };
-
-pub fn some(v: Value) -> Found
-    ensures { result ≡ some_found v }
-{
-    Found {
-        has: true,
-        value: v,
-    }
-}
-
-pub fn none() -> Found
-    ensures { result ≡ none_found }
-{
-    Found {
-        has: false,
-        value: NO_VALUE,
-    }
-}
 
 // A value of one leaf.
 fn single(shape: u32, w: u32) -> Value

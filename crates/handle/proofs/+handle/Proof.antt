@@ -73,14 +73,16 @@ pub +handle_spec : {M : Type 1} → statement M
     (λ c κs.
     let h = low_a c.requires.1.0 c.get-kind.result c.operand-a.result c.get-kind.ensures c.operand-a.ensures (omega (arith, c.in-44.is)) (omega (arith, c.in-44.is)) in
     fine_at c.requires.1.0 c.operand-a.result 0 (omega arith) (omega arith))
+    (λ c. search rules)
     (λ c κs.
     (c.requires.1.0, omega (arith, c.get-kind.ensures, c.in-44.is), omega (arith, c.get-kind.ensures, c.in-44.is)))
     (λ c κs. search rules)
     (λ c.
     handle_continue c.args.rows.now c.args.state.now c.attempt.new.state c.args.row c.args.env.now
-    c.args.depth c.answer.result c.args.e c.operand-a.result c.going_on-found.result
+    c.args.depth c.answer.result c.args.e c.operand-a.result c.going_on.result
     (c.handed_on-part.ensures.none c.if-part-ne0.false) (sym c.get-kind.ensures ∙ c.in-44.is) c.operand-a.ensures
-    c.going_on-found.ensures c.attempt.result c.answer.ensures c.if-found.true c.attempt.ensures)
+    c.going_on.ensures c.attempt.result c.answer.ensures c.in-Some.is c.attempt.ensures)
+    (λ c. search rules)
     (λ c κs.
     let q = call_a (c.requires.0, c.requires.1.0) c.get-kind.result c.operand-a.result c.get-kind.ensures c.operand-a.ensures (omega (arith, c.in-44.is)) (omega (arith, c.in-44.is)) in
     (q.0, (q.1, c.requires.1.1)))
@@ -112,9 +114,9 @@ pub +handle_spec : {M : Type 1} → statement M
     c.handle.ensures)
     (λ c.
     handle_next c.args.rows.now c.args.state.now c.handle-in-44.new.state c.args.row c.args.env.now
-    c.args.depth c.handle-in-44.result c.args.e c.operand-a.result c.going_on-found.result
+    c.args.depth c.handle-in-44.result c.args.e c.operand-a.result c.going_on.result
     (c.handed_on-part.ensures.none c.if-part-ne0.false) (sym c.get-kind.ensures ∙ c.in-44.is) c.operand-a.ensures
-    c.going_on-found.ensures c.if-found.false c.handle-in-44.ensures)
+    c.going_on.ensures c.in_default-going_on.is c.handle-in-44.ensures)
     (λ c.
     subst (HandleOk c.args.rows.now c.args.state.now c.pick.new.state c.args.row c.args.env.now c.args.depth c.args.e.role (event_path c.args.e) (event_action c.args.e))
     (sym c.answer-in-48.ensures) c.pick.ensures)
