@@ -14,7 +14,8 @@ ghost use Rattle.typing.specs.Nodes.{node_by, node_of, names_lower, Below};
 ghost use Rattle.typing.specs.RowTypes.{op_shape, same_shape, if_shape, assign_shape, binder_shape, type_of, is_task, flow_shape};
 
 use match_laws;
-use rows::{MAX_BINDERS, ROWS_WORDS, get, kind, kinds, operand};
+use rows::kinds::Kind;
+use rows::{MAX_BINDERS, ROWS_WORDS, get, kind, operand};
 use shape;
 use shape::TRUTH;
 use tophat;
@@ -63,7 +64,7 @@ impl Binders {
         let mut shapes = self.shapes;
         shapes[self.count] = shape;
         Binders {
-            shapes: shapes,
+            shapes,
             count: self.count + 1,
         }
     }
@@ -265,7 +266,7 @@ pub fn cell_shape(rows: &[u32; ROWS_WORDS], row: usize) -> u32
     ensures { result ≡ as_shape (content_type rows.now row) }
 {
     let a = operand(rows, row, 1);
-    if kind(rows, a) == kinds::TRUTH {
+    if kind(rows, a) == u32::from(Kind::TruthType) {
         return shape::TRUTH;
     }
     shape::NUMBER
