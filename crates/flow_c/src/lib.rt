@@ -86,7 +86,14 @@ pub extern "C" fn nannyjiffy_receipt(prices: &[u8], order: &[i32], cents: &mut u
     ensures value { result ≡ (receipt_of prices.now order.now).number }
     ensures cents_after { cents.new ≡ (receipt_of prices.now order.now).total }
 {
-    let priced = receipt::total(prices, order);
-    *cents = priced.total;
-    priced.number
+    match receipt::total(prices, order) {
+        Ok(total) => {
+            *cents = total;
+            0
+        }
+        Err(refusal) => {
+            *cents = 0;
+            u32::from(refusal)
+        }
+    }
 }
