@@ -1,5 +1,6 @@
 -- `open`, each way out: the number is the one that `opened` gives, and in a rest the words hold its task and store. Rests on SiteLaws,
 -- call_definitions' Grounds, and the contracts of `accepted_rows`, `held` and `stride`.
+use Rattle.std.specs.Prelude.{Some, None}
 use mathlib.Core.Path.{◌≡◌, refl, sym, ap, subst, ◌∙◌}
 use mathlib.Core.Bool.{Bool, true, false, not, cond, ◌&&◌}
 use mathlib.Core.List.{List, []}
@@ -25,7 +26,6 @@ use Rattle.rows.specs.Lent.{own_rows, row_count}
 use Rattle.rows.proofs.Basics.{no}
 use Rattle.rows.proofs.LentLaws.{zeros_after, own_bits}
 use Rattle.sheet.specs.Accepted.{accepts_rows, accepted_count}
-use Rattle.sheet.proofs.AcceptedRows.{passed_of}
 use Rattle.state.specs.Layout.{state_words}
 use Rattle.state.specs.Lent.{own_of, state_size, own_state}
 use Rattle.state.specs.Ensured.{Fine, StrideOk}
@@ -47,29 +47,22 @@ use Rattle.flow.proofs.FailedLaws.{failed_in, failed_copied}
 
 -- ---- ground 20
 
-module _ (rows : List ℤ) (n : ℕ) (e : n ≡ accepted_count rows) where
-  pub counted_yes : (n ≡ 0 → ⊥) → (accepts_rows rows ≡ true) × (n ≡ row_count rows)
-  counted_yes h = cases (accepts_rows rows) (λ t. (t, e ∙ ap (λ b. cond b (row_count rows) 0) t)) (λ f. absurd (h (e ∙ ap (λ b. cond b (row_count rows) 0) f)))
+module _ (rows : List ℤ) where
+  pub counted_no : None ≡ accepted_count rows → accepts_rows rows ≡ false
+  counted_no e = cases (accepts_rows rows) (λ t. let k : accepted_count rows ≡ Some (row_count rows) = rw t refl in cc) (λ f. f)
 
-  pub counted_no : n ≡ 0 → accepts_rows rows ≡ false
-  counted_no h = cases (accepts_rows rows)
-      (λ t.
-      let k : n ≡ row_count rows = e ∙ ap (λ b. cond b (row_count rows) 0) t in
-      let l = (passed_of rows t).some_rows in
-      absurd (omega (arith, h, k, l)))
-      (λ f. f)
+  module _ (n : ℕ) (e : Some n ≡ accepted_count rows) where
+    pub counted_yes : (accepts_rows rows ≡ true) × (n ≡ row_count rows)
+    counted_yes = cases (accepts_rows rows)
+        (λ t. let k : accepted_count rows ≡ Some (row_count rows) = rw t refl in (t, cc))
+        (λ f. let k : accepted_count rows ≡ None = rw f refl in cc)
 
-  -- accepted rows, copied in
-  pub site_of : {own : List ℕ} → (1 ≤ n → own ≡ own_rows rows) → (1 ≤ n → AllWords rows) → (n ≡ 0 → ⊥) → (c : Code) × (Σ : List Ty) × (τ : Ty) × Site rows own n c Σ τ
-  site_of o w h =
-      let (t, k) = counted_yes h in
-      let l = (passed_of rows t).some_rows in
-      let m : 1 ≤ n = omega (arith, k, l) in
-      let (c, Σ, τ, a) = flow_of (accepts_loads (w m) t) in
-      (c, Σ, τ, record { flow = a; count = k; rows_in = o m })
-
-  pub some_words : (1 ≤ n → AllWords rows) → (n ≡ 0 → ⊥) → AllWords rows
-  some_words w h = let (t, k) = counted_yes h in let l = (passed_of rows t).some_rows in w (omega (arith, k, l))
+    -- accepted rows, copied in
+    pub site_of : {own : List ℕ} → own ≡ own_rows rows → AllWords rows → (c : Code) × (Σ : List Ty) × (τ : Ty) × Site rows own n c Σ τ
+    site_of o w =
+        let (t, k) = counted_yes in
+        let (c, Σ, τ, a) = flow_of (accepts_loads w t) in
+        (c, Σ, τ, record { flow = a; count = k; rows_in = o })
 
 -- ---- the ways out
 
@@ -84,8 +77,8 @@ module _ (rows ws : List ℤ) (own words : List ℕ) (fits : Bool) where
   by_ground : (n : ℕ) {g : ℕ} → 1 ≤ g → opened rows ws fits ≡ refused_by g → Answers g n
   by_ground n {g} l q = subst (Opens rows ws own words (task_opening g n)) (sym q) (refl, l)
 
-  pub open_20 : (n : ℕ) → n ≡ accepted_count rows → n ≡ 0 → Answers not_accepted n
-  open_20 n e z = by_ground n (omega arith) (opened_20 rows ws (Unit {0}) (counted_no rows n e z) fits)
+  pub open_20 : None ≡ accepted_count rows → Answers not_accepted 0
+  open_20 e = by_ground 0 (omega arith) (opened_20 rows ws (Unit {0}) (counted_no rows e) fits)
 
   module _ (n : ℕ) {c : Code} {Σ : List Ty} {τ : Ty} (z : Site rows own n c Σ τ) (wr : AllWords rows) where
     pub open_length : (length ws ≡ n * state_words → ⊥) → Answers wrong_memory n

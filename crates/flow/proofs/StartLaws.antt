@@ -1,4 +1,5 @@
 -- `start`, each way out, and what the functions below it leave. Rests on OpenLaws, FailedLaws and the contracts of evaluate and normalise.
+use Rattle.std.specs.Prelude.{None}
 use mathlib.Core.Path.{◌≡◌, refl, sym, ap, subst, ◌∙◌}
 use mathlib.Core.Bool.{Bool, true, false}
 use mathlib.Core.Logic.{inr}
@@ -94,8 +95,8 @@ refused_as rows ws {a} {r} g e h =
     ((h.0 ∙ sym (ap (λ a. a.number) e), h.1 ∙ sym (ap (λ a. a.strides) e), sym (ap (λ a. a.state) e)), omega (arith, z, k))
 
 module _ (rows ws : List ℤ) (r : Answer) where
-  pub start_20 : (n : ℕ) → n ≡ accepted_count rows → n ≡ 0 → (r.number ≡ not_accepted) × (r.strides ≡ 0) → Answered (start_call rows ws) r ws × Bounded rows r.strides
-  start_20 n e z h = refused_as rows ws not_accepted (start_20_is rows ws (counted_no rows n e z)) h
+  pub start_20 : None ≡ accepted_count rows → (r.number ≡ not_accepted) × (r.strides ≡ 0) → Answered (start_call rows ws) r ws × Bounded rows r.strides
+  start_20 e h = refused_as rows ws not_accepted (start_20_is rows ws (counted_no rows e)) h
 
   module _ {own : List ℕ} {n : ℕ} {c : Code} {Σ : List Ty} {τ : Ty} (z : Site rows own n c Σ τ) where
     pub start_21 : (length ws ≡ n * state_words → ⊥) → (r.number ≡ wrong_memory) × (r.strides ≡ 0) → Answered (start_call rows ws) r ws × Bounded rows r.strides

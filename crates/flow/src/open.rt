@@ -44,10 +44,9 @@ pub fn open(
     requires { (own.old ≡ replicate rows_size 0) × (words.old ≡ replicate state_size 0) }
     ensures { OpenOk rows.now state.now fits own.new words.new result }
 {
-    let n = accepted_rows(rows, own);
-    if n == 0 {
-        return not_failed(NOT_ACCEPTED, n);
-    }
+    let Some(n) = accepted_rows(rows, own) else {
+        return not_failed(NOT_ACCEPTED, 0);
+    };
     if state.len() != n * STATE_WORDS {
         return not_failed(WRONG_MEMORY, n);
     }

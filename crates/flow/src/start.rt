@@ -40,10 +40,9 @@ pub fn start(rows: &[i32], state: &mut [i32]) -> Answer
     ensures bounded { Bounded rows.now result.strides }
 {
     let mut own = [0u32; ROWS_WORDS];
-    let n = accepted_rows(rows, &mut own);
-    if n == 0 {
+    let Some(n) = accepted_rows(rows, &mut own) else {
         return refused(NOT_ACCEPTED);
-    }
+    };
     if state.len() != n * STATE_WORDS {
         return refused(WRONG_MEMORY);
     }

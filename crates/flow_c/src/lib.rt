@@ -11,6 +11,7 @@ ghost use Rattle.receipt.specs.Receipts.{receipt_of};
 
 use flow::{look, start, touch};
 use receipt;
+use rows;
 use sheet;
 
 // Loads a sheet into lent rows: 0, or the first ground of 1, 21 and 2 to 7.
@@ -19,7 +20,10 @@ pub extern "C" fn nannyjiffy_load(sheet: &[u8], rows: &mut [i32]) -> u32
     ensures value { result ≡ (loaded sheet.now rows.old).0 }
     ensures rows_after { rows.new ≡ (loaded sheet.now rows.old).1 }
 {
-    sheet::load(sheet, rows)
+    match sheet::load(sheet, rows) {
+        Ok(()) => 0,
+        Err(ground) => ground.into(),
+    }
 }
 
 // Starts a flow in a lent state: 0, or the first ground of 20 and 21.

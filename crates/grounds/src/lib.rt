@@ -3,7 +3,7 @@
 #![tactic(auto)]
 
 use match_laws;
-use rows::ground_numbers::{NOT_LISTED, NOT_NAMED, NOT_SMALL, NOT_SORTED, NOT_TYPED};
+use rows::ground::Ground;
 use rows::{ROW_WORDS, ROWS_WORDS};
 use shape;
 use tophat;
@@ -18,57 +18,52 @@ mod small; // ground 6
 pub mod operands; // which are unused
 
 ghost use Rattle.std.specs.Prelude.{◌≡◌, ◌≤◌};
+ghost use Rattle.rows.specs.GroundNumbers.{answer_number};
 ghost use Rattle.rows.specs.Rows.{max_rows};
 ghost use Rattle.rows.specs.Ground.{ground_of_rows};
 ghost use Rattle.grounds.specs.Accepted.{ground_of_form, accepted_rows};
 
-// grounds 3 to 6: 0 where none holds
-pub fn ground_of_form(rows: &[u32; ROWS_WORDS], n: usize) -> u32
+// the first of grounds 3 to 6 that holds
+#[tactic(auto, unfolding(crate::specs::Accepted::ground_of_form, rows::specs::Ground::passes3, rows::specs::Ground::passes4, rows::specs::Ground::passes5, rows::specs::Ground::passes6))]
+pub fn ground_of_form(rows: &[u32; ROWS_WORDS], n: usize) -> Result<(), Ground>
     requires { (1 ≤ n) × (n ≤ max_rows) }
-    ensures { result ≡ ground_of_form rows.now n }
+    ensures { answer_number result ≡ ground_of_form rows.now n }
 {
     if !listed::listed(rows, n) {
-        return NOT_LISTED;
+        return Err(Ground::NotListed);
     }
     if !sorted::sorted(rows, n) {
-        return NOT_SORTED;
+        return Err(Ground::NotSorted);
     }
     if !named::named(rows, n) {
-        return NOT_NAMED;
+        return Err(Ground::NotNamed);
     }
     if !small::small(rows, n) {
-        return NOT_SMALL;
+        return Err(Ground::NotSmall);
     }
-    0
+    Ok(())
 }
 
-// grounds 3 to 7
-pub fn ground_of_rows(rows: &[u32; ROWS_WORDS], n: usize) -> u32
+// the first of grounds 3 to 7 that holds
+#[tactic(auto, using(crate::proofs::Grounds::ground_form))]
+pub fn ground_of_rows(rows: &[u32; ROWS_WORDS], n: usize) -> Result<(), Ground>
     requires { (1 ≤ n) × (n ≤ max_rows) }
-    ensures { result ≡ ground_of_rows rows.now n }
+    ensures { answer_number result ≡ ground_of_rows rows.now n }
 {
-    let form = ground_of_form(rows, n);
-    if form != 0 {
-        return form;
-    }
+    ground_of_form(rows, n)?;
     if typing::flow_type(rows, n).is_none() {
-        return NOT_TYPED;
+        return Err(Ground::NotTyped);
     }
-    0
+    Ok(())
 }
 
 // Ground 20 does not hold: the first so many words are rows that an accepted sheet loads to.
+#[tactic(auto, unfolding(crate::specs::Accepted::accepted_rows))]
 pub fn accepted_rows(rows: &[u32; ROWS_WORDS], words: usize) -> bool
     ensures { result ≡ accepted_rows rows.now words }
 {
-    if words == 0 {
-        return false;
-    }
-    if ROWS_WORDS < words {
-        return false;
-    }
-    if words % ROW_WORDS != 0 {
-        return false;
-    }
-    ground_of_rows(rows, words / ROW_WORDS) == 0
+    words != 0
+        && words <= ROWS_WORDS
+        && words % ROW_WORDS == 0
+        && ground_of_rows(rows, words / ROW_WORDS).is_ok()
 }

@@ -5,6 +5,7 @@ pub mod LentLaws
 -- the table of kinds, read both ways
 pub mod KindNumbers
 pub mod KindsRead
+pub mod GroundNumbers
 pub mod Unused
 -- rows read as trees: what is read, what is computed, and that they are one
 pub mod TreesAgree

@@ -17,13 +17,10 @@ use Rattle.tophat.specs.Handling.{Action}
 use Rattle.tophat.proofs.ComputeEvaluation.{overflows_task}
 use Rattle.tophat.proofs.ComputeNormalising.{stride}
 use Rattle.tophat.proofs.ComputeHandling.{Taken}
-use Rattle.formats.specs.Lines.{line_bytes}
 use Rattle.formats.specs.Touches.{event_of}
 use Rattle.rows.specs.GroundNumbers.{not_state}
 use Rattle.rows.specs.Lent.{own_rows, row_count}
-use Rattle.rows.specs.Ground.{RowsGround, rows_3, rows_4, rows_5, rows_6, rows_7, rows_0}
 use Rattle.rows.proofs.Moves.{movers_few}
-use Rattle.sheet.specs.Sheet.{loaded}
 use Rattle.sheet.specs.Accepted.{accepts_rows}
 use Rattle.sheet.proofs.AcceptedRows.{passed_of}
 use Rattle.state.specs.Layout.{state_words, encode_failed}
@@ -31,38 +28,11 @@ use Rattle.state.specs.Lent.{own_of}
 use Rattle.state.specs.Reading.{same}
 use Rattle.call_definitions.specs.Memory.{CallAnswer, refusal}
 use Rattle.call_definitions.specs.States.{FlowState, failed_state}
-use Rattle.call_definitions.specs.Answers.{LoadAnswers, load_1, load_21, load_2, load_rows, load_0}
 use Rattle.call_definitions.specs.Calls as calls
 use Rattle.call_definitions.specs.Touches.{Bounded}
-use Rattle.call_definitions.proofs.LoadAnswered.{load_derived}
 use Rattle.flow.specs.declared.answer.Answer.{Answer}
 use Rattle.flow.specs.Starts.{Answered}
 use Rattle.screens.specs.Heads.{four_digits}
-use Rattle.screens.specs.Screens.{loaded_counted}
-
--- ---- load
-
-rows_few : {rs : List ℕ} {n g : ℕ} → RowsGround rs n g → g < four_digits
-rows_few (rows_3 a) = omega arith
-rows_few (rows_4 a b) = omega arith
-rows_few (rows_5 a b c) = omega arith
-rows_few (rows_6 f k) = omega arith
-rows_few (rows_7 f k u) = omega arith
-rows_few (rows_0 f k i) = omega arith
-
-answers_few : {text : List ℕ} {memory rows : List ℤ} {g : ℕ} → LoadAnswers text memory g rows → g < four_digits
-answers_few (load_1 n) = omega arith
-answers_few (load_21 l n) = omega arith
-answers_few (load_2 l m n) = omega arith
-answers_few (load_rows r d) = rows_few d
-answers_few (load_0 r f k i) = omega arith
-
-load_few : (text : List ℕ) (rows : List ℤ) → (loaded text rows).0 < four_digits
-load_few text rows = answers_few (load_derived text rows)
-
-pub counted_few : (n : ℕ) (text : List ℕ) (rows : List ℤ) → (loaded_counted n text rows).0 < four_digits
-unfolding loaded_counted
-counted_few n text rows = cases (eqb (length text) (n * line_bytes)) (λ e. rw e (load_few text rows)) (λ e. rw e (omega arith))
 
 -- ---- strides
 

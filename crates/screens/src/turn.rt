@@ -1,5 +1,6 @@
 // The screens of a sheet and of an event (01, "A session in full"). Rests on the calls of crates sheet and flow.
 ghost use Rattle.std.specs.Prelude.{◌≡◌, false, ◌<◌, length};
+ghost use Rattle.rows.specs.GroundNumbers.{answer_number};
 ghost use Rattle.screens.specs.Heads.{four_digits};
 ghost use Rattle.screens.specs.Screens.{screen_bytes, Drawn, Beginning, refused_screen, role_of, loaded_counted, shown_after, begins, touched};
 
@@ -10,7 +11,7 @@ use flow::look::fill;
 use flow::start::start;
 use flow::touch::handle;
 use formats::{ENTRY_BYTES, EVENT_BYTES, HEAD_BYTES, LINE_BYTES, read_role};
-use rows::ground_numbers::NOT_SIZED;
+use rows::ground::Ground;
 use sheet::load;
 use tophat::MAX_LEAVES;
 use word::copy_in;
@@ -85,15 +86,15 @@ fn refuse(number: u32, out: &mut [u8; SCREEN_BYTES]) -> Begun
 }
 
 // Loads a sheet of n counted lines; a count that is not met is ground 1.
-fn load_counted(n: usize, text: &[u8], rows: &mut [i32]) -> u32
-    ensures value { result ≡ (loaded_counted n text.now rows.old).0 }
+fn load_counted(n: usize, text: &[u8], rows: &mut [i32]) -> Result<(), Ground>
+    ensures value { answer_number result ≡ (loaded_counted n text.now rows.old).0 }
     ensures rows_after { rows.new ≡ (loaded_counted n text.now rows.old).1 }
 {
     if text.len() % LINE_BYTES != 0 {
-        return NOT_SIZED;
+        return Err(Ground::NotSized);
     }
     if text.len() / LINE_BYTES != n {
-        return NOT_SIZED;
+        return Err(Ground::NotSized);
     }
     load(text, rows)
 }
@@ -108,9 +109,8 @@ pub fn begin(
 ) -> Begun
     ensures { Beginning (begins n text.now rows.old state.old out.old) result rows.new state.new out.new }
 {
-    let ground = load_counted(n, text, rows);
-    if ground != 0 {
-        return refuse(ground, out);
+    if let Err(ground) = load_counted(n, text, rows) {
+        return refuse(ground.into(), out);
     }
     let a = start(rows, state);
     if a.number != 0 {

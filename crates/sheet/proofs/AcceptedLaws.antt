@@ -1,10 +1,12 @@
 -- `accepted_rows`, each way out: its count is the definition's, and the words at exit are the engine's own rows. Rests on AcceptedRows.
+use Rattle.std.specs.Prelude.{Option, IsSome}
+use Rattle.std.specs.Bool.{then_some}
 use mathlib.Core.Path.{◌≡◌, sym, ap, subst, ◌∙◌}
-use mathlib.Core.Bool.{Bool, true, false, not}
+use mathlib.Core.Bool.{Bool, true, false}
 use mathlib.Core.List.{List, ◌++◌, map}
 use Prim.Native.Nat.{ℕ, ◌*◌, ◌≤◌}
 use native.Mathlib.Omega.{arith}
-use borrow.Author.Tests.{leb-true, not-true, not-false}
+use borrow.Author.Tests.{leb-true}
 use borrow.Table.Steps.{cases}
 use lib.Dec.{leb}
 use lib.IntN.{ℤ}
@@ -23,8 +25,8 @@ use Rattle.sheet.proofs.AcceptedRows.{passed_of}
 
 module _ (rows : List ℤ) (own words : List ℕ) (z : own ≡ replicate rows_size 0) (c : words ≡ laid (of_z w32) rows own) where
   -- what is answered, left and learnt
-  abbrev pub Counts : ℕ → Type 0
-  Counts r = (r ≡ accepted_count rows) × ((1 ≤ r → words ≡ own_rows rows) × (1 ≤ r → AllWords rows))
+  abbrev pub Counts : Option ℕ → Type 0
+  Counts r = (r ≡ accepted_count rows) × ((IsSome r → words ≡ own_rows rows) × (IsSome r → AllWords rows))
 
   module _ (few : length rows ≤ rows_size) where
     whole : length rows ≤ length (replicate {A = ℕ} rows_size 0)
@@ -42,15 +44,13 @@ module _ (rows : List ℤ) (own words : List ℕ) (z : own ≡ replicate rows_si
       (λ t. ap (λ l. accepted_rows l (length rows)) (is_own (leb-true (length rows) (max_rows * row_words) t)))
       (λ f. rw f)
 
-  pub counts_none : (b : Bool) → b ≡ accepted_rows words (length rows) → not b ≡ true → Counts 0
-  counts_none b e h =
-      let a : accepts_rows rows ≡ false = sym tested ∙ sym e ∙ not-true b h in
-      (sym (rw a), (λ l. absurd (omega arith), λ l. absurd (omega arith)))
-
-  pub counts_all : (b : Bool) → b ≡ accepted_rows words (length rows) → not b ≡ false → AllWords (take (length own) rows) → Counts (row_count rows)
-  counts_all b e h w =
-      let a : accepts_rows rows ≡ true = sym tested ∙ sym e ∙ not-false b h in
+  pub counts : (b : Bool) → b ≡ accepted_rows words (length rows) → AllWords (take (length own) rows) → Counts (then_some b (row_count rows))
+  counts true e w =
+      let a : accepts_rows rows ≡ true = sym tested ∙ sym e in
       let p = passed_of rows a in
       let f = p.few in let o = p.whole in
       let few : length rows ≤ rows_size = omega (arith, f, o) in
       (sym (rw a), (λ l. is_own few, λ l. words_whole (length own) rows (subst (λ y. length rows ≤ length y) (sym z) (whole few)) w))
+  counts false e w =
+      let a : accepts_rows rows ≡ false = sym tested ∙ sym e in
+      (sym (rw a), (λ l. cc, λ l. cc))

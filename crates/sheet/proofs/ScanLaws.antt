@@ -1,12 +1,14 @@
 -- The scan of lines: what the functions of src/scan.rt read and keep, each way. Rests on formats' laws of lines.
+use Rattle.std.specs.Prelude.{Some, None, Err}
+use Rattle.std.specs.Bool.{then_some}
 use mathlib.Core.Path.{◌≡◌, refl, sym, ap, subst, ◌∙◌}
-use mathlib.Core.Bool.{Bool, true, false, not, ◌&&◌}
-use mathlib.Core.Option.{Option, none, some}
+use mathlib.Core.Bool.{Bool, true, false, ◌&&◌}
+use mathlib.Core.Option.{Option as Maybe, none, some}
 use mathlib.Core.List.{List, [], ◌∷◌, ◌++◌, map}
 use Prim.Native.Nat.{ℕ, zero, suc, ◌+◌, ◌*◌, ◌-◌, ◌<◌}
 use native.Mathlib.Numerals.{add-one}
 use native.Mathlib.Omega.{arith}
-use borrow.Author.Tests.{not-true, not-false, eq-eqb, ne_eqb, eqb-true, eqb-false}
+use borrow.Author.Tests.{eq-eqb, eqb-true, eqb-false}
 use borrow.Table.Steps.{cases}
 use lib.Dec.{eqb}
 use lib.IntN.{ℤ, pos}
@@ -30,24 +32,11 @@ use Rattle.rows.specs.Rows.{max_rows, row_words}
 use Rattle.rows.specs.Lent.{rows_size, own_rows}
 use Rattle.rows.proofs.Basics.{no}
 use Rattle.rows.proofs.LentLaws.{own_length, own_more}
+use Rattle.rows.specs.declared.ground.Ground.TheVariants.{NotRead}
 use Rattle.sheet.specs.Scan.{says_row, is_line, word_at, word_read, LinesRead}
-use Rattle.sheet.specs.declared.scan.Word.{Word}
 use Rattle.sheet.proofs.LinesWords.{line_long, lines_long}
 
 -- ---- where word k of a row stands
-
-pub columns_kind : (k : ℕ) → k ≡ 0 → row_columns ≡ get_or line_columns (suc k) 0
-columns_kind k e = ap (λ k. get_or line_columns (suc k) 0) (sym e)
-
-pub columns_operand : (k : ℕ) → (k ≡ 0 → ⊥) → k < row_words → word_columns ≡ get_or line_columns (suc k) 0
-columns_operand zero n l = absurd (n refl)
-columns_operand (suc zero) n l = refl
-columns_operand (suc (suc zero)) n l = refl
-columns_operand (suc (suc (suc zero))) n l = refl
-columns_operand (suc (suc (suc (suc k)))) n l = absurd (omega arith)
-
-pub place_kind : (k : ℕ) → k ≡ 0 → row_columns ≡ place_of line_columns (suc k)
-place_kind k e = ap (λ k. place_of line_columns (suc k)) (sym e)
 
 pub place_operand : (k : ℕ) → (k ≡ 0 → ⊥) → k < row_words → 2 * row_columns + (k - 1) * word_columns ≡ place_of line_columns (suc k)
 place_operand zero n l = absurd (n refl)
@@ -76,21 +65,12 @@ row_is s at i n l e =
 -- ---- whether line i is one; `at` is where its byte 10 stands
 
 module _ (s : List ℕ) (i at : ℕ) (there : at ≡ i * line_bytes + total line_columns) where
-  pub line_unended : (get_or s at 0 ≡ newline → ⊥) → false ≡ is_line s i
-  line_unended n = let e = ne_eqb (get_or s (i * line_bytes + total line_columns) 0) newline (λ h. n (ap (λ k. get_or s k 0) there ∙ h)) in rw e
-
   module _ (ended : get_or s at 0 ≡ newline) where
     line_ended : is_line s i ≡ says_row (reads_at s (i * line_bytes) row_columns) i
     line_ended = let e = eq-eqb (get_or s (i * line_bytes + total line_columns) 0) newline (ap (λ k. get_or s k 0) (sym there) ∙ ended) in rw e
 
     pub line_row : (n : ℕ) → i < max_rows → Number n ≡ reading (reads_at s (i * line_bytes) row_columns) → eqb n i ≡ is_line s i
     line_row n l e = row_is s (i * line_bytes) i n l e ∙ sym line_ended
-
-    pub line_blank : Blank ≡ reading (reads_at s (i * line_bytes) row_columns) → false ≡ is_line s i
-    line_blank e = ap (λ f. says_row f i) (sym (blank_said (reads_at s (i * line_bytes) row_columns) e)) ∙ sym line_ended
-
-    pub line_unread : Unreadable ≡ reading (reads_at s (i * line_bytes) row_columns) → false ≡ is_line s i
-    line_unread e = ap (λ f. says_row f i) (sym (nothing_said (reads_at s (i * line_bytes) row_columns) e)) ∙ sym line_ended
 
 -- ---- word k of row i, as its kind means it
 
@@ -102,41 +82,41 @@ module _ (s : List ℕ) (i k kind at columns : ℕ) (p : at ≡ place_of line_co
   field_is : meant (get_or (unused_fields kind) (suc k) false) field ≡ word_at s kind i k
   field_is = (λ j. meant (get_or (unused_fields kind) (suc k) false) (reads_at s (i * line_bytes + p j) (c j)))
 
-  pub word_number : (n : ℕ) → Number n ≡ reading field → record { readable = true; bits = n } ≡ word_read (number_said (word_at s kind i k))
+  pub word_number : (n : ℕ) → Number n ≡ reading field → Some n ≡ word_read (number_said (word_at s kind i k))
   unfolding word_read number_said
   word_number n e =
       let d = number_read s (i * line_bytes + at) columns n e in
       let u = get_or (unused_fields kind) (suc k) false in
-      (λ j. record { readable = true; bits = sym d.bits j }) ∙ ap (λ f. word_read (number_said f)) (sym (meant_number u (to_z w32 n)) ∙ ap (meant u) (sym d.is) ∙ field_is)
+      ap Some (sym d.bits) ∙ ap (λ f. word_read (number_said f)) (sym (meant_number u (to_z w32 n)) ∙ ap (meant u) (sym d.is) ∙ field_is)
 
-  pub word_blank : (u : Bool) → Blank ≡ reading field → u ≡ get_or (unused_fields kind) (suc k) false → record { readable = u; bits = 0 } ≡ word_read (number_said (word_at s kind i k))
+  pub word_blank : (u : Bool) → Blank ≡ reading field → u ≡ get_or (unused_fields kind) (suc k) false → then_some u 0 ≡ word_read (number_said (word_at s kind i k))
   unfolding word_read number_said meant
   word_blank u e f = by u ∙ (λ j. word_read (number_said (meant (f j) (sym (blank_said field e) j)))) ∙ ap (λ f. word_read (number_said f)) field_is
     where
-      by : (u : Bool) → record { readable = u; bits = 0 } ≡ word_read (number_said (meant u blank))
+      by : (u : Bool) → then_some u 0 ≡ word_read (number_said (meant u blank))
       by true = refl
       by false = refl
 
-  pub word_unread : Unreadable ≡ reading field → record { readable = false; bits = 0 } ≡ word_read (number_said (word_at s kind i k))
+  pub word_unread : Unreadable ≡ reading field → None ≡ word_read (number_said (word_at s kind i k))
   unfolding word_read number_said meant
   word_unread e = by (get_or (unused_fields kind) (suc k) false) ∙ ap (λ f. word_read (number_said (meant (get_or (unused_fields kind) (suc k) false) f))) (sym (nothing_said field e)) ∙ ap (λ f. word_read (number_said f)) field_is
     where
-      by : (u : Bool) → record { readable = false; bits = 0 } ≡ word_read (number_said (meant u unreadable))
+      by : (u : Bool) → None ≡ word_read (number_said (meant u unreadable))
       by true = refl
       by false = refl
 
 -- ---- a line
 
 -- what a word that was read is
-word_said : (w : Word) (o : Option ℤ) → w ≡ word_read o → w.readable ≡ true → (z : ℤ) × (o ≡ some z) × (w.bits ≡ of_z w32 z)
+word_said : (x : ℕ) (o : Maybe ℤ) → Some x ≡ word_read o → (z : ℤ) × (o ≡ some z) × (x ≡ of_z w32 z)
 unfolding word_read
-word_said w none e h = no (sym (ap (λ w. w.readable) e) ∙ h)
-word_said w (some z) e h = (z, refl, ap (λ w. w.bits) e)
+word_said x none e = cc
+word_said x (some z) e = (z, refl, cc)
 
-word_none : (w : Word) (o : Option ℤ) → w ≡ word_read o → w.readable ≡ false → o ≡ none
+word_none : (o : Maybe ℤ) → None ≡ word_read o → o ≡ none
 unfolding word_read
-word_none w none e h = refl
-word_none w (some z) e h = no (sym h ∙ ap (λ w. w.readable) e)
+word_none none e = refl
+word_none (some z) e = cc
 
 -- the first of several words that are set
 first_set : (l : List ℕ) (i v : ℕ) (vs : List ℕ) → i < length l → get_or (sets l i (v ∷ vs)) i 0 ≡ v
@@ -163,9 +143,9 @@ module _ (s : List ℕ) (i : ℕ) where
   not_said unreadable g h = no_field s i 0 (omega arith) (first_none unreadable refl g)
 
   -- a line that is none says nothing
-  pub line_none : (b : Bool) → b ≡ is_line s i → not b ≡ true → line_says s i ≡ none
+  pub line_none : (b : Bool) → b ≡ is_line s i → b ≡ false → line_says s i ≡ none
   line_none b e n = cases (eqb (get_or s (i * line_bytes + total line_columns) 0) newline)
-      (λ y. not_said (reads_at s (i * line_bytes) row_columns) refl (ap (λ x. x && says_row (reads_at s (i * line_bytes) row_columns) i) (sym y) ∙ sym e ∙ not-true b n))
+      (λ y. not_said (reads_at s (i * line_bytes) row_columns) refl (ap (λ x. x && says_row (reads_at s (i * line_bytes) row_columns) i) (sym y) ∙ sym e ∙ n))
       (λ f. no_end s i (eqb-false (get_or s (i * line_bytes + total line_columns) 0) newline f))
 
   module _ (own₀ : List ℕ) where
@@ -177,11 +157,11 @@ module _ (s : List ℕ) (i : ℕ) where
       pub row : RowTo s i k said
       pub kept : own ≡ sets own₀ (i * row_words) (map (of_z w32) said)
 
-    pub kept_none : (b : Bool) → b ≡ is_line s i → not b ≡ false → Kept 0 own₀
+    pub kept_none : (b : Bool) → b ≡ is_line s i → b ≡ true → Kept 0 own₀
     kept_none b e n =
         let ten = eqb (get_or s (i * line_bytes + total line_columns) 0) newline in
         let field = reads_at s (i * line_bytes) row_columns in
-        let h = sym e ∙ not-false b n in
+        let h = sym e ∙ n in
         record {
           ended = eqb-true (get_or s (i * line_bytes + total line_columns) 0) newline (and_left ten (says_row field i) h);
           said = [];
@@ -207,13 +187,13 @@ module _ (s : List ℕ) (i : ℕ) where
           by (suc k) l f = ap (λ n. word_at s n i (suc k)) (f (omega arith))
 
       -- it cannot be read
-      pub line_stops : (w : Word) → w ≡ word_read (number_said (word_at s (get_or own (i * row_words) 0) i k)) → w.readable ≡ false → line_says s i ≡ none
-      line_stops w e n = no_field s i (suc k) (omega arith) (ap number_said (sym word_is) ∙ word_none w (number_said (word_at s (get_or own (i * row_words) 0) i k)) e n)
+      pub line_stops : None ≡ word_read (number_said (word_at s (get_or own (i * row_words) 0) i k)) → line_says s i ≡ none
+      line_stops e = no_field s i (suc k) (omega arith) (ap number_said (sym word_is) ∙ word_none (number_said (word_at s (get_or own (i * row_words) 0) i k)) e)
 
     pub kept_more : {k : ℕ} {own : List ℕ} (l : k < row_words) (room : i * row_words < length own₀) (h : Kept k own)
-        → (w : Word) → w ≡ word_read (number_said (word_at s (get_or own (i * row_words) 0) i k)) → w.readable ≡ true → Kept (k + 1) (set own (i * row_words + k) w.bits)
-    kept_more {k} {own} l room h w e r =
-        let (z, f, b) = word_said w (number_said (word_at s (get_or own (i * row_words) 0) i k)) e r in
+        → (x : ℕ) → Some x ≡ word_read (number_said (word_at s (get_or own (i * row_words) 0) i k)) → Kept (k + 1) (set own (i * row_words + k) x)
+    kept_more {k} {own} l room h x e =
+        let (z, f, b) = word_said x (number_said (word_at s (get_or own (i * row_words) 0) i k)) e in
         let g : number_said (get_or (line_fields s i) (suc k) unreadable) ≡ some z = ap number_said (sym (word_is l room h)) ∙ f in
         let m = length-map h.said (of_z w32) ∙ h.long in
         record {
@@ -257,8 +237,5 @@ module _ (s : List ℕ) where
         kept = h.kept ∙ (λ j. sets (r.kept j) (sym a j) (map (of_z w32) h.said)) ∙ own_more r.said h.said (omega (arith, a, b));
       }
 
-  pub rows_stop : (own : List ℕ) (i n : ℕ) → i < n → line_says s i ≡ none → LinesRead (lines_say s n) own false
+  pub rows_stop : (own : List ℕ) (i n : ℕ) → i < n → line_says s i ≡ none → LinesRead (lines_say s n) own (Err NotRead)
   rows_stop own i n l e = let q = lines_none s i n l e in rw q refl
-
-  pub rows_all : (own : List ℕ) (good : Bool) (i n : ℕ) → i ≡ n → good ≡ true → Rows i own → LinesRead (lines_say s n) own good
-  rows_all own good i n e g r = let q : lines_say s n ≡ some r.said = ap (lines_say s) (sym e) ∙ r.says in rw q (g, r.kept)

@@ -1,15 +1,16 @@
 -- What the scan of a sheet's lines answers and keeps. Rests on formats' lines.
 -- For contracts only: tied to `lines_say` by the contract of `read_lines`.
-use Rattle.std.specs.Prelude.{◌≡◌, Bool, true, false, ◌&&◌, List, ℕ, suc, ◌+◌, ◌*◌, eqb, ℤ, pos, get_or}
-use Rattle.std.proofs.Math.Option.{Option, none, some}
+use Rattle.std.specs.Prelude.{◌≡◌, Bool, false, ◌&&◌, List, ℕ, suc, ◌+◌, ◌*◌, eqb, ℤ, pos, get_or, Option, Some, None, Result, Ok, Err}
+use Rattle.std.proofs.Math.Option.{Option as Maybe, none, some}
 use Rattle.std.specs.Int.{w32}
 use Rattle.std.proofs.Common.{of_z}
 use Rattle.word.specs.Word.{eq_z}
 use Rattle.decimal.specs.Field.{Field, number, blank, unreadable, row_columns, newline, reads_at}
 use Rattle.formats.specs.Records.{total, place_of}
 use Rattle.formats.specs.Lines.{line_columns, line_bytes, meant, unused_fields}
+use Rattle.rows.specs.declared.ground.Ground.{Ground}
+use Rattle.rows.specs.declared.ground.Ground.TheVariants.{NotRead}
 use Rattle.rows.specs.Lent.{own_rows}
-use Rattle.sheet.specs.declared.scan.Word.{Word}
 
 -- whether a field says the number i
 abbrev pub says_row : Field → ℕ → Bool
@@ -26,11 +27,11 @@ abbrev pub word_at : List ℕ → ℕ → ℕ → ℕ → Field
 word_at s kind i k = meant (get_or (unused_fields kind) (suc k) false) (reads_at s (i * line_bytes + place_of line_columns (suc k)) (get_or line_columns (suc k) 0))
 
 -- the code's answer for a word
-unfoldable pub word_read : Option ℤ → Word
-word_read none = record { readable = false; bits = 0 }
-word_read (some z) = record { readable = true; bits = of_z w32 z }
+unfoldable pub word_read : Maybe ℤ → Option ℕ
+word_read none = None
+word_read (some z) = Some (of_z w32 z)
 
--- all lines: whether each can be read; then the words are theirs, with zeros after them
-abbrev pub LinesRead : Option (List ℤ) → List ℕ → Bool → Type 0
-LinesRead none own r = r ≡ false
-LinesRead (some ws) own r = (r ≡ true) × (own ≡ own_rows ws)
+-- for all lines: where each can be read, the words are theirs, with zeros after them
+abbrev pub LinesRead : Maybe (List ℤ) → List ℕ → Result Unit Ground → Type 0
+LinesRead none own r = r ≡ Err NotRead
+LinesRead (some ws) own r = (r ≡ Ok tt) × (own ≡ own_rows ws)

@@ -10,6 +10,7 @@ use decimal::field;
 use decimal::field::{NEWLINE, ROW_COLUMNS, Reading, WORD_COLUMNS};
 use formats::LINE_BYTES;
 use grounds::operands::unused;
+use rows::ground::Ground;
 use rows::{ROW_WORDS, ROWS_WORDS};
 
 // How wide the field of word k of a row is.
@@ -17,10 +18,7 @@ fn columns_of(k: usize) -> usize
     requires { k < row_words }
     ensures { result ≡ get_or line_columns (suc k) 0 }
 {
-    if k == 0 {
-        return ROW_COLUMNS;
-    }
-    WORD_COLUMNS
+    if k == 0 { ROW_COLUMNS } else { WORD_COLUMNS }
 }
 
 // Where it stands in its line.
@@ -29,9 +27,10 @@ fn place_of(k: usize) -> usize
     ensures { result ≡ place_of line_columns (suc k) }
 {
     if k == 0 {
-        return ROW_COLUMNS;
+        ROW_COLUMNS
+    } else {
+        2 * ROW_COLUMNS + (k - 1) * WORD_COLUMNS
     }
-    2 * ROW_COLUMNS + (k - 1) * WORD_COLUMNS
 }
 
 // Whether line i ends in byte 10 and begins with the number i.
@@ -43,67 +42,44 @@ fn is_line(sheet: &[u8], i: usize) -> bool
     if sheet[at + (LINE_BYTES - 1)] != NEWLINE {
         return false;
     }
-    let reading = field::read(sheet, at, ROW_COLUMNS);
-    match reading {
+    match field::read(sheet, at, ROW_COLUMNS) {
         Reading::Number(n) => n as usize == i,
         Reading::Blank => false,
         Reading::Unreadable => false,
     }
 }
 
-// A word of a row, if its field can be read.
-#[derive(Clone, Copy)]
-struct Word {
-    readable: bool,
-    bits: u32,
-}
-
 // What word k of row i says, where the row's kind has this number: a blank is 0 where the operand is unused, and unreadable elsewhere.
-fn read_word(sheet: &[u8], i: usize, k: usize, kind: u32) -> Word
+fn read_word(sheet: &[u8], i: usize, k: usize, kind: u32) -> Option<u32>
     requires { (i < max_rows) × (k < row_words) }
     ensures { result ≡ word_read (number_said (word_at sheet.now kind i k)) }
 {
-    let place = place_of(k);
-    let columns = columns_of(k);
-    let reading = field::read(sheet, i * LINE_BYTES + place, columns);
-    match reading {
-        Reading::Number(n) => Word {
-            readable: true,
-            bits: n,
-        },
-        Reading::Blank => Word {
-            readable: unused(kind, k),
-            bits: 0,
-        },
-        Reading::Unreadable => Word {
-            readable: false,
-            bits: 0,
-        },
+    match field::read(sheet, i * LINE_BYTES + place_of(k), columns_of(k)) {
+        Reading::Number(bits) => Some(bits),
+        Reading::Blank => unused(kind, k).then_some(0),
+        Reading::Unreadable => None,
     }
 }
 
-// Whether each of the first n lines can be read; then `own`, lent with zeros, holds their rows. The scan is left at the first field
-// that cannot be read.
-pub fn read_lines(sheet: &[u8], n: usize, own: &mut [u32; ROWS_WORDS]) -> bool
+// Reads the first n lines into `own`, lent with zeros. The scan is left at the first field that cannot be read.
+pub fn read_lines(sheet: &[u8], n: usize, own: &mut [u32; ROWS_WORDS]) -> Result<(), Ground>
     requires n_le_max_rows { (n ≤ max_rows) × (n * line_bytes ≤ length sheet.now) }
     requires own_value { own.old ≡ replicate rows_size 0 }
     ensures { LinesRead (lines_say sheet.now n) own.new result }
 {
-    let mut good = true;
-    'lines: for i in 0..n {
-        if !is_line(sheet, i) {
-            good = false;
-            break 'lines;
-        }
-        for k in 0..ROW_WORDS {
-            let kind = own[i * ROW_WORDS];
-            let word = read_word(sheet, i, k, kind);
-            if !word.readable {
-                good = false;
-                break 'lines;
+    'lines: {
+        for i in 0..n {
+            if !is_line(sheet, i) {
+                break 'lines Err(Ground::NotRead);
             }
-            own[i * ROW_WORDS + k] = word.bits;
+            for k in 0..ROW_WORDS {
+                let kind = own[i * ROW_WORDS];
+                let Some(word) = read_word(sheet, i, k, kind) else {
+                    break 'lines Err(Ground::NotRead);
+                };
+                own[i * ROW_WORDS + k] = word;
+            }
         }
+        Ok(())
     }
-    good
 }
