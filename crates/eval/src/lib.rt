@@ -12,7 +12,8 @@ ghost use Rattle.state.specs.Ensured.{Fine, EvalOk};
 
 use rows::kinds::FIRST;
 use rows::{MAX_BINDERS, ROWS_WORDS, get, operand};
-use state::{ENV_WORDS, OWN, STATE_SIZE, env_get, pushed, put_value, read_value};
+use state::tag::Tag;
+use state::{ENV_WORDS, STATE_SIZE, env_get, pushed, put_value, read_value};
 use value::{
     Evaluation, Value, after, apply, first, is_true, number, pair, second, sure, truth, unit,
 };
@@ -89,7 +90,7 @@ pub fn eval(
         29 => sure(read_value(state, operand(rows, row, 1))),
         30 => {
             let content = eval(rows, state, operand(rows, row, 2), env, depth);
-            put_value(state, operand(rows, row, 1), OWN, content.value);
+            put_value(state, operand(rows, row, 1), Tag::Own, content.value);
             after(content.over, sure(unit()))
         }
         31 => {

@@ -8,7 +8,8 @@ ghost use Rattle.flow.specs.Failed.{WriteFailedOk, IsFailedOk};
 use super::firsts::first_cells;
 use rows::ROWS_WORDS;
 use running::evaluate;
-use state::{ENV_WORDS, STATE_SIZE, STATE_WORDS, WHOLE, clear_row, put_tag};
+use state::tag::Tag;
+use state::{ENV_WORDS, STATE_SIZE, STATE_WORDS, clear_row, put_tag};
 use state_check::alike;
 
 // The first contents of the cells, and the tag of the last row of n, in words of zeros.
@@ -18,7 +19,7 @@ pub fn write_failed(rows: &[u32; ROWS_WORDS], n: usize, words: &mut [u32; STATE_
     ensures { WriteFailedOk rows.now n words.new }
 {
     first_cells(rows, n, words);
-    put_tag(words, n - 1, WHOLE);
+    put_tag(words, n - 1, Tag::Whole);
 }
 
 // Are these the words, and does the last row leave the words when it is evaluated? `work` is zeros, and is not kept.

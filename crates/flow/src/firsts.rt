@@ -7,7 +7,8 @@ ghost use Rattle.flow.specs.Firsts.{content_at, CellFirst, CellsFirst};
 use rows::kinds::CELL;
 use rows::{ROWS_WORDS, get};
 use shape::TRUTH;
-use state::{OWN, STATE_SIZE, put_value};
+use state::tag::Tag;
+use state::{STATE_SIZE, put_value};
 use typing::cell_shape;
 use value::{Value, number, truth};
 
@@ -30,7 +31,7 @@ fn first_cell(rows: &[u32; ROWS_WORDS], row: usize, work: &mut [u32; STATE_SIZE]
 {
     if get(rows, row, 0) == CELL {
         let v = content(rows, row);
-        put_value(work, row, OWN, v);
+        put_value(work, row, Tag::Own, v);
         return;
     }
 }

@@ -9,6 +9,7 @@ ghost use Rattle.std.specs.Prelude.{◌≡◌, List, ℕ, ◌-◌, ◌<◌, ◌�
 ghost use Rattle.tophat.specs.Syntax.{max_leaves};
 ghost use Rattle.rows.specs.Kinds.{task_k, edit_k, update_k, xor_k};
 ghost use Rattle.rows.specs.Rows.{max_rows, OfKind, FromKind, UpToKind};
+ghost use Rattle.state.specs.Tags.{tag_word};
 ghost use Rattle.state.specs.Ensured.{Fine, HandleOk};
 ghost use Rattle.running.specs.Hands.{Unhanded};
 ghost use Rattle.handle.specs.Events.{ZeroBlanks, KnownEvent, event_path, event_action, Ends, passed};
@@ -21,9 +22,8 @@ use rows::kinds::GATE;
 use rows::{ROWS_WORDS, get, operand};
 use running::{enclose, handed_on, value};
 use shape::leaves_of;
-use state::{
-    ENV_WORDS, ONE, OTHER, OWN, STATE_SIZE, put_tag, put_touches, put_value, read, read_touches,
-};
+use state::tag::Tag;
+use state::{ENV_WORDS, STATE_SIZE, put_tag, put_touches, put_value, read, read_touches};
 use tophat::{CONTINUE, GIVE, LEFT, MAX_LEAVES, RIGHT};
 use typing::{Binders, row_type};
 use value::{Value, fits};
@@ -62,9 +62,9 @@ fn none_blank(blank: [bool; MAX_LEAVES], n: usize) -> bool
 }
 
 // The value that an event gives an editor of the shape, laid at the row. A blank where the type has a leaf gives none.
-fn fill(state: &mut [u32; STATE_SIZE], row: usize, tag: u32, shape: u32, e: Event) -> bool
+fn fill(state: &mut [u32; STATE_SIZE], row: usize, tag: Tag, shape: u32, e: Event) -> bool
     requires { (row < max_rows) × ZeroBlanks e.leaves e.blank }
-    ensures { FillOk state.old state.new row tag shape e result }
+    ensures { FillOk state.old state.new row (tag_word tag) shape e result }
 {
     if !ends(e, GIVE) {
         return false;
@@ -95,15 +95,15 @@ fn edit(rows: &[u32; ROWS_WORDS], state: &mut [u32; STATE_SIZE], row: usize, e: 
     match kind {
         40 => {
             let shape = read(state, row, 1);
-            return fill(state, row, OWN, shape, e);
+            return fill(state, row, Tag::Own, shape, e);
         }
         41 => match row_type(rows, a, &Binders::new()) {
-            Some(shape) => fill(state, row, ONE, shape, e),
+            Some(shape) => fill(state, row, Tag::One, shape, e),
             None => false,
         },
         _ => {
             let shape = read(state, a, 1);
-            return fill(state, a, OWN, shape, e);
+            return fill(state, a, Tag::Own, shape, e);
         }
     }
 }
@@ -130,12 +130,12 @@ fn side(
     state: &mut [u32; STATE_SIZE],
     row: usize,
     a: usize,
-    tag: u32,
+    tag: Tag,
     env: &[u32; ENV_WORDS],
     depth: usize,
 ) -> bool
     requires { (row < max_rows) × Fine rows.now a depth }
-    ensures { PickOk rows.now state.old state.new row a tag env.now depth result }
+    ensures { PickOk rows.now state.old state.new row a (tag_word tag) env.now depth result }
 {
     let mut work = *state;
     if settle(rows, &mut work, a, env, depth) {
@@ -159,10 +159,26 @@ fn pick(
     ensures { HandleOk rows.now state.old state.new row env.now depth e.role (event_path e) (event_action e) (answer_of result) }
 {
     if ends(e, LEFT) {
-        return side(rows, state, row, operand(rows, row, 1), ONE, env, depth);
+        return side(
+            rows,
+            state,
+            row,
+            operand(rows, row, 1),
+            Tag::One,
+            env,
+            depth,
+        );
     }
     if ends(e, RIGHT) {
-        return side(rows, state, row, operand(rows, row, 2), OTHER, env, depth);
+        return side(
+            rows,
+            state,
+            row,
+            operand(rows, row, 2),
+            Tag::Other,
+            env,
+            depth,
+        );
     }
     false
 }

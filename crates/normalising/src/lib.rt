@@ -11,7 +11,8 @@ ghost use Rattle.normalising.specs.Trying.{SettleOk, TriedOk, AttemptOk};
 
 use rows::{MAX_BINDERS, MAX_ROWS, ROWS_WORDS, get, operand};
 use running::{enclose, evaluate, handed_on, value};
-use state::{ENV_WORDS, ONE, OTHER, STATE_SIZE, clear, pushed, put_tag, put_value};
+use state::tag::Tag;
+use state::{ENV_WORDS, STATE_SIZE, clear, pushed, put_tag, put_value};
 use value::Value;
 
 // One more than there can be rows: the most strides that a call can count.
@@ -170,13 +171,13 @@ fn choose(
     let left = stride(rows, state, a, env, depth);
     if value(rows, state, a).is_some() {
         clear(rows, state, b);
-        put_tag(state, row, ONE);
+        put_tag(state, row, Tag::One);
         return true;
     }
     let right = stride(rows, state, b, env, depth);
     if value(rows, state, b).is_some() {
         clear(rows, state, a);
-        put_tag(state, row, OTHER);
+        put_tag(state, row, Tag::Other);
         return true;
     }
     left || right
@@ -209,7 +210,7 @@ pub fn attempt(
         return false;
     }
     clear(rows, &mut work, operand(rows, row, 1));
-    put_value(&mut work, row, ONE, v);
+    put_value(&mut work, row, Tag::One, v);
     *state = work;
     true
 }

@@ -13,8 +13,9 @@ ghost use Rattle.value.specs.Found.{both_found};
 use eval::eval;
 use rows::kinds::GATE;
 use rows::{MAX_BINDERS, ROWS_WORDS, get, operand};
+use state::tag::Tag;
 use state::{
-    ENV_WORDS, ONE, OTHER, OWN, STATE_SIZE, push, put_tag, put_touches, put_value, read, read_value,
+    ENV_WORDS, ONE, OTHER, STATE_SIZE, push, put_tag, put_touches, put_value, read, read_value,
 };
 use value::{Value, is_true, pair};
 
@@ -137,16 +138,16 @@ pub fn evaluate(
             let x = eval(rows, state, operand(rows, row, 1), env, depth);
             if is_true(x.value) {
                 let over = evaluate(rows, state, operand(rows, row, 2), env, depth);
-                put_tag(state, row, ONE);
+                put_tag(state, row, Tag::One);
                 return x.over | over;
             }
             let over = evaluate(rows, state, operand(rows, row, 3), env, depth);
-            put_tag(state, row, OTHER);
+            put_tag(state, row, Tag::Other);
             x.over | over
         }
         31 => {
             let x = eval(rows, state, operand(rows, row, 1), env, depth);
-            put_value(state, row, ONE, x.value);
+            put_value(state, row, Tag::One, x.value);
             let mut inner = *env;
             let deeper = bind(state, row, &mut inner, depth);
             let over = evaluate(rows, state, operand(rows, row, 2), &inner, deeper);
@@ -154,12 +155,12 @@ pub fn evaluate(
         }
         40 | 49 => {
             let x = eval(rows, state, operand(rows, row, 1), env, depth);
-            put_value(state, row, OWN, x.value);
+            put_value(state, row, Tag::Own, x.value);
             x.over
         }
         43..=44 => {
             let over = evaluate(rows, state, operand(rows, row, 1), env, depth);
-            put_tag(state, row, OWN);
+            put_tag(state, row, Tag::Own);
             over
         }
         46..=47 => {
@@ -167,7 +168,7 @@ pub fn evaluate(
             let b = operand(rows, row, 2);
             let left = evaluate(rows, state, a, env, depth);
             let right = evaluate(rows, state, b, env, depth);
-            put_tag(state, row, OWN);
+            put_tag(state, row, Tag::Own);
             left | right
         }
         50 => {
@@ -175,7 +176,7 @@ pub fn evaluate(
             evaluate(rows, state, operand(rows, row, 2), env, depth)
         }
         _ => {
-            put_tag(state, row, OWN);
+            put_tag(state, row, Tag::Own);
             false
         }
     }

@@ -1,45 +1,19 @@
--- The values of binders: one more pushed word by word, and read back. Rests on Words.
-use mathlib.Core.Path.{◌≡◌, refl, sym, ap, ◌∙◌}
+-- The values of binders: one more, and one read back. Rests on Words.
+use mathlib.Core.Path.{◌≡◌, sym, ap, ◌∙◌}
 use mathlib.Core.Bool.{cond}
 use mathlib.Core.List.{List, ◌∷◌}
 use Prim.Native.Nat.{ℕ, zero, suc, ◌+◌, ◌-◌, ◌≤◌, ◌<◌}
-use native.Mathlib.Decide.{ℕ_discrete}
 use native.Mathlib.Omega.{arith}
-use lib.ListN.{get_or, set}
-use lib.Seq.{get_or-set_other}
-use borrow.Author.Tests.{lt-ltb, le-ltb}
+use lib.ListN.{get_or}
+use borrow.Author.Tests.{lt-ltb}
 use Rattle.tophat.specs.Syntax.{max_leaves, Ty, leaves, Val, vunit, Env}
 use Rattle.tophat.specs.Typing.{ValueType}
 use Rattle.value.specs.declared.Value.{Value}
 use Rattle.value.specs.Values.{as_value, no_value}
 use Rattle.state.specs.Layout.{value_words}
-use Rattle.state.specs.Holds.{value_length, slot_place, slot, Binders}
-use Rattle.state.specs.Words.{words_of, value_by, binder_at, Pushed}
+use Rattle.state.specs.Holds.{value_length, slot, Binders}
+use Rattle.state.specs.Words.{value_by, binder_at, Pushed}
 use Rattle.state.proofs.Words.{value_by_lem, words_of_lem}
-
--- ---- one more, word by word
-
--- env₁ is env but for slot d, whose first n words are those of xs
-pub record PushedTo (env env₁ : List ℕ) (d n : ℕ) (xs : List ℕ) : Type 0 where
-  pub value : (m : ℕ) → m < n → slot env₁ d m ≡ get_or xs m 0
-  pub rest : (k m : ℕ) → (k ≡ d → ⊥) → m < value_length → slot env₁ k m ≡ slot env k m
-
-pub push_none : (env : List ℕ) (d : ℕ) (xs : List ℕ) → PushedTo env env d 0 xs
-push_none env d xs = record { value = λ m h. absurd (omega arith); rest = λ k m n h. refl }
-
-pub push_more : {env env₁ env₂ : List ℕ} {d n k : ℕ} {xs : List ℕ} (x : ℕ) → k ≡ n + 1 → n < value_length → x ≡ get_or xs n 0 → env₂ ≡ set env₁ (slot_place d n) x → slot env₂ d n ≡ x
-    → PushedTo env env₁ d n xs → PushedTo env env₂ d k xs
-push_more {env} {env₁} {env₂} {d} {n} {k} {xs} x z h q e f p = record {
-  value = λ m g. by m g (ℕ_discrete m n);
-  rest = λ j m o g. ap (λ v. slot v j m) e ∙ get_or-set_other env₁ (slot_place d n) (slot_place j m) x 0 (λ y. o (omega arith)) ∙ p.rest j m o g;
-}
-  where
-    by : (m : ℕ) → m < k → Dec (m ≡ n) → slot env₂ d m ≡ get_or xs m 0
-    by m g (yes r) = ap (slot env₂ d) r ∙ f ∙ q ∙ ap (λ j. get_or xs j 0) (sym r)
-    by m g (no r) = ap (λ v. slot v d m) e ∙ get_or-set_other env₁ (slot_place d n) (slot_place d m) x 0 (λ y. r (omega arith)) ∙ p.value m (omega arith)
-
-pub push_all : {env env₁ : List ℕ} {d n : ℕ} (v : Value) → value_length ≤ n → PushedTo env env₁ d n (words_of v) → Pushed env env₁ d v
-push_all v h p = record { value = λ m g. p.value m (omega arith); rest = p.rest }
 
 -- one more binder
 pub binders_push : {env env₁ : List ℕ} {d : ℕ} {ρ : Env} {v : Value} {u : Val} → Binders env d ρ → Pushed env env₁ d v → v ≡ as_value u → Binders env₁ (d + 1) (u ∷ ρ)
@@ -57,12 +31,6 @@ binders_push {env} {env₁} {d} {ρ} {v} {u} b p e = record { count = let q = b.
 
 inside : (env : List ℕ) (d k : ℕ) → k < d → value_by (slot env (d - 1 - k)) ≡ binder_at env d k
 inside env d k h = ap (λ z. cond z (value_by (slot env (d - 1 - k))) no_value) (sym (lt-ltb k d h))
-
-pub binder_in : (env : List ℕ) (d k i : ℕ) (v : Value) → i ≡ d - 1 - k → k < d → v ≡ value_by (slot env i) → v ≡ binder_at env d k
-binder_in env d k i v z h e = e ∙ ap (λ i. value_by (slot env i)) z ∙ inside env d k h
-
-pub binder_out : (env : List ℕ) (d k : ℕ) → d ≤ k → no_value ≡ binder_at env d k
-binder_out env d k h = ap (λ z. cond z (value_by (slot env (d - 1 - k))) no_value) (sym (le-ltb k d h))
 
 -- what env_get gives
 pub binder_at_lem : {env : List ℕ} {d : ℕ} {ρ : Env} {k : ℕ} {τ : Ty} → Binders env d ρ → k < d → ValueType (get_or ρ k vunit) τ → leaves τ ≤ max_leaves

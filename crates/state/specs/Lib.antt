@@ -1,4 +1,5 @@
 pub mod Layout
+pub mod Tags
 pub mod Lent
 pub mod Holds
 pub mod Writing

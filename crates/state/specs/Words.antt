@@ -1,7 +1,7 @@
 -- What the leaf functions leave and return: rows of words written, values read from words, the value of a binder. Rests on
 -- Layout and Holds.
 -- For contracts only: tied to Holds by the proofs of the engine's functions.
-use Rattle.std.specs.Prelude.{◌≡◌, cond, List, ◌∷◌, ℕ, suc, ◌-◌, ◌<◌, ltb, get_or}
+use Rattle.std.specs.Prelude.{◌≡◌, cond, List, ◌∷◌, ℕ, suc, ◌+◌, ◌-◌, ◌<◌, ◌≤◌, ltb, get_or, ◌⊎◌}
 use Rattle.word.specs.Tabulate.{tabulate}
 use Rattle.tophat.specs.Syntax.{max_leaves}
 use Rattle.value.specs.declared.Value.{Value}
@@ -17,6 +17,11 @@ words_of v = v.shape ∷ v.leaves
 pub record Laid (ws ws₁ : List ℕ) (i : ℕ) (xs : List ℕ) : Type 0 where
   pub row : Row ws₁ i xs
   pub same : Same (λ j. j ≡ i) ws ws₁
+
+-- ws₁ is ws but for the words from place p on, which are those of v
+pub record LaidFrom (ws ws₁ : List ℕ) (p : ℕ) (v : Value) : Type 0 where
+  pub value : (m : ℕ) → m < value_length → get_or ws₁ (p + m) 0 ≡ get_or (words_of v) m 0
+  pub rest : (k : ℕ) → (k < p) ⊎ (p + value_length ≤ k) → get_or ws₁ k 0 ≡ get_or ws k 0
 
 -- the value whose words are f's
 abbrev pub value_by : (ℕ → ℕ) → Value

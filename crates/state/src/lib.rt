@@ -3,16 +3,20 @@
 #![tactic(auto)]
 
 pub mod lent; // a state in and out of lent memory
+pub mod tag;
 
-ghost use Rattle.std.specs.Prelude.{◌≡◌, [], ◌∷◌, ◌<◌, ◌≤◌, length, get_or, set};
+ghost use Rattle.std.specs.Prelude.{◌≡◌, ◌⊎◌, ℕ, [], ◌∷◌, ◌+◌, ◌<◌, ◌≤◌, length, get_or, set};
 ghost use Rattle.rows.specs.Rows.{max_rows, word};
 ghost use Rattle.rows.specs.Enclosing.{max_binders};
 ghost use Rattle.state.specs.Layout.{state_words, place, at, own, touch_words};
-ghost use Rattle.state.specs.Holds.{value_length, slot_place, slot};
-ghost use Rattle.state.specs.Words.{words_of, Laid, value_at, binder_at, Pushed};
+ghost use Rattle.state.specs.Tags.{tag_word};
+ghost use Rattle.state.specs.Holds.{value_length};
+ghost use Rattle.state.specs.Words.{words_of, Laid, LaidFrom, value_by, value_at, binder_at, Pushed};
 ghost use Rattle.state.specs.Ensured.{Fine, ClearOk};
 
-use rows::{MAX_BINDERS, MAX_ROWS, ROW_WORDS, ROWS_WORDS, get, operand};
+use rows::kinds::{Kind, kind_at};
+use rows::{MAX_BINDERS, MAX_ROWS, ROW_WORDS, ROWS_WORDS, operand};
+use tag::Tag;
 use tophat::{MAX_LEAVES, NUMBER};
 use value::{NO_VALUE, Value};
 
@@ -33,14 +37,10 @@ pub const VALUE_WORDS: usize = 1 + MAX_LEAVES;
 
 pub const ENV_WORDS: usize = MAX_BINDERS * VALUE_WORDS;
 
-// Tags: the row's own form, the first and the second of two things that it may have become, and the last row failed as a whole (CR 3).
-pub const OWN: u32 = 1;
-
+// Tags as words.
 pub const ONE: u32 = 2;
 
 pub const OTHER: u32 = 3;
-
-pub const WHOLE: u32 = 4;
 
 // Word m of a state row.
 pub fn read(state: &[u32; STATE_SIZE], row: usize, m: usize) -> u32
@@ -50,13 +50,26 @@ pub fn read(state: &[u32; STATE_SIZE], row: usize, m: usize) -> u32
     state[row * STATE_WORDS + m]
 }
 
-// A word stored. It reads back, since a slice's length is known, and so that the word is there.
-fn store(to: &mut [u32], at: usize, x: u32)
-    requires { at < length to.old }
-    ensures to_after { to.new ≡ set to.old at x }
-    ensures at_after { get_or to.new at 0 ≡ x }
+// The value whose words stand from that place on: its shape, and its leaves.
+fn value_in(words: &[u32], place: usize) -> Value
+    requires { place + value_length ≤ length words.now }
+    ensures { result ≡ value_by (λ m. get_or words.now (place + m) 0) }
 {
-    to[at] = x;
+    let mut leaves = [0u32; MAX_LEAVES];
+    leaves.copy_from_slice(&words[place + 1..place + VALUE_WORDS]);
+    Value {
+        shape: words[place],
+        leaves: leaves,
+    }
+}
+
+// The words of a value, laid from that place on.
+fn lay(words: &mut [u32], place: usize, v: Value)
+    requires { place + value_length ≤ length words.old }
+    ensures { LaidFrom words.old words.new place v }
+{
+    words[place] = v.shape;
+    words[place + 1..place + VALUE_WORDS].copy_from_slice(&v.leaves);
 }
 
 // Word m of a state row becomes x.
@@ -65,7 +78,16 @@ fn put(state: &mut [u32; STATE_SIZE], row: usize, m: usize, x: u32)
     ensures state_after { state.new ≡ set state.old (place row m) x }
     ensures m_after { at state.new row m ≡ x }
 {
-    store(state, row * STATE_WORDS + m, x);
+    state[row * STATE_WORDS + m] = x;
+}
+
+// The words of a row, from that place on, become zeros.
+fn blank(words: &mut [u32], place: usize)
+    requires { place + state_words ≤ length words.old }
+    ensures zeros { (m : ℕ) → m < state_words → get_or words.new (place + m) 0 ≡ 0 }
+    ensures rest { (k : ℕ) → (k < place) ⊎ (place + state_words ≤ k) → get_or words.new k 0 ≡ get_or words.old k 0 }
+{
+    words[place..place + STATE_WORDS].fill(0);
 }
 
 // The row is no longer live.
@@ -73,31 +95,25 @@ pub fn clear_row(state: &mut [u32; STATE_SIZE], row: usize)
     requires { row < max_rows }
     ensures { Laid state.old state.new row [] }
 {
-    for m in 0..STATE_WORDS {
-        put(state, row, m, 0);
-    }
+    blank(state, row * STATE_WORDS);
 }
 
 // The row is live, with its tag and nothing else.
-pub fn put_tag(state: &mut [u32; STATE_SIZE], row: usize, tag: u32)
+pub fn put_tag(state: &mut [u32; STATE_SIZE], row: usize, tag: Tag)
     requires { row < max_rows }
-    ensures { Laid state.old state.new row (tag ∷ []) }
+    ensures { Laid state.old state.new row (tag_word tag ∷ []) }
 {
     clear_row(state, row);
-    put(state, row, TAG, tag);
+    put(state, row, TAG, u32::from(tag));
 }
 
 // The row is live, and holds a value.
-pub fn put_value(state: &mut [u32; STATE_SIZE], row: usize, tag: u32, v: Value)
+pub fn put_value(state: &mut [u32; STATE_SIZE], row: usize, tag: Tag, v: Value)
     requires { row < max_rows }
-    ensures { Laid state.old state.new row (tag ∷ words_of v) }
+    ensures { Laid state.old state.new row (tag_word tag ∷ words_of v) }
 {
-    let leaves = v.leaves;
     put_tag(state, row, tag);
-    put(state, row, SHAPE, v.shape);
-    for k in 0..MAX_LEAVES {
-        put(state, row, LEAVES + k, leaves[k]);
-    }
+    lay(state, row * STATE_WORDS + SHAPE, v);
 }
 
 // The row is live, and holds the touches that a row of kind 50 has left (CR 6).
@@ -105,7 +121,7 @@ pub fn put_touches(state: &mut [u32; STATE_SIZE], row: usize, touches: u32)
     requires { row < max_rows }
     ensures { Laid state.old state.new row (own ∷ touch_words touches) }
 {
-    put_tag(state, row, OWN);
+    put_tag(state, row, Tag::Own);
     put(state, row, SHAPE, NUMBER);
     put(state, row, LEAVES, touches);
 }
@@ -123,35 +139,10 @@ pub fn read_value(state: &[u32; STATE_SIZE], row: usize) -> Value
     requires { row < max_rows }
     ensures { result ≡ value_at state.now row }
 {
-    let shape = read(state, row, SHAPE);
-    let mut leaves = [0u32; MAX_LEAVES];
-    for i in 0..MAX_LEAVES {
-        leaves[i] = read(state, row, LEAVES + i);
-    }
-    Value {
-        shape: shape,
-        leaves: leaves,
-    }
+    value_in(state, row * STATE_WORDS + SHAPE)
 }
 
-// Word m of the value of the binder in slot k; slot 0 is the outermost's. A value's first word is its shape.
-fn read_slot(env: &[u32; ENV_WORDS], k: usize, m: usize) -> u32
-    requires { (k < max_binders) × (m < value_length) }
-    ensures { result ≡ slot env.now k m }
-{
-    env[k * VALUE_WORDS + m]
-}
-
-// Word m of a binder's value becomes x.
-fn put_slot(env: &mut [u32; ENV_WORDS], k: usize, m: usize, x: u32)
-    requires { (k < max_binders) × (m < value_length) }
-    ensures env_after { env.new ≡ set env.old (slot_place k m) x }
-    ensures m_after { slot env.new k m ≡ x }
-{
-    store(env, k * VALUE_WORDS + m, x);
-}
-
-// The value of binder k, counted outward; none beyond the outermost.
+// The value of binder k, counted outward; none beyond the outermost. Slot 0 is the outermost's.
 pub fn env_get(env: &[u32; ENV_WORDS], depth: usize, k: usize) -> Value
     requires { depth ≤ max_binders }
     ensures { result ≡ binder_at env.now depth k }
@@ -160,15 +151,7 @@ pub fn env_get(env: &[u32; ENV_WORDS], depth: usize, k: usize) -> Value
         return NO_VALUE;
     }
     let inward = depth - 1 - k;
-    let shape = read_slot(env, inward, 0);
-    let mut leaves = [0u32; MAX_LEAVES];
-    for i in 0..MAX_LEAVES {
-        leaves[i] = read_slot(env, inward, 1 + i);
-    }
-    Value {
-        shape: shape,
-        leaves: leaves,
-    }
+    value_in(env, inward * VALUE_WORDS)
 }
 
 // One binder more, at that depth.
@@ -176,11 +159,7 @@ pub fn push(env: &mut [u32; ENV_WORDS], depth: usize, v: Value)
     requires { depth < max_binders }
     ensures { Pushed env.old env.new depth v }
 {
-    let leaves = v.leaves;
-    put_slot(env, depth, 0, v.shape);
-    for i in 0..MAX_LEAVES {
-        put_slot(env, depth, 1 + i, leaves[i]);
-    }
+    lay(env, depth * VALUE_WORDS, v);
 }
 
 // The values of the binders around, and one more, where those around are still wanted.
@@ -198,37 +177,21 @@ pub fn clear(rows: &[u32; ROWS_WORDS], state: &mut [u32; STATE_SIZE], row: usize
     requires { Fine rows.now row 0 }
     ensures { ClearOk rows.now state.old state.new row }
 {
-    let kind = get(rows, row, 0);
+    let Some(kind) = kind_at(rows, row) else {
+        clear_row(state, row);
+        return;
+    };
     match kind {
-        25 => {
-            let b = operand(rows, row, 2);
-            clear(rows, state, b);
-            let c = operand(rows, row, 3);
-            clear(rows, state, c);
-            clear_row(state, row);
-            return;
+        Kind::If => {
+            clear(rows, state, operand(rows, row, 2));
+            clear(rows, state, operand(rows, row, 3));
         }
-        31 | 50 => {
-            let b = operand(rows, row, 2);
-            clear(rows, state, b);
-            clear_row(state, row);
-            return;
+        Kind::Let | Kind::Gate => clear(rows, state, operand(rows, row, 2)),
+        Kind::Then | Kind::Next | Kind::And | Kind::Or | Kind::Xor => {
+            clear(rows, state, operand(rows, row, 1));
+            clear(rows, state, operand(rows, row, 2));
         }
-        45 => {
-            clear_row(state, row);
-            return;
-        }
-        43..=48 => {
-            let a = operand(rows, row, 1);
-            clear(rows, state, a);
-            let b = operand(rows, row, 2);
-            clear(rows, state, b);
-            clear_row(state, row);
-            return;
-        }
-        _ => {
-            clear_row(state, row);
-            return;
-        }
+        _ => {}
     }
+    clear_row(state, row);
 }

@@ -81,18 +81,17 @@ module _ (rs : List ℕ) (i : ℕ) where
   unfolding cell_type
   cell_shape_is c = let e = eq-eqb (word rs i 0) (number_of cell_k) c in rw e
 
-  module _ (ws : List ℕ) {k : ℕ} (h : k ≡ word rs i 0) where
-    pub copy_cell_is : {y y₁ : List ℕ} {t : ℕ} {r : Bool} → k ≡ number_of cell_k → t ≡ as_shape (content_type rs i) → ValueOk ws y y₁ i own t r → CellOk rs ws y y₁ i r
-    copy_cell_is {y} {y₁} {t} {r} e z f =
-        let c : Cell rs i = sym h ∙ e in
+  module _ (ws : List ℕ) where
+    pub copy_cell_is : {y y₁ : List ℕ} {t : ℕ} {r : Bool} → Cell rs i → t ≡ as_shape (content_type rs i) → ValueOk ws y y₁ i own t r → CellOk rs ws y y₁ i r
+    copy_cell_is {y} {y₁} {t} {r} c z f =
         let b = eq-eqb (word rs i 0) (number_of cell_k) c in
         let g : Got r (CopyCell rs y y₁ i) (read_value ws i (cell_type rs i)) = got_as refl (λ v l. record { row = λ _. l.row; same = same_weak (λ j q. (subst (Cell rs) (sym q) c, q)) l.same }) (value_ok (cell_type rs i) (cell_small rs ws i) (z ∙ cell_shape_is c) f) in
         subst (λ b. Got r (CopyCell rs y y₁ i) (cond b (read_value ws i (cell_type rs i)) (some vunit))) (sym b) g
 
-    pub copy_cell_none : {y : List ℕ} → (k ≡ number_of cell_k → ⊥) → CellOk rs ws y y i true
+    pub copy_cell_none : {y : List ℕ} → (Cell rs i → ⊥) → CellOk rs ws y y i true
     copy_cell_none {y} n =
-        let b = ne_eqb (word rs i 0) (number_of cell_k) (λ c. n (h ∙ c)) in
-        subst (λ b. Got true (CopyCell rs y y i) (cond b (read_value ws i (cell_type rs i)) (some vunit))) (sym b) (got_some refl (record { row = λ c. absurd (n (h ∙ c)); same = same_refl }))
+        let b = ne_eqb (word rs i 0) (number_of cell_k) n in
+        subst (λ b. Got true (CopyCell rs y y i) (cond b (read_value ws i (cell_type rs i)) (some vunit))) (sym b) (got_some refl (record { row = λ c. absurd (n c); same = same_refl }))
 
 -- ---- the cells
 

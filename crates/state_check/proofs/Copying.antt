@@ -1,9 +1,9 @@
 -- Copying the task of a row: what was done at the row by its part, and the rows below it copied, answers as reading the task
 -- does. Rests on Laying and on crate typing's agreement with the calculus.
-use Rattle.std.proofs.Common.{Some, None}
+use Rattle.std.specs.Prelude.{Option, Some, None}
 use mathlib.Core.Path.{◌≡◌, refl, sym, ap, subst, ◌∙◌}
 use mathlib.Core.Bool.{Bool, true, false, cond, false≢true}
-use mathlib.Core.Option.{Option, none, some, bind}
+use mathlib.Core.Option.{Option as Maybe, none, some, bind}
 use mathlib.Core.List.{List, [], ◌∷◌}
 use Prim.Native.Nat.{ℕ, suc, ◌+◌, ◌≤◌, ◌<◌}
 use native.Mathlib.Omega.{arith}
@@ -31,25 +31,25 @@ use Rattle.state.specs.Holds.{tree_of, Sits, Clear}
 use Rattle.state.specs.Words.{Laid, value_at}
 use Rattle.state.specs.Reading.{read_value, read_touches, by_tag, read_task}
 use Rattle.state_check.specs.declared.Part.{Part}
-use Rattle.state_check.specs.declared.Part.TheVariants.{Bad, Alone, Filled, Below, Bound, Two, Gate}
+use Rattle.state_check.specs.declared.Part.TheVariants.{Alone, Filled, Below, Bound, Two, Gate}
 use Rattle.state_check.specs.Parts.{tagged_part, part_from, part_of}
 use Rattle.state_check.specs.Copies.{Sheet, Site, Copy, CopyOk, ValueOk, TouchesOk}
 use Rattle.state_check.proofs.Laying.{clear_under, below, clear_a, clear_b, neither, left, right, two}
 
 -- ---- answers
 
-pub got_map : {X Y : Type 0} {r : Bool} {Q : X → Type 0} {R : Y → Type 0} {o : Option X} (K : X → Y) → ((x : X) → Q x → R (K x)) → Got r Q o → Got r R (bind o λ x. some (K x))
+pub got_map : {X Y : Type 0} {r : Bool} {Q : X → Type 0} {R : Y → Type 0} {o : Maybe X} (K : X → Y) → ((x : X) → Q x → R (K x)) → Got r Q o → Got r R (bind o λ x. some (K x))
 unfolding bind
 got_map K f (got_none e) = got_none e
 got_map K f (got_some e q) = got_some e (f _ q)
 
-pub got_bind : {X Y : Type 0} {q r : Bool} {Q : X → Type 0} {R : Y → Type 0} {o : Option X} {f : X → Option Y}
+pub got_bind : {X Y : Type 0} {q r : Bool} {Q : X → Type 0} {R : Y → Type 0} {o : Maybe X} {f : X → Maybe Y}
     → Got q Q o → (q ≡ false → r ≡ false) → (q ≡ true → (x : X) → Q x → Got r R (f x)) → Got r R (bind o f)
 unfolding bind
 got_bind (got_none e) g h = got_none (g e)
 got_bind (got_some e q) g h = h e _ q
 
-pub got_as : {X : Type 0} {q r : Bool} {Q R : X → Type 0} {o : Option X} → q ≡ r → ((x : X) → Q x → R x) → Got q Q o → Got r R o
+pub got_as : {X : Type 0} {q r : Bool} {Q R : X → Type 0} {o : Maybe X} → q ≡ r → ((x : X) → Q x → R x) → Got q Q o → Got r R o
 got_as h f (got_none e) = got_none (sym h ∙ e)
 got_as h f (got_some e q) = got_some (sym h ∙ e) (f _ q)
 
@@ -69,31 +69,31 @@ value_unread {ws} {y} {i} {x} {s} q = record { got = subst (Got false (λ v. Lai
 
 -- ---- what was done at a row
 
-pub data Step (rs ws y y₁ : List ℕ) (i : ℕ) (env : List ℕ) (d : ℕ) (r : Bool) : Part → Type 0 where
-  s_bad : r ≡ false → Step rs ws y y₁ i env d r Bad
-  s_alone : r ≡ true → Laid y y₁ i (at ws i 0 ∷ []) → Step rs ws y y₁ i env d r Alone
-  s_filled : {a : ℕ} → ValueOk ws y y₁ i (at ws i 0) (type_of rs env d a) r → Step rs ws y y₁ i env d r (Filled a)
-  s_below : {k : ℕ} {z : List ℕ} → Laid y z i (at ws i 0 ∷ []) → CopyOk rs ws z y₁ k env d r → Step rs ws y y₁ i env d r (Below k)
+pub data Step (rs ws y y₁ : List ℕ) (i : ℕ) (env : List ℕ) (d : ℕ) (r : Bool) : Option Part → Type 0 where
+  s_bad : r ≡ false → Step rs ws y y₁ i env d r None
+  s_alone : r ≡ true → Laid y y₁ i (at ws i 0 ∷ []) → Step rs ws y y₁ i env d r (Some Alone)
+  s_filled : {a : ℕ} → ValueOk ws y y₁ i (at ws i 0) (type_of rs env d a) r → Step rs ws y y₁ i env d r (Some (Filled a))
+  s_below : {k : ℕ} {z : List ℕ} → Laid y z i (at ws i 0 ∷ []) → CopyOk rs ws z y₁ k env d r → Step rs ws y y₁ i env d r (Some (Below k))
   s_bound : {a b : ℕ} {z : List ℕ} {q : Bool} → ValueOk ws y z i (at ws i 0) (type_of rs env d a) q → (q ≡ false → r ≡ false)
-      → (q ≡ true → d < max_binders → CopyOk rs ws z y₁ b (set env d (type_of rs env d a)) (d + 1) r) → Step rs ws y y₁ i env d r (Bound a b)
+      → (q ≡ true → d < max_binders → CopyOk rs ws z y₁ b (set env d (type_of rs env d a)) (d + 1) r) → Step rs ws y y₁ i env d r (Some (Bound a b))
   s_two : {a b : ℕ} {z z₁ : List ℕ} {q : Bool} → Laid y z i (at ws i 0 ∷ []) → CopyOk rs ws z z₁ a env d q → (q ≡ false → r ≡ false)
-      → (q ≡ true → CopyOk rs ws z₁ y₁ b env d r) → Step rs ws y y₁ i env d r (Two a b)
-  s_gate : {b m : ℕ} {z : List ℕ} {q : Bool} → TouchesOk ws y z i m q → (q ≡ false → r ≡ false) → (q ≡ true → CopyOk rs ws z y₁ b env d r) → Step rs ws y y₁ i env d r (Gate b m)
+      → (q ≡ true → CopyOk rs ws z₁ y₁ b env d r) → Step rs ws y y₁ i env d r (Some (Two a b))
+  s_gate : {b m : ℕ} {z : List ℕ} {q : Bool} → TouchesOk ws y z i m q → (q ≡ false → r ≡ false) → (q ≡ true → CopyOk rs ws z y₁ b env d r) → Step rs ws y y₁ i env d r (Some (Gate b m))
 
 module _ (rs ws y y₁ : List ℕ) (i : ℕ) (env : List ℕ) (d : ℕ) (r : Bool) where
-  abbrev St : Part → Type 0
+  abbrev St : Option Part → Type 0
   St p = Step rs ws y y₁ i env d r p
 
   module _ {X : Type 0} {Q : X → Type 0} where
-    none_held : St Bad → Got r Q none
+    none_held : St None → Got r Q none
     none_held (s_bad e) = got_none e
 
-    pick : {p q : Part} {o₁ o₂ : Option X} (b : Bool) → (b ≡ true → St p → Got r Q o₁) → (b ≡ false → St q → Got r Q o₂) → St (cond b p q) → Got r Q (cond b o₁ o₂)
+    pick : {p q : Option Part} {o₁ o₂ : Maybe X} (b : Bool) → (b ≡ true → St p → Got r Q o₁) → (b ≡ false → St q → Got r Q o₂) → St (cond b p q) → Got r Q (cond b o₁ o₂)
     pick true f g s = f refl s
     pick false f g s = g refl s
 
     -- one of three, by the tag
-    tags : {p q t : Part} {o₁ o₂ o₃ : Option X} → (at ws i 0 ≡ own → St p → Got r Q o₁) → (at ws i 0 ≡ one → St q → Got r Q o₂) → (at ws i 0 ≡ other → St t → Got r Q o₃)
+    tags : {p q t : Option Part} {o₁ o₂ o₃ : Maybe X} → (at ws i 0 ≡ own → St p → Got r Q o₁) → (at ws i 0 ≡ one → St q → Got r Q o₂) → (at ws i 0 ≡ other → St t → Got r Q o₃)
         → St (tagged_part (at ws i 0) p q t) → Got r Q (by_tag ws i o₁ o₂ o₃)
     unfolding by_tag
     tags f g h s = pick (eqb (at ws i 0) own) (λ e. f (eqb-true _ _ e)) (λ _. pick (eqb (at ws i 0) one) (λ e. g (eqb-true _ _ e)) (λ _. pick (eqb (at ws i 0) other) (λ e. h (eqb-true _ _ e)) (λ _. none_held))) s
@@ -101,19 +101,19 @@ module _ (rs ws y y₁ : List ℕ) (i : ℕ) (env : List ℕ) (d : ℕ) (r : Boo
   tag_as : {z xs : List ℕ} {v : ℕ} → at ws i 0 ≡ v → Laid y z i (at ws i 0 ∷ xs) → Laid y z i (v ∷ xs)
   tag_as {z} {xs} e l = subst (λ x. Laid y z i (x ∷ xs)) e l
 
-  alone_of : {X : Type 0} {Q : X → Type 0} {t : X} {v : ℕ} → at ws i 0 ≡ v → (Laid y y₁ i (v ∷ []) → Q t) → St Alone → Got r Q (some t)
+  alone_of : {X : Type 0} {Q : X → Type 0} {t : X} {v : ℕ} → at ws i 0 ≡ v → (Laid y y₁ i (v ∷ []) → Q t) → St (Some Alone) → Got r Q (some t)
   alone_of e f (s_alone h l) = got_some h (f (tag_as e l))
 
   module _ {X : Type 0} {Q : X → Type 0} {v : ℕ} where
     -- a value of the type, if there is one
-    value_of : {z : List ℕ} {q : Bool} {s : ℕ} {f : Ty → Val → Option X} (o : Option Ty) → Good o s → at ws i 0 ≡ v → ValueOk ws y z i (at ws i 0) s q → (q ≡ false → r ≡ false)
+    value_of : {z : List ℕ} {q : Bool} {s : ℕ} {f : Ty → Val → Maybe X} (o : Maybe Ty) → Good o s → at ws i 0 ≡ v → ValueOk ws y z i (at ws i 0) s q → (q ≡ false → r ≡ false)
         → ((τ : Ty) (w : Val) → leaves τ ≤ max_leaves → s ≡ as_shape τ → q ≡ true → Laid y z i (v ∷ value_words w) → Got r Q (f τ w)) → Got r Q (bind o λ τ. bind (read_value ws i τ) (f τ))
     unfolding bind maybe_shape
     value_of none g e h n k = got_none (n (value_none g.is h))
     value_of (some τ) g e h n k = got_bind (value_ok τ g.small g.is h) n (λ z w l. k τ w g.small g.is z (tag_as e l))
 
-    filled_of : {a : ℕ} {f : Ty → Val → Option X} (o : Option Ty) → Good o (type_of rs env d a) → at ws i 0 ≡ v → ((τ : Ty) (w : Val) → r ≡ true → Laid y y₁ i (v ∷ value_words w) → Got r Q (f τ w))
-        → St (Filled a) → Got r Q (bind o λ τ. bind (read_value ws i τ) (f τ))
+    filled_of : {a : ℕ} {f : Ty → Val → Maybe X} (o : Maybe Ty) → Good o (type_of rs env d a) → at ws i 0 ≡ v → ((τ : Ty) (w : Val) → r ≡ true → Laid y y₁ i (v ∷ value_words w) → Got r Q (f τ w))
+        → St (Some (Filled a)) → Got r Q (bind o λ τ. bind (read_value ws i τ) (f τ))
     filled_of o g e k (s_filled h) = value_of o g e h (λ z. z) (λ τ w l m z p. k τ w z p)
 
   -- ---- the rows below
@@ -136,32 +136,32 @@ module _ (rs ws y y₁ : List ℕ) (i : ℕ) (env : List ℕ) (d : ℕ) (r : Boo
       around = subst (λ e. BinderShapes (set env e (as_shape τ)) (τ ∷ Γ)) st.depth (around_more τ m h st.around);
     }
 
-    at_depth : {c : Code} {o : Option Ty} (k : ℕ) → Here c → Good o (type_of rs env (length Γ) k) → Good o (type_of rs env d k)
+    at_depth : {c : Code} {o : Maybe Ty} (k : ℕ) → Here c → Good o (type_of rs env (length Γ) k) → Good o (type_of rs env d k)
     at_depth {o = o} k st g = subst (λ m. Good o (type_of rs env m k)) st.depth g
 
     module _ {X : Type 0} {R : X → Type 0} {v : ℕ} where
       below_of : {k : ℕ} {b : Code} (K : TaskOf b → X) → at ws i 0 ≡ v → Site rs n Γ env d k b → ((z : List ℕ) → Laid y z i (v ∷ []) → Clear rs z k (tree_of b))
-          → ((z : List ℕ) (t : TaskOf b) → Laid y z i (v ∷ []) → Copy rs z y₁ k b t → R (K t)) → St (Below k) → Got r R (bind (read_task rs ws Σ Γ k b) λ t. some (K t))
+          → ((z : List ℕ) (t : TaskOf b) → Laid y z i (v ∷ []) → Copy rs z y₁ k b t → R (K t)) → St (Some (Below k)) → Got r R (bind (read_task rs ws Σ Γ k b) λ t. some (K t))
       below_of {b = b} K e st cl f (s_below l ok) = let p = tag_as e l in got_map K (λ t c. f _ t p c) (ok n Σ Γ b sh st (cl _ p))
 
-      bound_of : {A k : ℕ} {b : Code} (K : Val → TaskOf b → X) (o : Option Ty) → Good o (type_of rs env d A) → at ws i 0 ≡ v → d < max_binders
+      bound_of : {A k : ℕ} {b : Code} (K : Val → TaskOf b → X) (o : Maybe Ty) → Good o (type_of rs env d A) → at ws i 0 ≡ v → d < max_binders
           → ((τ : Ty) → leaves τ ≤ max_leaves → Site rs n (τ ∷ Γ) (set env d (as_shape τ)) (d + 1) k b) → ((z xs : List ℕ) → Laid y z i xs → Clear rs z k (tree_of b))
           → ((z : List ℕ) (w : Val) (u : TaskOf b) → Laid y z i (v ∷ value_words w) → Copy rs z y₁ k b u → R (K w u))
-          → St (Bound A k) → Got r R (bind o λ τ. bind (read_value ws i τ) λ w. bind (read_task rs ws Σ (τ ∷ Γ) k b) λ u. some (K w u))
+          → St (Some (Bound A k)) → Got r R (bind o λ τ. bind (read_value ws i τ) λ w. bind (read_task rs ws Σ (τ ∷ Γ) k b) λ u. some (K w u))
       bound_of {k = k} {b = b} K o g e room st cl f (s_bound {z = z} h m ok) =
           value_of o g e h m (λ τ w l q t p. got_map (K w) (λ u c. f _ w u p c) (subst (λ s. CopyOk rs ws z y₁ k (set env d s) (d + 1) r) q (ok t room) n Σ (τ ∷ Γ) b sh (st τ l) (cl _ _ p)))
 
       two_of : {j k : ℕ} {a b : Code} (K : TaskOf a → TaskOf b → X) → at ws i 0 ≡ v → Site rs n Γ env d j a → Site rs n Γ env d k b → ((z : List ℕ) → Laid y z i (v ∷ []) → Clear rs z j (tree_of a))
           → ((z z₁ : List ℕ) (t : TaskOf a) → Laid y z i (v ∷ []) → Copy rs z z₁ j a t → Clear rs z₁ k (tree_of b))
           → ((z z₁ : List ℕ) (t : TaskOf a) (u : TaskOf b) → Laid y z i (v ∷ []) → Copy rs z z₁ j a t → Copy rs z₁ y₁ k b u → R (K t u))
-          → St (Two j k) → Got r R (bind (read_task rs ws Σ Γ j a) λ t. bind (read_task rs ws Σ Γ k b) λ u. some (K t u))
+          → St (Some (Two j k)) → Got r R (bind (read_task rs ws Σ Γ j a) λ t. bind (read_task rs ws Σ Γ k b) λ u. some (K t u))
       two_of {a = a} {b = b} K e sa sb ca cb f (s_two l ok m more) =
           let p = tag_as e l in
           got_bind (ok n Σ Γ a sh sa (ca _ p)) m (λ q t c. got_map (K t) (λ u c₁. f _ _ t u p c c₁) (more q n Σ Γ b sh sb (cb _ _ t p c)))
 
     gate_of : {X : Type 0} {R : X → Type 0} {k m : ℕ} {b : Code} (K : ℕ → TaskOf b → X) → Site rs n Γ env d k b → ((z xs : List ℕ) → Laid y z i xs → Clear rs z k (tree_of b))
         → ((z : List ℕ) (w : ℕ) (u : TaskOf b) → Laid y z i (own ∷ touch_words w) → Copy rs z y₁ k b u → R (K w u))
-        → St (Gate k m) → Got r R (bind (read_touches ws i m) λ w. bind (read_task rs ws Σ Γ k b) λ u. some (K w u))
+        → St (Some (Gate k m)) → Got r R (bind (read_touches ws i m) λ w. bind (read_task rs ws Σ Γ k b) λ u. some (K w u))
     gate_of {b = b} K st cl f (s_gate h m more) =
         got_bind h.got m (λ q w p. got_map (K w) (λ u c. f _ w u p c) (more q n Σ Γ b sh st (cl _ _ p)))
 
@@ -224,8 +224,8 @@ module _ (rs ws y y₁ : List ℕ) (i : ℕ) (env : List ℕ) (d : ℕ) (r : Boo
 
 -- ---- what copy_task returns
 
-module _ (rs ws y : List ℕ) (i : ℕ) (env : List ℕ) (d x : ℕ) (p : Part) (hx : x ≡ at ws i 0) (hp : p ≡ part_of rs i x) where
-  copied : {y₁ : List ℕ} {r : Bool} {p₁ : Part} → p ≡ p₁ → Step rs ws y y₁ i env d r p₁ → CopyOk rs ws y y₁ i env d r
+module _ (rs ws y : List ℕ) (i : ℕ) (env : List ℕ) (d x : ℕ) (p : Option Part) (hx : x ≡ at ws i 0) (hp : p ≡ part_of rs i x) where
+  copied : {y₁ : List ℕ} {r : Bool} {p₁ : Option Part} → p ≡ p₁ → Step rs ws y y₁ i env d r p₁ → CopyOk rs ws y y₁ i env d r
   copied {y₁} {r} e s n Σ Γ c sh st cl = at_code rs ws y y₁ i env d r n Σ Γ sh st.reads st cl (subst (Step rs ws y y₁ i env d r) (sym e ∙ hp ∙ ap (part_of rs i) hx) s)
 
   tag_is : {z xs : List ℕ} → Laid y z i (x ∷ xs) → Laid y z i (at ws i 0 ∷ xs)
@@ -234,22 +234,22 @@ module _ (rs ws y : List ℕ) (i : ℕ) (env : List ℕ) (d x : ℕ) (p : Part) 
   value_is : {z : List ℕ} {t s : ℕ} {q : Bool} → t ≡ s → ValueOk ws y z i x t q → ValueOk ws y z i (at ws i 0) s q
   value_is {z} {t} {s} {q} e h = subst (λ t. ValueOk ws y z i (at ws i 0) t q) e (subst (λ x. ValueOk ws y z i x t q) hx h)
 
-  pub copy_bad : p ≡ Bad → CopyOk rs ws y y i env d false
+  pub copy_bad : p ≡ None → CopyOk rs ws y y i env d false
   copy_bad e = copied e (s_bad refl)
 
-  pub copy_alone : {y₁ : List ℕ} → p ≡ Alone → Laid y y₁ i (x ∷ []) → CopyOk rs ws y y₁ i env d true
+  pub copy_alone : {y₁ : List ℕ} → p ≡ Some Alone → Laid y y₁ i (x ∷ []) → CopyOk rs ws y y₁ i env d true
   copy_alone e l = copied e (s_alone refl (tag_is l))
 
-  pub copy_filled : {y₁ : List ℕ} {a t : ℕ} {r : Bool} → p ≡ Filled a → Some t ≡ shape_or_none (type_of rs env d a) → ValueOk ws y y₁ i x t r → CopyOk rs ws y y₁ i env d r
+  pub copy_filled : {y₁ : List ℕ} {a t : ℕ} {r : Bool} → p ≡ Some (Filled a) → Some t ≡ shape_or_none (type_of rs env d a) → ValueOk ws y y₁ i x t r → CopyOk rs ws y y₁ i env d r
   copy_filled e f h = copied e (s_filled (value_is (shape_is f).0 h))
 
-  pub copy_untyped : {a : ℕ} → p ≡ Filled a → None ≡ shape_or_none (type_of rs env d a) → CopyOk rs ws y y i env d false
+  pub copy_untyped : {a : ℕ} → p ≡ Some (Filled a) → None ≡ shape_or_none (type_of rs env d a) → CopyOk rs ws y y i env d false
   copy_untyped e f = copied e (s_filled (value_unread (shape_not f)))
 
-  pub copy_below : {z y₁ : List ℕ} {k : ℕ} {r : Bool} → p ≡ Below k → Laid y z i (x ∷ []) → CopyOk rs ws z y₁ k env d r → CopyOk rs ws y y₁ i env d r
+  pub copy_below : {z y₁ : List ℕ} {k : ℕ} {r : Bool} → p ≡ Some (Below k) → Laid y z i (x ∷ []) → CopyOk rs ws z y₁ k env d r → CopyOk rs ws y y₁ i env d r
   copy_below e l h = copied e (s_below (tag_is l) h)
 
-  module _ {a b : ℕ} (e : p ≡ Bound a b) where
+  module _ {a b : ℕ} (e : p ≡ Some (Bound a b)) where
     module _ {t : ℕ} (f : Some t ≡ shape_or_none (type_of rs env d a)) where
       pub copy_bound : {z y₁ env₁ : List ℕ} {d₁ : ℕ} {q r : Bool} → ValueOk ws y z i x t q → q ≡ true → env₁ ≡ set env d t → d₁ ≡ d + 1 → CopyOk rs ws z y₁ b env₁ d₁ r → CopyOk rs ws y y₁ i env d r
       copy_bound {z} {y₁} {d₁ = d₁} {r = r} h q g k ok =
@@ -267,14 +267,14 @@ module _ (rs ws y : List ℕ) (i : ℕ) (env : List ℕ) (d x : ℕ) (p : Part) 
     pub copy_unshaped : None ≡ shape_or_none (type_of rs env d a) → CopyOk rs ws y y i env d false
     copy_unshaped f = copied e (s_bound (value_unread (shape_not f)) (λ _. refl) (λ n _. absurd (false≢true n)))
 
-  module _ {a b : ℕ} (e : p ≡ Two a b) where
+  module _ {a b : ℕ} (e : p ≡ Some (Two a b)) where
     pub copy_two : {z z₁ y₁ : List ℕ} {q r : Bool} → Laid y z i (x ∷ []) → CopyOk rs ws z z₁ a env d q → q ≡ true → CopyOk rs ws z₁ y₁ b env d r → CopyOk rs ws y y₁ i env d r
     copy_two l h q ok = copied e (s_two (tag_is l) h (λ n. absurd (false≢true (sym n ∙ q))) (λ _. ok))
 
     pub copy_first : {z z₁ : List ℕ} {q : Bool} → Laid y z i (x ∷ []) → CopyOk rs ws z z₁ a env d q → q ≡ false → CopyOk rs ws y z₁ i env d q
     copy_first l h q = copied e (s_two (tag_is l) h (λ n. n) (λ n. absurd (false≢true (sym q ∙ n))))
 
-  module _ {b m : ℕ} (e : p ≡ Gate b m) where
+  module _ {b m : ℕ} (e : p ≡ Some (Gate b m)) where
     pub copy_gate : {z y₁ : List ℕ} {q r : Bool} → TouchesOk ws y z i m q → q ≡ true → CopyOk rs ws z y₁ b env d r → CopyOk rs ws y y₁ i env d r
     copy_gate h q ok = copied e (s_gate h (λ n. absurd (false≢true (sym n ∙ q))) (λ _. ok))
 

@@ -4,19 +4,22 @@
 #![tactic(auto)]
 
 ghost use Rattle.std.specs.Prelude.{◌≡◌, true, false, ◌*◌, ◌-◌, ◌<◌, ◌≤◌, length, replicate};
+ghost use Rattle.std.proofs.Math.Option.{some};
 ghost use Rattle.word.specs.Decides.{Decides};
 ghost use Rattle.rows.specs.Rows.{max_rows};
 ghost use Rattle.state.specs.Layout.{state_words};
 ghost use Rattle.state.specs.Ensured.{Fine};
-ghost use Rattle.state_check.specs.Parts.{tagged_part, part_from, part_of, Lower};
+ghost use Rattle.rows.specs.KindsInCode.{in_table};
+ghost use Rattle.state.specs.Tags.{tag_word};
+ghost use Rattle.state_check.specs.Parts.{tagged_part, part_by, part_of, Lower};
 ghost use Rattle.state_check.specs.Copies.{CopyOk, ValueOk, TouchesOk, CellOk, CellsOk};
 ghost use Rattle.state_check.specs.States.{Alike, ToWrite, HeldOk};
 
-use rows::kinds::CELL;
-use rows::{MAX_ROWS, ROW_WORDS, ROWS_WORDS, get, operand};
+use rows::kinds::{Kind, kind_at};
+use rows::{MAX_ROWS, ROW_WORDS, ROWS_WORDS, operand};
+use state::tag::{Tag, tag_at};
 use state::{
-    ONE, OTHER, OWN, STATE_SIZE, STATE_WORDS, put_tag, put_touches, put_value, read, read_touches,
-    read_value,
+    STATE_SIZE, STATE_WORDS, put_tag, put_touches, put_value, read, read_touches, read_value,
 };
 use tophat::NUMBER;
 use typing::{Binders, cell_shape, row_type};
@@ -25,7 +28,6 @@ use value::fits;
 // What reading does with a state row, and the rows that it then reads.
 #[derive(Clone, Copy)]
 pub enum Part {
-    Bad,
     Alone,
     Filled(usize),
     Below(usize),
@@ -34,44 +36,52 @@ pub enum Part {
     Gate(usize, usize),
 }
 
-fn by_tag(tag: u32, p: Part, q: Part, r: Part) -> Part
-    ensures { result ≡ tagged_part tag p q r }
+// One of three, by the tag.
+fn by_tag(tag: Tag, own: Option<Part>, one: Option<Part>, other: Option<Part>) -> Option<Part>
+    ensures { result ≡ tagged_part (tag_word tag) own one other }
 {
-    if tag == OWN {
-        return p;
+    match tag {
+        Tag::Own => own,
+        Tag::One => one,
+        Tag::Other => other,
+        Tag::Whole => None,
     }
-    if tag == ONE {
-        return q;
-    }
-    if tag == OTHER {
-        return r;
-    }
-    Part::Bad
 }
 
-fn part_from(kind: u32, tag: u32, a: usize, b: usize, c: usize) -> Part
-    ensures { result ≡ part_from kind tag a b c }
+// Of a row of a kind, with operands a, b, c and a tag; none, where no task has such a row.
+fn part_from(kind: Kind, tag: Tag, a: usize, b: usize, c: usize) -> Option<Part>
+    ensures { result ≡ part_by (some (in_table kind)) (tag_word tag) a b c }
 {
     match kind {
-        25 => by_tag(tag, Part::Bad, Part::Below(b), Part::Below(c)),
-        31 => by_tag(tag, Part::Bad, Part::Bound(a, b), Part::Bad),
-        40 | 49 => by_tag(tag, Part::Filled(a), Part::Bad, Part::Bad),
-        41 => by_tag(tag, Part::Alone, Part::Filled(a), Part::Bad),
-        42 | 45 => by_tag(tag, Part::Alone, Part::Bad, Part::Bad),
-        46 => by_tag(tag, Part::Two(a, b), Part::Bad, Part::Bad),
-        47 => by_tag(tag, Part::Two(a, b), Part::Below(a), Part::Below(b)),
-        48 => by_tag(tag, Part::Alone, Part::Below(a), Part::Below(b)),
-        50 => by_tag(tag, Part::Gate(b, c), Part::Bad, Part::Bad),
-        43..=44 => by_tag(tag, Part::Below(a), Part::Bound(a, b), Part::Bad),
-        _ => Part::Bad,
+        Kind::If => by_tag(tag, None, Some(Part::Below(b)), Some(Part::Below(c))),
+        Kind::Let => by_tag(tag, None, Some(Part::Bound(a, b)), None),
+        Kind::Edit | Kind::View => by_tag(tag, Some(Part::Filled(a)), None, None),
+        Kind::Enter => by_tag(tag, Some(Part::Alone), Some(Part::Filled(a)), None),
+        Kind::Update | Kind::Fail => by_tag(tag, Some(Part::Alone), None, None),
+        Kind::Then | Kind::Next => by_tag(tag, Some(Part::Below(a)), Some(Part::Bound(a, b)), None),
+        Kind::And => by_tag(tag, Some(Part::Two(a, b)), None, None),
+        Kind::Or => by_tag(
+            tag,
+            Some(Part::Two(a, b)),
+            Some(Part::Below(a)),
+            Some(Part::Below(b)),
+        ),
+        Kind::Xor => by_tag(
+            tag,
+            Some(Part::Alone),
+            Some(Part::Below(a)),
+            Some(Part::Below(b)),
+        ),
+        Kind::Gate => by_tag(tag, Some(Part::Gate(b, c)), None, None),
+        _ => None,
     }
 }
 
-fn part_at(rows: &[u32; ROWS_WORDS], row: usize, tag: u32) -> Part
+fn part_at(rows: &[u32; ROWS_WORDS], row: usize, tag: Tag) -> Option<Part>
     requires { Fine rows.now row 0 }
-    ensures { (result ≡ part_of rows.now row tag) × Lower result row }
+    ensures { (result ≡ part_of rows.now row (tag_word tag)) × Lower result row }
 {
-    let kind = get(rows, row, 0);
+    let kind = kind_at(rows, row)?;
     let a = operand(rows, row, 1);
     let b = operand(rows, row, 2);
     let c = operand(rows, row, 3);
@@ -83,11 +93,11 @@ fn copy_value(
     state: &[u32; STATE_SIZE],
     work: &mut [u32; STATE_SIZE],
     row: usize,
-    tag: u32,
+    tag: Tag,
     shape: u32,
 ) -> bool
     requires { row < max_rows }
-    ensures { ValueOk state.now work.old work.new row tag shape result }
+    ensures { ValueOk state.now work.old work.new row (tag_word tag) shape result }
 {
     let v = read_value(state, row);
     if fits(v, shape) {
@@ -129,10 +139,13 @@ fn copy_task(
     requires { Fine rows.now row binders.now.count }
     ensures { CopyOk rows.now state.now work.old work.new row binders.now.shapes binders.now.count result }
 {
-    let tag = read(state, row, 0);
-    let part = part_at(rows, row, tag);
+    let Some(tag) = tag_at(state, row) else {
+        return false;
+    };
+    let Some(part) = part_at(rows, row, tag) else {
+        return false;
+    };
     match part {
-        Part::Bad => false,
         Part::Alone => {
             put_tag(work, row, tag);
             true
@@ -173,11 +186,13 @@ fn copy_cell(
     requires { row < max_rows }
     ensures { CellOk rows.now state.now work.old work.new row result }
 {
-    if get(rows, row, 0) == CELL {
-        let t = cell_shape(rows, row);
-        return copy_value(state, work, row, OWN, t);
+    let Some(kind) = kind_at(rows, row) else {
+        return true;
+    };
+    match kind {
+        Kind::Cell => copy_value(state, work, row, Tag::Own, cell_shape(rows, row)),
+        _ => true,
     }
-    true
 }
 
 // The cells among the first n rows.
@@ -203,12 +218,7 @@ pub fn alike(x: &[u32], y: &[u32], m: usize) -> bool
     requires { (m ≤ length x.now) × (m ≤ length y.now) }
     ensures { Decides result (Alike x.now y.now m) }
 {
-    for k in 0..m {
-        if x[k] != y[k] {
-            return false;
-        }
-    }
-    true
+    x[..m] == y[..m]
 }
 
 // Reads the state and writes it into `work`: is it so written?
@@ -222,13 +232,9 @@ fn written(
     requires to_write { ToWrite n state.now work.old }
     ensures { HeldOk rows.now n state.now work.new result }
 {
-    if copy_cells(rows, n, state, work) {
-        if copy_task(rows, state, work, n - 1, &Binders::new()) {
-            return alike(state, work, n * STATE_WORDS);
-        }
-        return false;
-    }
-    false
+    copy_cells(rows, n, state, work)
+        && copy_task(rows, state, work, n - 1, &Binders::new())
+        && alike(state, work, n * STATE_WORDS)
 }
 
 // Is the state the writing of a well-typed task and store of the n rows? Where it is, `work` holds the same words at exit, else
