@@ -1,22 +1,23 @@
 -- The ways of `row_type`: what it gives by the node, and none where a row that the node names has no type. Rests on TypeLaws, Steps
 -- and on the crate shape.
-use Rattle.std.proofs.Common.{Option as Answer, Some, None, IsTrue}
+use Rattle.std.proofs.Common.{Option as Answer, Some, None, IsTrue, ◌⊎◌}
+use Rattle.std.specs.Bool.{then_some}
 use Rattle.std.proofs.lemmas.Option.{same_Some}
 use Rattle.word.specs.Options.{in_code}
 use mathlib.Core.Path.{◌≡◌, refl, sym, ap, ◌∙◌}
-use mathlib.Core.Bool.{Bool, false, cond, false≢true}
+use mathlib.Core.Bool.{Bool, true, false, cond, false≢true}
 use mathlib.Core.Option.{Option, none, some, bind}
-use mathlib.Core.Logic.{⊎_elim}
+use mathlib.Core.Logic.{inl, inr, ⊎_elim}
 use mathlib.Core.List.{List}
 use Prim.Native.Nat.{ℕ, ◌+◌, ◌<◌, ◌≤◌}
 use lib.Dec.{eqb}
 use lib.ListN.{set}
-use borrow.Author.Tests.{lt-ltb, le-ltb, ne_eqb, eqb-true}
-use Rattle.tophat.specs.Syntax.{Ty, unit}
+use borrow.Author.Tests.{lt-ltb, le-ltb, eq-eqb, ne_eqb, eqb-true}
+use Rattle.tophat.specs.Syntax.{Ty, unit, truth}
 use Rattle.shape.specs.Shape.{as_shape, maybe_shape, as_type, shape_or_none, pair_shape, first_shape, second_shape}
-use Rattle.shape.proofs.Puts.{by_test}
+use Rattle.shape.proofs.Puts.{by_test, shape_pos}
 use Rattle.shape.proofs.Shapes.{no_type}
-use Rattle.shape.proofs.Coded.{shape_is, shape_not}
+use Rattle.shape.proofs.Coded.{some_shape, shape_is, shape_not}
 use Rattle.rows.proofs.Basics.{le_or_lt}
 use Rattle.rows.specs.Enclosing.{max_binders}
 use Rattle.typing.specs.Nodes.{node_of}
@@ -113,6 +114,34 @@ first_zero = rw no_type refl
 pub second_zero : second_shape 0 ≡ 0
 unfolding second_shape bind maybe_shape
 second_zero = rw no_type refl
+
+-- ---- tests of types
+
+same_by : (b : Bool) (t : ℕ) → (t ≡ 0 → ⊥) → then_some b t ≡ shape_or_none (cond b t 0)
+same_by true t h = some_shape refl h
+same_by false t h = refl
+
+module _ (x y : ℕ) {t u : ℕ} {r : Answer ℕ} (p : Some t ≡ shape_or_none x) (q : Some u ≡ shape_or_none y) where
+  pub same_typed : r ≡ then_some (eqb t u) t → r ≡ shape_or_none (same_shape x y)
+  same_typed e = after2 same_shape x y (e ∙ same_by (eqb t u) t (shape_is p).1) p q
+
+  pub assign_typed : r ≡ then_some (eqb t u) (as_shape unit) → r ≡ shape_or_none (assign_shape x y)
+  unfolding assign_shape
+  assign_typed e =
+      let z : assign_shape t u ≡ cond (eqb t u) (as_shape unit) 0 = rw (ne_eqb t 0 (shape_is p).1) in
+      after2 assign_shape x y (e ∙ same_by (eqb t u) (as_shape unit) (shape_pos unit) ∙ ap shape_or_none (sym z)) p q
+
+  pub if_typed : (w : ℕ) {s : ℕ} {b : Bool} → Some s ≡ shape_or_none w → ((s ≡ as_shape truth) × (b ≡ eqb t u)) ⊎ ((s ≡ as_shape truth → ⊥) × (b ≡ eqb s (as_shape truth))) → r ≡ then_some b t → r ≡ shape_or_none (if_shape w x y)
+  unfolding if_shape
+  if_typed w {s} {b} o h e = after3 if_shape w x y (e ∙ by h) o p q
+    where
+      by : ((s ≡ as_shape truth) × (b ≡ eqb t u)) ⊎ ((s ≡ as_shape truth → ⊥) × (b ≡ eqb s (as_shape truth))) → then_some b t ≡ shape_or_none (if_shape s t u)
+      by (inl (f, g)) =
+          let z : if_shape s t u ≡ cond (eqb t u) t 0 = rw (eq-eqb s (as_shape truth) f) in
+          ap (λ b. then_some b t) g ∙ same_by (eqb t u) t (shape_is p).1 ∙ ap shape_or_none (sym z)
+      by (inr (f, g)) =
+          let z : if_shape s t u ≡ 0 = rw (ne_eqb s (as_shape truth) f) in
+          ap (λ b. then_some b t) (g ∙ ne_eqb s (as_shape truth) f) ∙ ap shape_or_none (sym z)
 
 -- ---- under a binder more
 

@@ -11,7 +11,7 @@ ghost use Rattle.rows.specs.Enclosing.{max_binders};
 ghost use Rattle.rows.specs.ComputeTrees.{content_type};
 ghost use Rattle.rows.specs.Ground.{flow_type, passes4, passes6};
 ghost use Rattle.typing.specs.Nodes.{node_by, node_of, names_lower, Below};
-ghost use Rattle.typing.specs.RowTypes.{op_shape, same_shape, if_shape, assign_shape, binder_shape, type_of, is_task, flow_shape};
+ghost use Rattle.typing.specs.RowTypes.{op_shape, binder_shape, type_of, is_task, flow_shape};
 
 use match_laws;
 use rows::kinds::Kind;
@@ -118,30 +118,6 @@ fn op_shape(o: u32, t: u32, u: u32) -> Option<u32>
     (t == takes && u == takes).then_some(gives)
 }
 
-fn same_shape(t: u32, u: u32) -> Option<u32>
-    requires { 0 < t }
-    ensures { result ≡ shape_or_none (same_shape t u) }
-{
-    (t == u).then_some(t)
-}
-
-fn if_shape(x: u32, t: u32, u: u32) -> Option<u32>
-    requires { 0 < t }
-    ensures { result ≡ shape_or_none (if_shape x t u) }
-{
-    if x != shape::TRUTH {
-        return None;
-    }
-    same_shape(t, u)
-}
-
-fn assign_shape(t: u32, u: u32) -> Option<u32>
-    requires { 0 < t }
-    ensures { result ≡ shape_or_none (assign_shape t u) }
-{
-    (t == u).then_some(shape::UNIT)
-}
-
 // A row of kind k with the operands a, b and c.
 fn node_from(k: u32, a: u32, b: u32, c: u32) -> Option<Node>
     ensures { result ≡ in_code (node_by (kind_of k) a b c) }
@@ -204,7 +180,7 @@ pub fn row_type(rows: &[u32; ROWS_WORDS], row: usize, binders: &Binders) -> Opti
             let s = row_type(rows, a, binders)?;
             let t = row_type(rows, b, binders)?;
             let u = row_type(rows, c, binders)?;
-            if_shape(s, t, u)
+            (s == shape::TRUTH && t == u).then_some(t)
         }
         Node::Pair(a, b) => {
             let t = row_type(rows, a, binders)?;
@@ -223,7 +199,7 @@ pub fn row_type(rows: &[u32; ROWS_WORDS], row: usize, binders: &Binders) -> Opti
         Node::Assign(a, b) => {
             let t = row_type(rows, a, binders)?;
             let u = row_type(rows, b, binders)?;
-            assign_shape(t, u)
+            (t == u).then_some(shape::UNIT)
         }
         Node::Bind(a, b) => {
             let t = row_type(rows, a, binders)?;
@@ -236,7 +212,7 @@ pub fn row_type(rows: &[u32; ROWS_WORDS], row: usize, binders: &Binders) -> Opti
         Node::Same(a, b) => {
             let t = row_type(rows, a, binders)?;
             let u = row_type(rows, b, binders)?;
-            same_shape(t, u)
+            (t == u).then_some(t)
         }
     }
 }

@@ -1,11 +1,13 @@
 use mathlib.Core.Path.{refl}
+use mathlib.Core.Logic.{inl, inr}
 use mathlib.Core.List.{List}
 use Prim.Native.Nat.{ℕ}
-use Rattle.shape.specs.Shape.{pair_shape, first_shape, second_shape}
+use Rattle.shape.specs.Shape.{put, as_shape, pair_shape, first_shape, second_shape}
 use Rattle.typing.specs.RowTypes.{op_shape, same_shape, if_shape, assign_shape, bind_shape, type_of}
 use Rattle.typing.proofs.Steps.{op_none, op_none', if_zero_first}
-use Rattle.typing.proofs.Rules.{by_node, no_node, after1, after2, after3, no_only, no_left, no_right, no_first, no_second, no_third, same_left, same_right, assign_left, assign_right, if_second, if_third, pair_left, pair_right, first_zero, second_zero, not_full, bind_full, bind_more}
+use Rattle.typing.proofs.Rules.{by_node, no_node, after1, after2, no_only, no_left, no_right, no_first, no_second, no_third, same_left, same_right, same_typed, assign_left, assign_right, assign_typed, if_second, if_third, if_typed, pair_left, pair_right, first_zero, second_zero, not_full, bind_full, bind_more}
 use Rattle.typing.proofs.+row_type.Goals as goal
+use Rattle.typing.proofs.+row_type.Goals.{then-s-eq-TRUTH, else-s-eq-TRUTH}
 
 pub returns-in_err-node : goal.returns-in_err-node
 returns-in_err-node t c = no_node _ _ _ _ c.from_residual.ensures c.in_err-node.ensures.is
@@ -67,17 +69,23 @@ returns-in-Through t c = by_node _ _ _ _ c.in_ok-node.ensures.is c.in-Through.is
 pub returns-in_ok-u-in-Op : goal.returns-in_ok-u-in-Op
 returns-in_ok-u-in-Op t c = by_node _ _ _ _ c.in_ok-node.ensures.is c.in-Op.is (after2 (op_shape c.in-Op.o) _ _ c.op_shape.ensures c.in_ok-t-in-Op.ensures c.in_ok-u-in-Op.ensures)
 
-pub returns-in_ok-u-in-If : goal.returns-in_ok-u-in-If
-returns-in_ok-u-in-If t c = by_node _ _ _ _ c.in_ok-node.ensures.is c.in-If.is (after3 if_shape _ _ _ c.if_shape.ensures c.in_ok-s-in-If.ensures c.in_ok-t-in-If.ensures c.in_ok-u-in-If.ensures)
+pub returns-after-s-eq-TRUTH : goal.returns-after-s-eq-TRUTH
+unfolding as_shape put
+returns-after-s-eq-TRUTH t c =
+    by_node _ _ _ _ c.in_ok-node.ensures.is c.in-If.is
+    (if_typed _ _ c.in_ok-t-in-If.ensures c.in_ok-u-in-If.ensures _ c.in_ok-s-in-If.ensures
+    (elim c.if-s-eq-TRUTH.branch [ then-s-eq-TRUTH w ↦ inl (w.if-s-eq-TRUTH.true, w.then_some-is) | else-s-eq-TRUTH w ↦ inr (w.if-s-eq-TRUTH.false, w.then_some-is) ])
+    c.then_some.ensures)
 
 pub returns-in_ok-u-in-Pair : goal.returns-in_ok-u-in-Pair
 returns-in_ok-u-in-Pair t c = by_node _ _ _ _ c.in_ok-node.ensures.is c.in-Pair.is (after2 pair_shape _ _ c.pair_shape.ensures c.in_ok-t-in-Pair.ensures c.in_ok-u-in-Pair.ensures)
 
 pub returns-in_ok-u-in-Assign : goal.returns-in_ok-u-in-Assign
-returns-in_ok-u-in-Assign t c = by_node _ _ _ _ c.in_ok-node.ensures.is c.in-Assign.is (after2 assign_shape _ _ c.assign_shape.ensures c.in_ok-t-in-Assign.ensures c.in_ok-u-in-Assign.ensures)
+unfolding as_shape put
+returns-in_ok-u-in-Assign t c = by_node _ _ _ _ c.in_ok-node.ensures.is c.in-Assign.is (assign_typed _ _ c.in_ok-t-in-Assign.ensures c.in_ok-u-in-Assign.ensures c.then_some-in-Assign.ensures)
 
 pub returns-in_ok-u-in-Same : goal.returns-in_ok-u-in-Same
-returns-in_ok-u-in-Same t c = by_node _ _ _ _ c.in_ok-node.ensures.is c.in-Same.is (after2 same_shape _ _ c.same_shape.ensures c.in_ok-t-in-Same.ensures c.in_ok-u-in-Same.ensures)
+returns-in_ok-u-in-Same t c = by_node _ _ _ _ c.in_ok-node.ensures.is c.in-Same.is (same_typed _ _ c.in_ok-t-in-Same.ensures c.in_ok-u-in-Same.ensures c.then_some-in-Same.ensures)
 
 pub returns-in_ok-t-in-First : goal.returns-in_ok-t-in-First
 returns-in_ok-t-in-First t c = by_node _ _ _ _ c.in_ok-node.ensures.is c.in-First.is (after1 first_shape _ c.first_shape.ensures c.in_ok-t-in-First.ensures)
