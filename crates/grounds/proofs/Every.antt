@@ -1,4 +1,4 @@
--- Tests one after another: three of a row, and one of each row below n, as a loop over the rows finds it. Rests on rows.
+-- A test of each row below n, as a loop over the rows finds it. Rests on rows.
 use mathlib.Core.Path.{◌≡◌, refl, sym, ap, ◌∙◌}
 use mathlib.Core.Bool.{Bool, true, false, not, ◌&&◌}
 use mathlib.Core.Logic.{⊎_elim}
@@ -9,17 +9,6 @@ use native.Mathlib.Omega.{arith}
 use borrow.Author.Tests.{not-true, not-false}
 use Rattle.rows.specs.Rows.{every}
 use Rattle.match_laws.proofs.Ranges.{and-false}
-
--- three tests, left at the first that fails
-module _ {w : Bool} (p q r : Bool) (e : w ≡ (p && (q && r))) {x : Bool} (f : x ≡ p) where
-  pub not_first : not x ≡ true → false ≡ w
-  not_first t = sym (e ∙ rw (sym f, not-true x t))
-
-  pub not_second : not x ≡ false → {y : Bool} → y ≡ q → not y ≡ true → false ≡ w
-  not_second t {y} g h = sym (e ∙ rw (sym f, not-false x t, sym g, not-true y h))
-
-  pub third : not x ≡ false → {y : Bool} → y ≡ q → not y ≡ false → {z : Bool} → z ≡ r → z ≡ w
-  third t {y} g h k = k ∙ sym (e ∙ rw (sym f, not-false x t, sym g, not-false y h))
 
 module _ (p : ℕ → Bool) where
   pub every_none : every 0 p ≡ true

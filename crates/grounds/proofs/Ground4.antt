@@ -1,18 +1,18 @@
--- Ground 4: sorts by number, and what a row's operands say of its being sorted. Rests on rows, Table and Filled.
+-- Ground 4: the table of sorts by number, read and written, and a row's being sorted. Rests on rows, Table and Filled.
 use mathlib.Core.Path.{◌≡◌, refl, sym, ap, ◌∙◌}
-use mathlib.Core.Bool.{Bool, false, ◌&&◌}
+use mathlib.Core.Bool.{Bool}
 use mathlib.Core.List.{List, map}
 use Prim.Native.Nat.{ℕ, ◌+◌, ◌<◌}
 use native.Mathlib.Numerals.{add-one}
 use lib.ListN.{length, get_or, set, take}
 use Rattle.rows.specs.Kinds.{Sort, no_s}
-use Rattle.rows.specs.Rows.{asks_at, op_a, op_b, op_c, sort_by, sorts, sort_below, sort_number, sorted_as, sorted, row_sorted}
+use Rattle.rows.specs.Rows.{asks_at, op_a, op_b, op_c, sort_by, sorts, sort_below, sort_number, sorted, row_sorted}
 use Rattle.grounds.specs.declared.table.Ask.{Ask as CodeAsk}
 use Rattle.grounds.specs.declared.table.Own.{Own as CodeOwn}
 use Rattle.grounds.specs.declared.table.Around.{Around as CodeAround}
 use Rattle.grounds.specs.declared.table.Asks.{Asks as CodeAsks}
-use Rattle.grounds.specs.declared.table.Asks.TheVariants.{Known, Unknown}
-use Rattle.grounds.specs.Table.{ask_by, asks_by}
+use Rattle.grounds.specs.declared.table.Asks.TheVariants.{Known}
+use Rattle.grounds.specs.Table.{asks_by}
 use Rattle.grounds.specs.Tables.{SortsTo}
 use Rattle.grounds.proofs.Filled.{entry_is, one_more}
 
@@ -20,15 +20,6 @@ use Rattle.grounds.proofs.Filled.{entry_is, one_more}
 pub own : {s : CodeAsks} {p q r : CodeAsk} {o w : CodeOwn} {x : CodeAround} → s ≡ Known p q r o x → o ≡ w → (u : Sort)
     → sort_number (sort_by (asks_by (Known p q r w x)) u) ≡ sort_number (sort_by (asks_by s) u)
 own {s} {p} {q} {r} {x = x} e f u = ap (λ s. sort_number (sort_by (asks_by s) u)) (sym (e ∙ ap (λ o. Known p q r o x) f))
-
-module _ (u v w : Sort) {s : CodeAsks} where
-  pub unsorted : s ≡ Unknown → false ≡ sorted (asks_by s) u v w
-  unfolding sorted
-  unsorted e = sym (ap (λ s. sorted (asks_by s) u v w) e)
-
-  pub sorted_is : {p q r : CodeAsk} {o : CodeOwn} {x : CodeAround} → s ≡ Known p q r o x → sorted (asks_by s) u v w ≡ (sorted_as (ask_by p) u v && (sorted_as (ask_by q) v v && sorted_as (ask_by r) w v))
-  unfolding sorted
-  sorted_is e = ap (λ s. sorted (asks_by s) u v w) e
 
 module _ (rs t : List ℕ) (i : ℕ) (e : SortsTo rs t i) where
   -- the number that the table has for row w

@@ -3,15 +3,15 @@ use mathlib.Core.Path.{◌≡◌, refl, sym, ap, subst, ◌∙◌}
 use mathlib.Core.Bool.{Bool, true, false, not, ◌&&◌}
 use mathlib.Core.Logic.{⊎_elim}
 use mathlib.Core.List.{List}
-use Prim.Native.Nat.{ℕ, suc, ◌+◌, ◌<◌, ◌≤◌}
+use Prim.Native.Nat.{ℕ, ◌+◌, ◌<◌, ◌≤◌}
 use native.Mathlib.Numerals.{add-one}
 use native.Mathlib.Omega.{arith}
 use lib.Dec.{eqb}
 use lib.ListN.{get_or, set, replicate, get_or-replicate, length-replicate, length-set}
 use lib.Seq.{get_or-set_same, get_or-set_other}
-use borrow.Author.Tests.{lt-ltb, le-ltb, le-leb, lt-leb, eq-eqb, ne_eqb, eqb-true, eqb-false, not-true, not-false}
+use borrow.Author.Tests.{le-leb, lt-leb, ne_eqb, eqb-true, eqb-false, not-true, not-false}
 use Rattle.rows.specs.Kinds.{number_of}
-use Rattle.rows.specs.Rows.{max_rows, word, asks_at, op_a, op_b, op_c, names, count, names_by, names_in, namings, named_once, fits_last, last_fits, first_expression}
+use Rattle.rows.specs.Rows.{max_rows, word, asks_at, op_a, op_b, op_c, names, count, names_by, names_in, namings, first_expression}
 use Rattle.rows.proofs.Basics.{true_or_false}
 use Rattle.grounds.specs.declared.table.Ask.{Ask as CodeAsk}
 use Rattle.grounds.specs.declared.table.Own.{Own as CodeOwn}
@@ -20,7 +20,7 @@ use Rattle.grounds.specs.declared.table.Asks.{Asks as CodeAsks}
 use Rattle.grounds.specs.declared.table.Asks.TheVariants.{Known, Unknown}
 use Rattle.grounds.specs.Table.{ask_by, asks_by}
 use Rattle.grounds.specs.Tables.{stop, max_namings, More}
-use Rattle.grounds.proofs.Stop.{stop_low, stop_high, stop_under, stop_reached, stop_eqb}
+use Rattle.grounds.proofs.Stop.{stop_low, stop_high, stop_under, stop_reached}
 
 -- ---- counts grow
 
@@ -111,23 +111,3 @@ name_rows_none rs t = more_none t (λ i. namings rs i 0) (λ i l. refl)
 pub name_rows_more : (rs t u v : List ℕ) (j : ℕ) → More t u (λ i. namings rs i j) → More u v (λ i. names_in rs i j) → More t v (λ i. namings rs i (j + 1))
 unfolding namings
 name_rows_more rs t u v j a b = rw add-one (more_then t u v (λ i. namings rs i j) (λ i. names_in rs i j) a b)
-
--- ---- the tests
-
-module _ (rs : List ℕ) (n i : ℕ) {k : ℕ} (e : k ≡ word rs i 0) where
-  pub once_low : k < number_of first_expression → true ≡ named_once rs n i
-  unfolding named_once
-  once_low h = sym (rw (lt-ltb (word rs i 0) (number_of first_expression) (omega arith)))
-
-  pub once_last : number_of first_expression ≤ k → i + 1 ≡ n → true ≡ named_once rs n i
-  unfolding named_once
-  once_last h g = sym (rw (le-ltb (word rs i 0) (number_of first_expression) (omega arith), eq-eqb (suc i) n (omega arith)))
-
-  pub once_counted : number_of first_expression ≤ k → (i + 1 ≡ n → ⊥) → (x : ℕ) → x ≡ stop max_namings (namings rs i n) → eqb x 1 ≡ named_once rs n i
-  unfolding named_once
-  once_counted h g x f = ap (λ x. eqb x 1) f ∙ stop_eqb max_namings (namings rs i n) 1 (omega arith)
-      ∙ sym (rw (le-ltb (word rs i 0) (number_of first_expression) (omega arith), ne_eqb (suc i) n (λ z. g (omega arith))))
-
-pub last_is : (rs : List ℕ) (i k : ℕ) → k ≡ word rs i 0 → (r : Bool) → r ≡ fits_last k → r ≡ last_fits rs i
-unfolding last_fits
-last_is rs i k e r h = h ∙ ap fits_last e

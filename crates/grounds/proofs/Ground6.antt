@@ -1,5 +1,5 @@
 -- Ground 6: counts that stop decide as the counts themselves do. Rests on rows, Table, Counts, Filled and Stop.
-use mathlib.Core.Path.{◌≡◌, refl, sym, ap, ap₂, ◌∙◌}
+use mathlib.Core.Path.{◌≡◌, refl, sym, ap, ◌∙◌}
 use mathlib.Core.Bool.{Bool, true, false, ◌&&◌, ◌||◌, cond}
 use mathlib.Core.List.{List, map}
 use Prim.Native.Nat.{ℕ, zero, suc, ◌+◌, ◌<◌, ◌≤◌, max}
@@ -12,39 +12,14 @@ use Rattle.rows.specs.Kinds.{is, as_b, Asks, asks, no_asks, type_s, basic_s}
 use Rattle.rows.specs.Rows.{asks_at, op_a, op_b, op_c, every, names, same_sort}
 use Rattle.rows.specs.Enclosing.{max_binders, binders_by, marks_by, most_binders, most_marks, leaves_by, counts, row_small}
 use Rattle.rows.proofs.Most.{count_is}
-use Rattle.grounds.specs.declared.table.Ask.{Ask as CodeAsk}
-use Rattle.grounds.specs.declared.table.Own.{Own as CodeOwn}
-use Rattle.grounds.specs.declared.table.Around.{Around as CodeAround}
 use Rattle.grounds.specs.declared.table.Asks.{Asks as CodeAsks}
-use Rattle.grounds.specs.declared.table.Asks.TheVariants.{Known, Unknown}
 use Rattle.grounds.specs.declared.small.Counted.{Counted}
 use Rattle.grounds.specs.declared.small.Counted.TheVariants.{Leaves, Binders, Marks}
-use Rattle.grounds.specs.Table.{ask_by, around_by, asks_by}
+use Rattle.grounds.specs.Table.{asks_by}
 use Rattle.grounds.specs.Tables.{stop}
 use Rattle.grounds.specs.Counts.{count_by, most_of, count_of, few_at, CountsTo}
 use Rattle.grounds.proofs.Filled.{entry_is, one_more}
 use Rattle.grounds.proofs.Stop.{stop_low, stop_bound, stop_leb, Alike, alike_stop, alike_add, alike_max, alike_cond}
-
--- ---- by the code's enums
-
--- a count of a line of the table, where what is counted has another name
-pub of_known : (f : Asks → ℕ) {s : CodeAsks} {p q r : CodeAsk} {o w : CodeOwn} {x : CodeAround} → s ≡ Known p q r o x → o ≡ w → f (asks_by (Known p q r w x)) ≡ f (asks_by s)
-of_known f {p = p} {q = q} {r = r} {x = x} e h = ap (λ s. f (asks_by s)) (sym (e ∙ ap (λ o. Known p q r o x) h))
-
-pub of_unknown : (f : Asks → ℕ) {s : CodeAsks} → s ≡ Unknown → f no_asks ≡ f (asks_by s)
-of_unknown f e = ap (λ s. f (asks_by s)) (sym e)
-
-module _ {s : CodeAsks} {p q r : CodeAsk} {o : CodeOwn} {x : CodeAround} (e : s ≡ Known p q r o x) (a b c : ℕ) {u v w d k l : ℕ} (h : d ≡ max v w) (g : l ≡ max u d) where
-  pub binders_are : k ≡ binders_by (around_by x) → u ≡ cond (names (ask_by p)) a 0 → v ≡ cond (names (ask_by q)) (k + b) 0 → w ≡ cond (names (ask_by r)) c 0
-      → l ≡ most_binders (asks_by s) a b c
-  unfolding most_binders
-  binders_are i y z j = g ∙ (λ t. max (y t) ((h ∙ ap₂ max (z ∙ ap (λ k. cond (names (ask_by q)) (k + b) 0) i) j) t)) ∙ ap (λ s. most_binders (asks_by s) a b c) (sym e)
-
-  pub marks_are : k ≡ marks_by (around_by x) → u ≡ cond (names (ask_by p)) (k + a) 0 → v ≡ cond (names (ask_by q)) (k + b) 0 → w ≡ cond (names (ask_by r)) c 0
-      → l ≡ most_marks (asks_by s) a b c
-  unfolding most_marks
-  marks_are i y z j = g ∙ (λ t. max ((y ∙ ap (λ k. cond (names (ask_by p)) (k + a) 0) i) t) ((h ∙ ap₂ max (z ∙ ap (λ k. cond (names (ask_by q)) (k + b) 0) i) j) t))
-      ∙ ap (λ s. most_marks (asks_by s) a b c) (sym e)
 
 -- ---- counts of counts that have stopped stop alike
 

@@ -1,5 +1,4 @@
 pub mod Every
-pub mod Ground3
 pub mod Filled
 pub mod Ground4
 pub mod Stop

@@ -12,12 +12,10 @@ use tophat::MAX_TOUCHES;
 fn is_operator(w: u32) -> bool
     ensures { result ≡ (leb 1 w && leb w 8) }
 {
-    match w {
-        1..=8 => true,
-        _ => false,
-    }
+    matches!(w, 1..=8)
 }
 
+#[tactic(auto, unfolding(rows::specs::Rows::listed_as))]
 fn listed_as(q: Ask, w: u32) -> bool
     ensures { result ≡ listed_as (ask_by q) w }
 {
@@ -25,51 +23,39 @@ fn listed_as(q: Ask, w: u32) -> bool
         Ask::Unused => w == 0,
         Ask::Operator => is_operator(w),
         Ask::Truth => w <= 1,
-        Ask::AnyWord => true,
-        Ask::AType => true,
-        Ask::ABasic => true,
-        Ask::ACell => true,
-        Ask::APlain => true,
-        Ask::ATask => true,
-        Ask::ABranch => true,
-        Ask::LikeB => true,
         Ask::ARole => is_role(w),
         Ask::SomeTouches => w <= MAX_TOUCHES,
+        Ask::AnyWord
+        | Ask::AType
+        | Ask::ABasic
+        | Ask::ACell
+        | Ask::APlain
+        | Ask::ATask
+        | Ask::ABranch
+        | Ask::LikeB => true,
     }
 }
 
+#[tactic(auto, unfolding(rows::specs::Rows::listed))]
 fn operands_listed(s: Asks, a: u32, b: u32, c: u32) -> bool
     ensures { result ≡ listed (asks_by s) a b c }
 {
     let Asks::Known(p, q, t, _, _) = s else {
         return false;
     };
-    if !listed_as(p, a) {
-        return false;
-    }
-    if !listed_as(q, b) {
-        return false;
-    }
-    listed_as(t, c)
+    listed_as(p, a) && listed_as(q, b) && listed_as(t, c)
 }
 
+#[tactic(auto, unfolding(rows::specs::Rows::truth_cell))]
 fn truth_cell(rows: &[u32; ROWS_WORDS], i: usize) -> bool
     requires { i < max_rows }
     ensures { result ≡ truth_cell rows.now i }
 {
-    if get(rows, i, 0) != CELL {
-        return true;
-    }
     let a = operand(rows, i, 1);
-    if i <= a {
-        return true;
-    }
-    if get(rows, a, 0) != TRUTH {
-        return true;
-    }
-    get(rows, i, 2) <= 1
+    get(rows, i, 0) != CELL || i <= a || get(rows, a, 0) != TRUTH || get(rows, i, 2) <= 1
 }
 
+#[tactic(auto, unfolding(rows::specs::Rows::row_listed))]
 fn row_listed(rows: &[u32; ROWS_WORDS], i: usize) -> bool
     requires { i < max_rows }
     ensures { result ≡ row_listed rows.now i }
@@ -78,10 +64,7 @@ fn row_listed(rows: &[u32; ROWS_WORDS], i: usize) -> bool
     let a = get(rows, i, 1);
     let b = get(rows, i, 2);
     let c = get(rows, i, 3);
-    if !operands_listed(s, a, b, c) {
-        return false;
-    }
-    truth_cell(rows, i)
+    operands_listed(s, a, b, c) && truth_cell(rows, i)
 }
 
 pub fn listed(rows: &[u32; ROWS_WORDS], n: usize) -> bool

@@ -63,17 +63,12 @@ fn name_rows(rows: &[u32; ROWS_WORDS], table: &mut [u8; MAX_ROWS], n: usize)
 }
 
 // row i is named as it must be, where x is its namings by n rows
+#[tactic(auto, using(crate::proofs::Stop::stop_eqb), unfolding(rows::specs::Rows::named_once))]
 fn named_once(rows: &[u32; ROWS_WORDS], n: usize, i: usize, x: u8) -> bool
     requires { (i < n) × (n ≤ max_rows) × (x ≡ stop max_namings (namings rows.now i n)) }
     ensures { result ≡ named_once rows.now n i }
 {
-    if get(rows, i, 0) < FIRST_EXPRESSION {
-        return true;
-    }
-    if i + 1 == n {
-        return true;
-    }
-    x == 1
+    get(rows, i, 0) < FIRST_EXPRESSION || i + 1 == n || x == 1
 }
 
 fn all_named(rows: &[u32; ROWS_WORDS], n: usize, table: &[u8; MAX_ROWS]) -> bool
@@ -91,21 +86,15 @@ fn all_named(rows: &[u32; ROWS_WORDS], n: usize, table: &[u8; MAX_ROWS]) -> bool
 fn last_fits(k: u32) -> bool
     ensures { result ≡ fits_last k }
 {
-    match k {
-        0..=24 => false,
-        26..=30 => false,
-        _ => true,
-    }
+    !matches!(k, 0..=24 | 26..=30)
 }
 
+#[tactic(auto, unfolding(rows::specs::Rows::last_fits))]
 pub fn named(rows: &[u32; ROWS_WORDS], n: usize) -> bool
     requires { (1 ≤ n) × (n ≤ max_rows) }
     ensures { result ≡ (every n (named_once rows.now n) && last_fits rows.now (n - 1)) }
 {
     let mut table = [0u8; MAX_ROWS];
     name_rows(rows, &mut table, n);
-    if !all_named(rows, n, &table) {
-        return false;
-    }
-    last_fits(get(rows, n - 1, 0))
+    all_named(rows, n, &table) && last_fits(get(rows, n - 1, 0))
 }

@@ -6,24 +6,11 @@ ghost use Rattle.grounds.specs.Table.{ask_by};
 
 use crate::table::{Ask, Asks, asks_of};
 
+#[tactic(auto, unfolding(rows::specs::Kinds::is_unused))]
 fn is_unused(q: Ask) -> bool
     ensures { result ≡ is_unused (ask_by q) }
 {
-    match q {
-        Ask::Unused => true,
-        Ask::Operator => false,
-        Ask::Truth => false,
-        Ask::AnyWord => false,
-        Ask::AType => false,
-        Ask::ABasic => false,
-        Ask::ACell => false,
-        Ask::APlain => false,
-        Ask::ATask => false,
-        Ask::ABranch => false,
-        Ask::LikeB => false,
-        Ask::ARole => false,
-        Ask::SomeTouches => false,
-    }
+    matches!(q, Ask::Unused)
 }
 
 // Whether word k of a row of this kind is an unused operand. Word 0 is the kind itself; a number that is no kind uses all three.

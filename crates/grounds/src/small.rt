@@ -34,41 +34,29 @@ fn most_of(w: Counted) -> u8
     }
 }
 
-fn larger(a: u8, b: u8) -> u8
-    ensures { result ≡ max a b }
-{
-    if a <= b {
-        return b;
-    }
-    a
-}
-
 fn if_named(q: Ask, a: u8) -> u8
     ensures { result ≡ cond (names (ask_by q)) a 0 }
 {
-    if names_row(q) {
-        return a;
-    }
-    0
+    if names_row(q) { a } else { 0 }
 }
 
+#[tactic(auto, unfolding(rows::specs::Enclosing::binders_by))]
 fn binder_of(x: Around) -> u8
     ensures { (result ≡ binders_by (around_by x)) × (result ≤ 1) }
 {
     match x {
-        Around::Nothing => 0,
         Around::Binder => 1,
-        Around::Mark => 0,
+        Around::Nothing | Around::Mark => 0,
     }
 }
 
+#[tactic(auto, unfolding(rows::specs::Enclosing::marks_by))]
 fn mark_of(x: Around) -> u8
     ensures { (result ≡ marks_by (around_by x)) × (result ≤ 1) }
 {
     match x {
-        Around::Nothing => 0,
-        Around::Binder => 0,
         Around::Mark => 1,
+        Around::Nothing | Around::Binder => 0,
     }
 }
 
@@ -77,12 +65,10 @@ fn type_leaves(p: Ask, a: u8, b: u8) -> u8
     requires { (a ≤ suc max_binders) × (b ≤ suc max_binders) }
     ensures { result ≡ cond (names (ask_by p)) (a + b) 1 }
 {
-    if names_row(p) {
-        return a + b;
-    }
-    1
+    if names_row(p) { a + b } else { 1 }
 }
 
+#[tactic(auto, unfolding(rows::specs::Enclosing::leaves_by, rows::specs::Rows::sort_number))]
 fn leaves_by(s: Asks, a: u8, b: u8, c: u8) -> u8
     requires { (a ≤ suc max_binders) × (b ≤ suc max_binders) }
     ensures { result ≡ leaves_by (asks_by s) a b c }
@@ -91,15 +77,12 @@ fn leaves_by(s: Asks, a: u8, b: u8, c: u8) -> u8
         return 0;
     };
     match o {
-        Own::OwnType => type_leaves(p, a, b),
-        Own::OwnBasic => type_leaves(p, a, b),
-        Own::OwnCell => 0,
-        Own::OwnPlain => 0,
-        Own::OwnTask => 0,
-        Own::AsB => 0,
+        Own::OwnType | Own::OwnBasic => type_leaves(p, a, b),
+        Own::OwnCell | Own::OwnPlain | Own::OwnTask | Own::AsB => 0,
     }
 }
 
+#[tactic(auto, unfolding(rows::specs::Enclosing::most_binders))]
 fn binders_by(s: Asks, a: u8, b: u8, c: u8) -> u8
     requires { b ≤ suc max_binders }
     ensures { result ≡ most_binders (asks_by s) a b c }
@@ -110,9 +93,10 @@ fn binders_by(s: Asks, a: u8, b: u8, c: u8) -> u8
     let u = if_named(p, a);
     let v = if_named(q, binder_of(x) + b);
     let w = if_named(t, c);
-    larger(u, larger(v, w))
+    u.max(v.max(w))
 }
 
+#[tactic(auto, unfolding(rows::specs::Enclosing::most_marks))]
 fn marks_by(s: Asks, a: u8, b: u8, c: u8) -> u8
     requires { (a ≤ suc max_binders) × (b ≤ suc max_binders) }
     ensures { result ≡ most_marks (asks_by s) a b c }
@@ -124,7 +108,7 @@ fn marks_by(s: Asks, a: u8, b: u8, c: u8) -> u8
     let u = if_named(p, m + a);
     let v = if_named(q, m + b);
     let w = if_named(t, c);
-    larger(u, larger(v, w))
+    u.max(v.max(w))
 }
 
 fn count_by(w: Counted, s: Asks, a: u8, b: u8, c: u8) -> u8
@@ -170,15 +154,10 @@ fn few(rows: &[u32; ROWS_WORDS], n: usize, w: Counted) -> bool
     true
 }
 
+#[tactic(auto, using(crate::proofs::Ground6::all_small))]
 pub fn small(rows: &[u32; ROWS_WORDS], n: usize) -> bool
     requires { n ≤ max_rows }
     ensures { result ≡ every n (row_small rows.now) }
 {
-    if !few(rows, n, Counted::Leaves) {
-        return false;
-    }
-    if !few(rows, n, Counted::Binders) {
-        return false;
-    }
-    few(rows, n, Counted::Marks)
+    few(rows, n, Counted::Leaves) && few(rows, n, Counted::Binders) && few(rows, n, Counted::Marks)
 }

@@ -39,10 +39,7 @@ fn sort_by(s: Asks, b: u8) -> u8
 fn one_of(s: u8, a: u8, b: u8) -> bool
     ensures { result ≡ (eqb s a || eqb s b) }
 {
-    if s == a {
-        return true;
-    }
-    s == b
+    s == a || s == b
 }
 
 fn sorted_as(q: Ask, s: u8, b: u8) -> bool
@@ -65,19 +62,14 @@ fn sorted_as(q: Ask, s: u8, b: u8) -> bool
     }
 }
 
+#[tactic(auto, unfolding(rows::specs::Rows::sorted))]
 fn operands_sorted(s: Asks, a: u8, b: u8, c: u8) -> bool
     ensures { (u v w : Sort) → a ≡ sort_number u → b ≡ sort_number v → c ≡ sort_number w → result ≡ sorted (asks_by s) u v w }
 {
     let Asks::Known(p, q, t, _, _) = s else {
         return false;
     };
-    if !sorted_as(p, a, b) {
-        return false;
-    }
-    if !sorted_as(q, b, b) {
-        return false;
-    }
-    sorted_as(t, c, b)
+    sorted_as(p, a, b) && sorted_as(q, b, b) && sorted_as(t, c, b)
 }
 
 fn row_sorted(rows: &[u32; ROWS_WORDS], table: &[u8; MAX_ROWS], i: usize) -> bool

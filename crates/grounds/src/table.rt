@@ -82,24 +82,11 @@ pub fn asks_of(k: u32) -> Asks
 }
 
 // the operand names a row
+#[tactic(auto, unfolding(rows::specs::Rows::names))]
 pub fn names_row(q: Ask) -> bool
     ensures { result ≡ names (ask_by q) }
 {
-    match q {
-        Ask::Unused => false,
-        Ask::Operator => false,
-        Ask::Truth => false,
-        Ask::AnyWord => false,
-        Ask::AType => true,
-        Ask::ABasic => true,
-        Ask::ACell => true,
-        Ask::APlain => true,
-        Ask::ATask => true,
-        Ask::ABranch => true,
-        Ask::LikeB => true,
-        Ask::ARole => false,
-        Ask::SomeTouches => false,
-    }
+    matches!(q, AType | ABasic | ACell | APlain | ATask | ABranch | LikeB)
 }
 
 pub fn asks_at(rows: &[u32; ROWS_WORDS], i: usize) -> Asks
