@@ -1,7 +1,10 @@
 -- The code's enums as the table's entries (rows, Kinds). Rests on the declarations of src/table.rt.
 -- For contracts only: tied to rows' table by the contract of `asks_of`.
+use Rattle.std.specs.Prelude.{Option, Some, None}
 use Rattle.rows.specs.Kinds.{Ask, unused, operator, truth, any_word, a_type, a_basic, a_cell, a_plain, a_task, a_branch, like_b, a_role, some_touches}
-use Rattle.rows.specs.Kinds.{type_s, basic_s, cell_s, plain_s, task_s, Own, is, as_b, Around, nothing, binder, mark, Asks, asks, no_asks}
+use Rattle.rows.specs.Kinds.{Sort, type_s, basic_s, cell_s, plain_s, task_s, no_s, Own, is, as_b, Around, nothing, binder, mark, Asks, asks, no_asks}
+use Rattle.grounds.specs.declared.sorted.Sort.{Sort as CodeSort}
+use Rattle.grounds.specs.declared.sorted.Sort.TheVariants.{OtherType, BasicType, Cell, Plain, Task}
 use Rattle.grounds.specs.declared.table.Ask.{Ask as CodeAsk}
 use Rattle.grounds.specs.declared.table.Ask.TheVariants.{Unused, Operator, Truth, AnyWord, AType, ABasic, ACell, APlain, ATask, ABranch, LikeB, ARole, SomeTouches}
 use Rattle.grounds.specs.declared.table.Own.{Own as CodeOwn}
@@ -25,6 +28,15 @@ ask_by ABranch = a_branch
 ask_by LikeB = like_b
 ask_by ARole = a_role
 ask_by SomeTouches = some_touches
+
+-- a sort, if a row has one
+abbrev pub sort_in : Option CodeSort → Sort
+sort_in None = no_s
+sort_in (Some OtherType) = type_s
+sort_in (Some BasicType) = basic_s
+sort_in (Some Cell) = cell_s
+sort_in (Some Plain) = plain_s
+sort_in (Some Task) = task_s
 
 abbrev pub own_by : CodeOwn → Own
 own_by OwnType = is type_s

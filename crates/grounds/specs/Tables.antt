@@ -1,11 +1,13 @@
--- What the tables in code hold: of the rows below i the numbers of their sorts (ground 4), of each row a count that stops
+-- What the tables in code hold: of the rows below i their sorts (ground 4), of each row a count that stops
 -- (grounds 5 and 6). Rests on rows.
 -- For contracts only: tied to rows' `row_sorted` and `named_once` by the contracts of `sorted` and `named`.
-use Rattle.std.specs.Prelude.{◌≡◌, cond, List, map, ℕ, ◌+◌, ◌<◌, leb, length, get_or, take}
-use Rattle.rows.specs.Rows.{max_rows, sorts, sort_number}
+use Rattle.std.specs.Prelude.{◌≡◌, cond, List, map, ℕ, ◌+◌, ◌<◌, leb, length, get_or, take, Option}
+use Rattle.rows.specs.Rows.{max_rows, sorts}
+use Rattle.grounds.specs.declared.sorted.Sort.{Sort as CodeSort}
+use Rattle.grounds.specs.Table.{sort_in}
 
-abbrev pub SortsTo : List ℕ → List ℕ → ℕ → Type 0
-SortsTo rs table i = take i table ≡ map sort_number (sorts rs i)
+abbrev pub SortsTo : List ℕ → List (Option CodeSort) → ℕ → Type 0
+SortsTo rs table i = map sort_in (take i table) ≡ sorts rs i
 
 -- a count that stops at m
 unfoldable pub stop : ℕ → ℕ → ℕ

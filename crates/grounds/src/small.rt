@@ -127,9 +127,9 @@ fn row_count(rows: &[u32; ROWS_WORDS], table: &[u8; MAX_ROWS], i: usize, w: Coun
     requires { (i < max_rows) × CountsTo w rows.now table.now i }
     ensures { (result ≡ stop (suc (most_of w)) (count_of w rows.now i)) × (result ≤ suc (most_of w)) }
 {
-    let a = below(table, i, get(rows, i, 1));
-    let b = below(table, i, get(rows, i, 2));
-    let c = below(table, i, get(rows, i, 3));
+    let a = below(table, i, get(rows, i, 1), 0);
+    let b = below(table, i, get(rows, i, 2), 0);
+    let c = below(table, i, get(rows, i, 3), 0);
     let x = count_by(w, asks_at(rows, i), a, b, c);
     let most = most_of(w);
     if x <= most {

@@ -1,70 +1,60 @@
 // Ground 4: an operand not a lower row, or not of the sort asked. Sorts of rows stand in a table, filled from below.
 
-ghost use Rattle.std.specs.Prelude.{◌≡◌, ◌||◌, ◌<◌, ◌≤◌, eqb};
-ghost use Rattle.rows.specs.Kinds.{Sort};
-ghost use Rattle.rows.specs.Rows.{max_rows, asks_at, op_b, sort_by, sort_below, sort_number, sorted_as, sorted, row_sorted, every};
-ghost use Rattle.grounds.specs.Table.{ask_by, asks_by};
+ghost use Rattle.std.specs.Prelude.{◌≡◌, ◌<◌, ◌≤◌};
+ghost use Rattle.rows.specs.Rows.{max_rows, asks_at, op_b, sort_by, sort_below, sorted_as, sorted, row_sorted, every};
+ghost use Rattle.grounds.specs.Table.{ask_by, asks_by, sort_in};
 ghost use Rattle.grounds.specs.Tables.{SortsTo};
 
 use crate::table::{Ask, Asks, Own, asks_at, below};
 use rows::{MAX_ROWS, ROWS_WORDS, get};
 
-const TYPE: u8 = 1;
+#[derive(Clone, Copy, PartialEq, Eq)]
+pub enum Sort {
+    OtherType, // a unit or a pair, which no cell holds
+    BasicType, // a truth or a number
+    Cell,
+    Plain,
+    Task,
+}
 
-const BASIC: u8 = 2;
-
-const CELL: u8 = 3;
-
-const PLAIN: u8 = 4;
-
-const TASK: u8 = 5;
-
-// the number of a row's own sort, where b is that of its B
-fn sort_by(s: Asks, b: u8) -> u8
-    ensures { (u : Sort) → b ≡ sort_number u → result ≡ sort_number (sort_by (asks_by s) u) }
+// a row's own sort, where b is that of its B
+#[tactic(auto, unfolding(rows::specs::Rows::sort_by))]
+fn sort_by(s: Asks, b: Option<Sort>) -> Option<Sort>
+    ensures { sort_in result ≡ sort_by (asks_by s) (sort_in b) }
 {
     let Asks::Known(_, _, _, o, _) = s else {
-        return 0;
+        return None;
     };
     match o {
-        Own::OwnType => TYPE,
-        Own::OwnBasic => BASIC,
-        Own::OwnCell => CELL,
-        Own::OwnPlain => PLAIN,
-        Own::OwnTask => TASK,
+        Own::OwnType => Some(Sort::OtherType),
+        Own::OwnBasic => Some(Sort::BasicType),
+        Own::OwnCell => Some(Sort::Cell),
+        Own::OwnPlain => Some(Sort::Plain),
+        Own::OwnTask => Some(Sort::Task),
         Own::AsB => b,
     }
 }
 
-fn one_of(s: u8, a: u8, b: u8) -> bool
-    ensures { result ≡ (eqb s a || eqb s b) }
-{
-    s == a || s == b
-}
-
-fn sorted_as(q: Ask, s: u8, b: u8) -> bool
-    ensures { (u v : Sort) → s ≡ sort_number u → b ≡ sort_number v → result ≡ sorted_as (ask_by q) u v }
+#[tactic(auto, unfolding(rows::specs::Rows::sorted_as, rows::specs::Rows::sort_number))]
+fn sorted_as(q: Ask, s: Option<Sort>, b: Option<Sort>) -> bool
+    ensures { result ≡ sorted_as (ask_by q) (sort_in s) (sort_in b) }
 {
     match q {
-        Ask::Unused => true,
-        Ask::Operator => true,
-        Ask::Truth => true,
-        Ask::AnyWord => true,
-        Ask::AType => one_of(s, TYPE, BASIC),
-        Ask::ABasic => s == BASIC,
-        Ask::ACell => s == CELL,
-        Ask::APlain => s == PLAIN,
-        Ask::ATask => s == TASK,
-        Ask::ABranch => one_of(s, PLAIN, TASK),
+        Ask::AType => matches!(s, Some(Sort::OtherType | Sort::BasicType)),
+        Ask::ABasic => matches!(s, Some(Sort::BasicType)),
+        Ask::ACell => matches!(s, Some(Sort::Cell)),
+        Ask::APlain => matches!(s, Some(Sort::Plain)),
+        Ask::ATask => matches!(s, Some(Sort::Task)),
+        Ask::ABranch => matches!(s, Some(Sort::Plain | Sort::Task)),
         Ask::LikeB => s == b,
-        Ask::ARole => true,
-        Ask::SomeTouches => true,
+        Ask::Unused | Ask::Operator | Ask::Truth | Ask::AnyWord | Ask::ARole | Ask::SomeTouches =>
+            true,
     }
 }
 
 #[tactic(auto, unfolding(rows::specs::Rows::sorted))]
-fn operands_sorted(s: Asks, a: u8, b: u8, c: u8) -> bool
-    ensures { (u v w : Sort) → a ≡ sort_number u → b ≡ sort_number v → c ≡ sort_number w → result ≡ sorted (asks_by s) u v w }
+fn operands_sorted(s: Asks, a: Option<Sort>, b: Option<Sort>, c: Option<Sort>) -> bool
+    ensures { result ≡ sorted (asks_by s) (sort_in a) (sort_in b) (sort_in c) }
 {
     let Asks::Known(p, q, t, _, _) = s else {
         return false;
@@ -72,21 +62,21 @@ fn operands_sorted(s: Asks, a: u8, b: u8, c: u8) -> bool
     sorted_as(p, a, b) && sorted_as(q, b, b) && sorted_as(t, c, b)
 }
 
-fn row_sorted(rows: &[u32; ROWS_WORDS], table: &[u8; MAX_ROWS], i: usize) -> bool
+fn row_sorted(rows: &[u32; ROWS_WORDS], table: &[Option<Sort>; MAX_ROWS], i: usize) -> bool
     requires { (i < max_rows) × SortsTo rows.now table.now i }
     ensures { result ≡ row_sorted rows.now i }
 {
-    let a = below(table, i, get(rows, i, 1));
-    let b = below(table, i, get(rows, i, 2));
-    let c = below(table, i, get(rows, i, 3));
+    let a = below(table, i, get(rows, i, 1), None);
+    let b = below(table, i, get(rows, i, 2), None);
+    let c = below(table, i, get(rows, i, 3), None);
     operands_sorted(asks_at(rows, i), a, b, c)
 }
 
-fn own_sort(rows: &[u32; ROWS_WORDS], table: &[u8; MAX_ROWS], i: usize) -> u8
+fn own_sort(rows: &[u32; ROWS_WORDS], table: &[Option<Sort>; MAX_ROWS], i: usize) -> Option<Sort>
     requires { (i < max_rows) × SortsTo rows.now table.now i }
-    ensures { result ≡ sort_number (sort_by (asks_at rows.now i) (sort_below rows.now i (op_b rows.now i))) }
+    ensures { sort_in result ≡ sort_by (asks_at rows.now i) (sort_below rows.now i (op_b rows.now i)) }
 {
-    let b = below(table, i, get(rows, i, 2));
+    let b = below(table, i, get(rows, i, 2), None);
     sort_by(asks_at(rows, i), b)
 }
 
@@ -94,7 +84,7 @@ pub fn sorted(rows: &[u32; ROWS_WORDS], n: usize) -> bool
     requires { n ≤ max_rows }
     ensures { result ≡ every n (row_sorted rows.now) }
 {
-    let mut table = [0u8; MAX_ROWS];
+    let mut table = [None; MAX_ROWS];
     for i in 0..n {
         if !row_sorted(rows, &table, i) {
             return false;

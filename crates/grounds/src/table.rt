@@ -96,14 +96,11 @@ pub fn asks_at(rows: &[u32; ROWS_WORDS], i: usize) -> Asks
     asks_of(get(rows, i, 0))
 }
 
-// what a table says of row w, where it is lower than row i; else 0
-pub fn below(table: &[u8; MAX_ROWS], i: usize, w: u32) -> u8
+// what a table says of row w, where it is lower than row i; else `none`
+pub fn below<T: Copy>(table: &[T; MAX_ROWS], i: usize, w: u32, none: T) -> T
     requires { i ≤ max_rows }
-    ensures { result ≡ get_or (take i table.now) w 0 }
+    ensures { result ≡ get_or (take i table.now) w none }
 {
     let at = w as usize;
-    if at < i {
-        return table[at];
-    }
-    0
+    if at < i { table[at] } else { none }
 }
