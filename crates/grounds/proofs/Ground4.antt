@@ -32,7 +32,7 @@ pub sorts_none : (rs : List ℕ) (t : List (Option CodeSort)) → SortsTo rs t 0
 unfolding sorts
 sorts_none rs t = refl
 
-module _ (rs : List ℕ) (i : ℕ) (s : CodeAsks) (e : asks_by s ≡ asks_at rs i) where
+module _ (rs : List ℕ) (i : ℕ) (s : Option CodeAsks) (e : asks_by s ≡ asks_at rs i) where
   pub row_sorted_is : {b : Bool} {u v w : Sort} → b ≡ sorted (asks_by s) u v w → u ≡ sort_below rs i (op_a rs i) → v ≡ sort_below rs i (op_b rs i) → w ≡ sort_below rs i (op_c rs i)
       → b ≡ row_sorted rs i
   unfolding row_sorted

@@ -1,4 +1,5 @@
 -- Ground 5: namings counted row by row. Rests on rows, Table, Tables and Stop.
+use Rattle.std.specs.Prelude.{Option, Some, None}
 use mathlib.Core.Path.{◌≡◌, refl, sym, ap, subst, ◌∙◌}
 use mathlib.Core.Bool.{Bool, true, false, not, ◌&&◌}
 use mathlib.Core.Logic.{⊎_elim}
@@ -13,11 +14,7 @@ use borrow.Author.Tests.{le-leb, lt-leb, ne_eqb, eqb-true, eqb-false, not-true, 
 use Rattle.rows.specs.Kinds.{number_of}
 use Rattle.rows.specs.Rows.{max_rows, word, asks_at, op_a, op_b, op_c, names, count, names_by, names_in, namings, first_expression}
 use Rattle.rows.proofs.Basics.{true_or_false}
-use Rattle.grounds.specs.declared.table.Ask.{Ask as CodeAsk}
-use Rattle.grounds.specs.declared.table.Own.{Own as CodeOwn}
-use Rattle.grounds.specs.declared.table.Around.{Around as CodeAround}
 use Rattle.grounds.specs.declared.table.Asks.{Asks as CodeAsks}
-use Rattle.grounds.specs.declared.table.Asks.TheVariants.{Known, Unknown}
 use Rattle.grounds.specs.Table.{ask_by, asks_by}
 use Rattle.grounds.specs.Tables.{stop, max_namings, More}
 use Rattle.grounds.proofs.Stop.{stop_low, stop_high, stop_under, stop_reached}
@@ -81,25 +78,25 @@ module _ (t : List ℕ) (b : Bool) (w : ℕ) where
 
 -- ---- a row's operands, a row, the rows
 
-module _ (t : List ℕ) (a b c : ℕ) (s : CodeAsks) where
-  pub name_unknown : s ≡ Unknown → More t t (λ i. names_by (asks_by s) a b c i)
+module _ (t : List ℕ) (a b c : ℕ) (s : Option CodeAsks) where
+  pub name_unknown : s ≡ None → More t t (λ i. names_by (asks_by s) a b c i)
   unfolding names_by
   name_unknown e = more_none t (λ i. names_by (asks_by s) a b c i) (λ i l. ap (λ s. names_by (asks_by s) a b c i) e)
 
-  pub name_known : (u v w : List ℕ) {p q r : CodeAsk} {o : CodeOwn} {x : CodeAround} → s ≡ Known p q r o x
-      → More t u (λ i. count (names (ask_by p) && eqb a i)) → More u v (λ i. count (names (ask_by q) && eqb b i)) → More v w (λ i. count (names (ask_by r) && eqb c i))
+  pub name_known : (u v w : List ℕ) (l : CodeAsks) → s ≡ Some l
+      → More t u (λ i. count (names (ask_by l.a) && eqb a i)) → More u v (λ i. count (names (ask_by l.b) && eqb b i)) → More v w (λ i. count (names (ask_by l.c) && eqb c i))
       → More t w (λ i. names_by (asks_by s) a b c i)
   unfolding names_by
-  name_known u v w {p} {q} {r} e f g h = subst (λ s. More t w (λ i. names_by (asks_by s) a b c i)) (sym e)
-      (more_then t v w (λ i. count (names (ask_by p) && eqb a i) + count (names (ask_by q) && eqb b i)) (λ i. count (names (ask_by r) && eqb c i))
-      (more_then t u v (λ i. count (names (ask_by p) && eqb a i)) (λ i. count (names (ask_by q) && eqb b i)) f g) h)
+  name_known u v w l e f g h = subst (λ s. More t w (λ i. names_by (asks_by s) a b c i)) (sym e)
+      (more_then t v w (λ i. count (names (ask_by l.a) && eqb a i) + count (names (ask_by l.b) && eqb b i)) (λ i. count (names (ask_by l.c) && eqb c i))
+      (more_then t u v (λ i. count (names (ask_by l.a) && eqb a i)) (λ i. count (names (ask_by l.b) && eqb b i)) f g) h)
 
 module _ (rs t : List ℕ) (j : ℕ) {k : ℕ} (e : k ≡ word rs j 0) where
   pub name_low : k < number_of first_expression → More t t (λ i. names_in rs i j)
   unfolding names_in
   name_low h = more_none t (λ i. names_in rs i j) (λ i l. rw (lt-leb (number_of first_expression) (word rs j 0) (omega arith)))
 
-  pub name_high : number_of first_expression ≤ k → (u : List ℕ) (s : CodeAsks) {a b c : ℕ} → asks_by s ≡ asks_at rs j → a ≡ op_a rs j → b ≡ op_b rs j → c ≡ op_c rs j
+  pub name_high : number_of first_expression ≤ k → (u : List ℕ) (s : Option CodeAsks) {a b c : ℕ} → asks_by s ≡ asks_at rs j → a ≡ op_a rs j → b ≡ op_b rs j → c ≡ op_c rs j
       → More t u (λ i. names_by (asks_by s) a b c i) → More t u (λ i. names_in rs i j)
   unfolding names_in
   name_high h u s f g d c m o = ((m o).0, λ i l x z. (m o).1 i l x z ∙ ap (λ n. stop max_namings (x + n)) ((λ y. names_by (f y) (g y) (d y) (c y) i) ∙ sym (rw (le-leb (number_of first_expression) (word rs j 0) (omega arith)))))

@@ -1,4 +1,5 @@
 -- Ground 6: counts that stop decide as the counts themselves do. Rests on rows, Table, Counts, Filled and Stop.
+use Rattle.std.specs.Prelude.{Option}
 use mathlib.Core.Path.{◌≡◌, refl, sym, ap, ◌∙◌}
 use mathlib.Core.Bool.{Bool, true, false, ◌&&◌, ◌||◌, cond}
 use mathlib.Core.List.{List, map}
@@ -68,7 +69,7 @@ module _ (w : Counted) (rs t : List ℕ) (i : ℕ) (e : CountsTo w rs t i) where
   pub count_bound : {v y a : ℕ} → v ≡ y → a ≡ get_or (take i t) v 0 → a ≤ suc (most_of w)
   count_bound {v} {y} f h = omega (arith, count_read f h, stop_bound (suc (most_of w)) (get_or (counts (count_by w) rs i) y 0))
 
-  pub count_row : (s : CodeAsks) {a b c x : ℕ} → asks_by s ≡ asks_at rs i → a ≡ stop (suc (most_of w)) (get_or (counts (count_by w) rs i) (op_a rs i) 0)
+  pub count_row : (s : Option CodeAsks) {a b c x : ℕ} → asks_by s ≡ asks_at rs i → a ≡ stop (suc (most_of w)) (get_or (counts (count_by w) rs i) (op_a rs i) 0)
       → b ≡ stop (suc (most_of w)) (get_or (counts (count_by w) rs i) (op_b rs i) 0) → c ≡ stop (suc (most_of w)) (get_or (counts (count_by w) rs i) (op_c rs i) 0)
       → x ≡ count_by w (asks_by s) a b c → stop (suc (most_of w)) x ≡ stop (suc (most_of w)) (count_of w rs i)
   count_row s {a} {b} {c} f g h k z = let m = suc (most_of w) in let l = counts (count_by w) rs i in

@@ -5,4 +5,3 @@ pub mod Stop
 pub mod Ground5
 pub mod Ground6
 pub mod Grounds
-pub mod UnusedWords

@@ -12,7 +12,6 @@ use Rattle.grounds.specs.declared.table.Own.TheVariants.{OwnType, OwnBasic, OwnC
 use Rattle.grounds.specs.declared.table.Around.{Around as CodeAround}
 use Rattle.grounds.specs.declared.table.Around.TheVariants.{Nothing, Binder, Mark}
 use Rattle.grounds.specs.declared.table.Asks.{Asks as CodeAsks}
-use Rattle.grounds.specs.declared.table.Asks.TheVariants.{Known, Unknown}
 
 abbrev pub ask_by : CodeAsk → Ask
 ask_by Unused = unused
@@ -51,6 +50,6 @@ around_by Nothing = nothing
 around_by Binder = binder
 around_by Mark = mark
 
-abbrev pub asks_by : CodeAsks → Asks
-asks_by (Known p q r o x) = asks (ask_by p) (ask_by q) (ask_by r) (own_by o) (around_by x)
-asks_by Unknown = no_asks
+abbrev pub asks_by : Option CodeAsks → Asks
+asks_by None = no_asks
+asks_by (Some s) = asks (ask_by s.a) (ask_by s.b) (ask_by s.c) (own_by s.own) (around_by s.around)

@@ -37,13 +37,13 @@ fn listed_as(q: Ask, w: u32) -> bool
 }
 
 #[tactic(auto, unfolding(rows::specs::Rows::listed))]
-fn operands_listed(s: Asks, a: u32, b: u32, c: u32) -> bool
+fn operands_listed(s: Option<Asks>, a: u32, b: u32, c: u32) -> bool
     ensures { result ≡ listed (asks_by s) a b c }
 {
-    let Asks::Known(p, q, t, _, _) = s else {
+    let Some(s) = s else {
         return false;
     };
-    listed_as(p, a) && listed_as(q, b) && listed_as(t, c)
+    listed_as(s.a, a) && listed_as(s.b, b) && listed_as(s.c, c)
 }
 
 #[tactic(auto, unfolding(rows::specs::Rows::truth_cell))]

@@ -29,15 +29,15 @@ fn name(table: &mut [u8; MAX_ROWS], q: Ask, w: u32)
     table[at] = x + 1;
 }
 
-fn name_operands(table: &mut [u8; MAX_ROWS], s: Asks, a: u32, b: u32, c: u32)
+fn name_operands(table: &mut [u8; MAX_ROWS], s: Option<Asks>, a: u32, b: u32, c: u32)
     ensures { More table.old table.new (λ i. names_by (asks_by s) a b c i) }
 {
-    let Asks::Known(p, q, t, _, _) = s else {
+    let Some(s) = s else {
         return;
     };
-    name(table, p, a);
-    name(table, q, b);
-    name(table, t, c);
+    name(table, s.a, a);
+    name(table, s.b, b);
+    name(table, s.c, c);
 }
 
 fn name_row(rows: &[u32; ROWS_WORDS], table: &mut [u8; MAX_ROWS], j: usize)

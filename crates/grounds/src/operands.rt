@@ -4,7 +4,7 @@ ghost use Rattle.std.specs.Prelude.{◌≡◌, false, ◌∷◌, get_or};
 ghost use Rattle.rows.specs.Kinds.{is_unused, unused_of};
 ghost use Rattle.grounds.specs.Table.{ask_by};
 
-use crate::table::{Ask, Asks, asks_of};
+use crate::table::{Ask, asks_of};
 
 #[tactic(auto, unfolding(rows::specs::Kinds::is_unused))]
 fn is_unused(q: Ask) -> bool
@@ -14,20 +14,17 @@ fn is_unused(q: Ask) -> bool
 }
 
 // Whether word k of a row of this kind is an unused operand. Word 0 is the kind itself; a number that is no kind uses all three.
+#[tactic(auto, unfolding(rows::specs::Kinds::unused_by))]
 pub fn unused(kind: u32, k: usize) -> bool
     ensures { result ≡ get_or (false ∷ unused_of kind) k false }
 {
-    let Asks::Known(p, q, t, _, _) = asks_of(kind) else {
+    let Some(asks) = asks_of(kind) else {
         return false;
     };
-    if k == 1 {
-        return is_unused(p);
+    match k {
+        1 => is_unused(asks.a),
+        2 => is_unused(asks.b),
+        3 => is_unused(asks.c),
+        _ => false,
     }
-    if k == 2 {
-        return is_unused(q);
-    }
-    if k == 3 {
-        return is_unused(t);
-    }
-    false
 }

@@ -69,49 +69,49 @@ fn type_leaves(p: Ask, a: u8, b: u8) -> u8
 }
 
 #[tactic(auto, unfolding(rows::specs::Enclosing::leaves_by, rows::specs::Rows::sort_number))]
-fn leaves_by(s: Asks, a: u8, b: u8, c: u8) -> u8
+fn leaves_by(s: Option<Asks>, a: u8, b: u8, c: u8) -> u8
     requires { (a ≤ suc max_binders) × (b ≤ suc max_binders) }
     ensures { result ≡ leaves_by (asks_by s) a b c }
 {
-    let Asks::Known(p, _, _, o, _) = s else {
+    let Some(s) = s else {
         return 0;
     };
-    match o {
-        Own::OwnType | Own::OwnBasic => type_leaves(p, a, b),
+    match s.own {
+        Own::OwnType | Own::OwnBasic => type_leaves(s.a, a, b),
         Own::OwnCell | Own::OwnPlain | Own::OwnTask | Own::AsB => 0,
     }
 }
 
 #[tactic(auto, unfolding(rows::specs::Enclosing::most_binders))]
-fn binders_by(s: Asks, a: u8, b: u8, c: u8) -> u8
+fn binders_by(s: Option<Asks>, a: u8, b: u8, c: u8) -> u8
     requires { b ≤ suc max_binders }
     ensures { result ≡ most_binders (asks_by s) a b c }
 {
-    let Asks::Known(p, q, t, _, x) = s else {
+    let Some(s) = s else {
         return 0;
     };
-    let u = if_named(p, a);
-    let v = if_named(q, binder_of(x) + b);
-    let w = if_named(t, c);
+    let u = if_named(s.a, a);
+    let v = if_named(s.b, binder_of(s.around) + b);
+    let w = if_named(s.c, c);
     u.max(v.max(w))
 }
 
 #[tactic(auto, unfolding(rows::specs::Enclosing::most_marks))]
-fn marks_by(s: Asks, a: u8, b: u8, c: u8) -> u8
+fn marks_by(s: Option<Asks>, a: u8, b: u8, c: u8) -> u8
     requires { (a ≤ suc max_binders) × (b ≤ suc max_binders) }
     ensures { result ≡ most_marks (asks_by s) a b c }
 {
-    let Asks::Known(p, q, t, _, x) = s else {
+    let Some(s) = s else {
         return 0;
     };
-    let m = mark_of(x);
-    let u = if_named(p, m + a);
-    let v = if_named(q, m + b);
-    let w = if_named(t, c);
+    let m = mark_of(s.around);
+    let u = if_named(s.a, m + a);
+    let v = if_named(s.b, m + b);
+    let w = if_named(s.c, c);
     u.max(v.max(w))
 }
 
-fn count_by(w: Counted, s: Asks, a: u8, b: u8, c: u8) -> u8
+fn count_by(w: Counted, s: Option<Asks>, a: u8, b: u8, c: u8) -> u8
     requires { (a ≤ suc (most_of w)) × (b ≤ suc (most_of w)) }
     ensures { result ≡ count_by w (asks_by s) a b c }
 {

@@ -19,13 +19,13 @@ pub enum Sort {
 
 // a row's own sort, where b is that of its B
 #[tactic(auto, unfolding(rows::specs::Rows::sort_by))]
-fn sort_by(s: Asks, b: Option<Sort>) -> Option<Sort>
+fn sort_by(s: Option<Asks>, b: Option<Sort>) -> Option<Sort>
     ensures { sort_in result ≡ sort_by (asks_by s) (sort_in b) }
 {
-    let Asks::Known(_, _, _, o, _) = s else {
+    let Some(s) = s else {
         return None;
     };
-    match o {
+    match s.own {
         Own::OwnType => Some(Sort::OtherType),
         Own::OwnBasic => Some(Sort::BasicType),
         Own::OwnCell => Some(Sort::Cell),
@@ -53,13 +53,13 @@ fn sorted_as(q: Ask, s: Option<Sort>, b: Option<Sort>) -> bool
 }
 
 #[tactic(auto, unfolding(rows::specs::Rows::sorted))]
-fn operands_sorted(s: Asks, a: Option<Sort>, b: Option<Sort>, c: Option<Sort>) -> bool
+fn operands_sorted(s: Option<Asks>, a: Option<Sort>, b: Option<Sort>, c: Option<Sort>) -> bool
     ensures { result ≡ sorted (asks_by s) (sort_in a) (sort_in b) (sort_in c) }
 {
-    let Asks::Known(p, q, t, _, _) = s else {
+    let Some(s) = s else {
         return false;
     };
-    sorted_as(p, a, b) && sorted_as(q, b, b) && sorted_as(t, c, b)
+    sorted_as(s.a, a, b) && sorted_as(s.b, b, b) && sorted_as(s.c, c, b)
 }
 
 fn row_sorted(rows: &[u32; ROWS_WORDS], table: &[Option<Sort>; MAX_ROWS], i: usize) -> bool

@@ -7,5 +7,5 @@ returns-in_default c = name_unknown c.args.table.now c.args.a c.args.b c.args.c 
 
 pub returns : goal.returns
 returns c =
-    name_known c.args.table.now c.args.a c.args.b c.args.c c.args.s c.name.new.table c.name-2.new.table c.name-3.new.table c.in-Known.is
+    name_known c.args.table.now c.args.a c.args.b c.args.c c.args.s c.name.new.table c.name-2.new.table c.name-3.new.table c.in-Some.s c.in-Some.is
     c.name.ensures c.name-2.ensures c.name-3.ensures
