@@ -1,4 +1,4 @@
--- What a caller learns from an answer: the cases of `Reading`, `PathReading` and `Front` turned back into fields and paths,
+-- What a caller learns from an answer: the cases of `Reading`, of a path's number and of `Front` turned back into fields and paths,
 -- and what a write leaves to be read. Rests on proofs/Fields.antt, proofs/Paths.antt and proofs/PathNumbers.antt.
 use Prim.Native.Nat.{ℕ, ◌+◌, ◌*◌, ◌^◌, ◌≤◌}
 use mathlib.Core.Path.{◌≡◌, refl, sym, ap, ◌∙◌}
@@ -16,12 +16,12 @@ use mir.Syntax.{w32}
 use mir.Val.{to_z, of_z}
 use mir.Facts.{to_z-of_z}
 use Rattle.word.specs.Word.{IsWord}
-use Rattle.decimal.specs.Field.{Field, number, blank, unreadable, text, justified, written, reads, reads_at, reading, put_at}
+use Rattle.decimal.specs.Field.{Field, number, blank, unreadable, text, justified, written, reads, reads_at, reading, bits_said, put_at}
 use Rattle.decimal.specs.Path.{Mark, first, second, Path, path_columns, mark_number, path_text, written_path, reads_path, reads_path_at, path_number, path_of, path_reading, front}
 use Rattle.decimal.specs.declared.field.Reading.TheVariants.{Number}
 use Rattle.decimal.specs.declared.field.Reading.TheVariants as field
-use Rattle.decimal.specs.declared.path.PathReading.TheVariants.{Marks}
-use Rattle.decimal.specs.declared.path.PathReading.TheVariants as path
+use Rattle.std.specs.Prelude.{Some, None}
+use Rattle.std.proofs.lemmas.Option.{none-some}
 use Rattle.decimal.specs.declared.path.Front.TheVariants.{Empty, First, Second}
 use Rattle.decimal.proofs.Justified.{justified_length}
 use Rattle.decimal.proofs.Fields.{reads_written, written_reads}
@@ -60,6 +60,15 @@ number_said_lem unreadable n w e = absurd (wrong (cc))
 pub number_read : (s : List ℕ) (at w n : ℕ) → Number n ≡ reading (reads_at s at w) → Said (reads_at s at w) n
 number_read s at w n e = number_said_lem (reads_at s at w) n (reads_at_word s at w) e
 
+-- the bits alone
+pub bits_read : (s : List ℕ) (at w n : ℕ) → Some n ≡ bits_said (reading (reads_at s at w)) → Said (reads_at s at w) n
+bits_read s at w n e = number_read s at w n (by (reads_at s at w) e)
+  where
+    by : (f : Field) → Some n ≡ bits_said (reading f) → Number n ≡ reading f
+    by (number z) e = let q : n ≡ of_z w32 z = cc in ap Number q
+    by blank e = absurd (none-some n (sym e))
+    by unreadable e = absurd (none-some n (sym e))
+
 pub nothing_said : (f : Field) → field.Unreadable ≡ reading f → f ≡ unreadable
 nothing_said (number z) e = absurd (wrong (cc))
 nothing_said blank e = absurd (wrong (cc))
@@ -72,12 +81,12 @@ blank_said unreadable e = absurd (wrong (cc))
 
 -- ---- a path's field
 
--- `Marks n`: the field says the path of the number n
-pub path_said : (o : Option Path) (n : ℕ) → Marks n ≡ path_reading o → o ≡ some (path_of n)
+-- `Some n`: the field says the path of the number n
+pub path_said : (o : Option Path) (n : ℕ) → Some n ≡ path_reading o → o ≡ some (path_of n)
 path_said none n e = absurd (wrong (cc))
 path_said (some p) n e = let g : n ≡ path_number p = cc in ap some (sym (ap path_of g ∙ path_number_lem p))
 
-pub no_path_said : (o : Option Path) → path.Unreadable ≡ path_reading o → o ≡ none
+pub no_path_said : (o : Option Path) → None ≡ path_reading o → o ≡ none
 no_path_said none e = refl
 no_path_said (some p) e = absurd (wrong (cc))
 

@@ -12,8 +12,7 @@ use lib.ListN.{length, get_or, set, drop, take, length-append, take-append-drop}
 use lib.Seq.{slice, sets, length-slice, drop-drop}
 use Rattle.decimal.specs.Field.{nought, trimmed}
 use Rattle.decimal.specs.Path.{Mark, first, second, Path, max_marks, path_columns, mark_number, marks_text, path_text, mark_of, outside, marks, empty_alone, path_in, reads_path_at, path_number, front_mark, path_of, path_reading, front}
-use Rattle.decimal.specs.declared.path.PathReading.{PathReading}
-use Rattle.decimal.specs.declared.path.PathReading.TheVariants.{Marks, Unreadable}
+use Rattle.std.specs.Prelude.{Option as Maybe, Some, None}
 use Rattle.decimal.specs.declared.path.Front.TheVariants.{Empty, First, Second}
 use Rattle.decimal.proofs.Paths.{marks_only}
 use Rattle.decimal.proofs.PathNumbers.{front_number, path_0, path_front, number_path, path_more, number_small}
@@ -82,7 +81,7 @@ marks_after (b ∷ t) u e = ap (outside (mark_of b)) (marks_after t u e) ∙ out
 
 -- a byte that is no such digit
 pub marks_not : (s : List ℕ) (at i end : ℕ) → end ≤ length s → at < i → i ≤ end → (get_or s (i - 1) 0 ≡ nought + 1 → ⊥) → (get_or s (i - 1) 0 ≡ nought + 2 → ⊥)
-    → Unreadable ≡ path_reading (marks (slice at end s))
+    → None ≡ path_reading (marks (slice at end s))
 marks_not s at i end k h g p q =
     let n : ℕ = i - 1 - at in
     let e : at + n ≡ i - 1 = omega arith in
@@ -92,21 +91,21 @@ marks_not s at i end k h g p q =
     ∙ marks_after (take n (slice at end s)) (slice (i - 1) end s) (marks_bad s i end k (omega arith) g p q) in
     sym (ap path_reading z)
 
-pub marks_all : (s : List ℕ) (at i end n : ℕ) → i ≡ at → marks (slice i end s) ≡ some (path_of n) → Marks n ≡ path_reading (marks (slice at end s))
-marks_all s at i end n z e = sym (ap (λ j. path_reading (marks (slice j end s))) (sym z) ∙ ap path_reading e ∙ ap Marks (number_path n))
+pub marks_all : (s : List ℕ) (at i end n : ℕ) → i ≡ at → marks (slice i end s) ≡ some (path_of n) → Some n ≡ path_reading (marks (slice at end s))
+marks_all s at i end n z e = sym (ap (λ j. path_reading (marks (slice j end s))) (sym z) ∙ ap path_reading e ∙ ap Some (number_path n))
 
 -- ---- a path's text read
 
 module _ (s : List ℕ) (at end : ℕ) where
-  pub text_none : at ≡ end → Marks 0 ≡ path_reading (path_in (slice at end s))
+  pub text_none : at ≡ end → Some 0 ≡ path_reading (path_in (slice at end s))
   unfolding path_in path_number
   text_none e = sym (ap (λ t. path_reading (path_in t)) (slice_none s at end e))
 
-  pub text_alone : at < end → end ≤ length s → get_or s at 0 ≡ nought → at + 1 ≡ end → Marks 0 ≡ path_reading (path_in (slice at end s))
+  pub text_alone : at < end → end ≤ length s → get_or s at 0 ≡ nought → at + 1 ≡ end → Some 0 ≡ path_reading (path_in (slice at end s))
   unfolding path_in path_number
   text_alone h k e l = sym (ap (λ t. path_reading (path_in t)) (slice_next s at end h k) ∙ rw (eq-eqb (get_or s at 0) nought e) (ap (λ t. path_reading (empty_alone t)) (slice_none s (at + 1) end l)))
 
-  pub text_led : end ≤ length s → get_or s at 0 ≡ nought → at + 1 < end → Unreadable ≡ path_reading (path_in (slice at end s))
+  pub text_led : end ≤ length s → get_or s at 0 ≡ nought → at + 1 < end → None ≡ path_reading (path_in (slice at end s))
   unfolding path_in
   text_led k e l = sym (ap (λ t. path_reading (path_in t)) (slice_next s at end (omega arith) k) ∙ rw (eq-eqb (get_or s at 0) nought e) (ap (λ t. path_reading (empty_alone t)) (slice_next s (at + 1) end l k)))
 
@@ -114,11 +113,11 @@ module _ (s : List ℕ) (at end : ℕ) where
   unfolding path_in
   text_marks h k e = sym (ap path_in (slice_next s at end h k) ∙ rw (ne_eqb (get_or s at 0) nought e) (ap marks (sym (slice_next s at end h k))))
 
-pub path_nowhere : (s : List ℕ) (at : ℕ) → length s < at + path_columns → Unreadable ≡ path_reading (reads_path_at s at)
+pub path_nowhere : (s : List ℕ) (at : ℕ) → length s < at + path_columns → None ≡ path_reading (reads_path_at s at)
 unfolding reads_path_at
 path_nowhere s at h = sym (rw (lt-leb (at + path_columns) (length s) h))
 
-pub path_read : (s : List ℕ) (at i : ℕ) (r : PathReading) → at + path_columns ≤ length s → trimmed (slice at (at + path_columns) s) ≡ slice i (at + path_columns) s
+pub path_read : (s : List ℕ) (at i : ℕ) (r : Maybe ℕ) → at + path_columns ≤ length s → trimmed (slice at (at + path_columns) s) ≡ slice i (at + path_columns) s
     → r ≡ path_reading (path_in (slice i (at + path_columns) s)) → r ≡ path_reading (reads_path_at s at)
 unfolding reads_path_at
 path_read s at i r g t h = h ∙ sym (rw (le-leb (at + path_columns) (length s) g) (ap (λ bs. path_reading (path_in bs)) t))

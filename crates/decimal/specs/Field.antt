@@ -1,7 +1,7 @@
 -- Fields of text: a number right-justified after spaces, written and read (01, "The sheet").
 -- Rests on words (`half`) and on their bits (`of_z w32`). A byte is a number below 256.
--- Believed, but for `reading`, the code's answer: for contracts only.
-use Rattle.std.specs.Prelude.{ℕ, zero, suc, ◌+◌, ◌*◌, ◌-◌, ◌/◌, ◌%◌, Bool, true, false, cond, ◌&&◌, List, [], ◌∷◌, ◌++◌, leb, eqb, ℤ, pos, negsuc, length, take, drop, replicate}
+-- Believed, but for `reading` and `bits_said`, the code's answers: for contracts only.
+use Rattle.std.specs.Prelude.{Option as Maybe, Some, None, ℕ, zero, suc, ◌+◌, ◌*◌, ◌-◌, ◌/◌, ◌%◌, Bool, true, false, cond, ◌&&◌, List, [], ◌∷◌, ◌++◌, leb, eqb, ℤ, pos, negsuc, length, take, drop, replicate}
 use Rattle.std.proofs.Math.Option.{Option, none, some}
 use Rattle.std.proofs.Math.Seq.{slice}
 use Rattle.std.specs.Int.{w32}
@@ -112,6 +112,12 @@ abbrev pub reading : Field → Reading
 reading (number z) = Number (of_z w32 z)
 reading blank = Blank
 reading unreadable = Unreadable
+
+-- and those bits alone
+abbrev pub bits_said : Reading → Maybe ℕ
+bits_said (Number n) = Some n
+bits_said Blank = None
+bits_said Unreadable = None
 
 -- writing a text t into the field of w columns from `at` on: the answer, and the bytes at exit.
 -- Without a text, or where s does not have the field: false, and s as it was

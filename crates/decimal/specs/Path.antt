@@ -1,12 +1,10 @@
 -- Paths: which part of a screen an event is for (01, "Touches and what is shown").
 -- Rests on specs/Field.antt for bytes and columns.
 -- Believed down to `reads_path_at`. Paths as numbers are for contracts only: tied to paths by `path_number_lem` and `number_path` (proofs/PathNumbers).
-use Rattle.std.specs.Prelude.{ℕ, zero, suc, ◌+◌, ◌*◌, ◌/◌, ◌%◌, cond, List, [], ◌∷◌, leb, eqb, length}
+use Rattle.std.specs.Prelude.{Option as Maybe, Some, None, ℕ, zero, suc, ◌+◌, ◌*◌, ◌/◌, ◌%◌, cond, List, [], ◌∷◌, leb, eqb, length}
 use Rattle.std.proofs.Math.Option.{Option, none, some}
 use Rattle.std.proofs.Math.Seq.{slice}
 use Rattle.decimal.specs.Field.{nought, justified, trimmed}
-use Rattle.decimal.specs.declared.path.PathReading.{PathReading}
-use Rattle.decimal.specs.declared.path.PathReading.TheVariants.{Marks, Unreadable}
 use Rattle.decimal.specs.declared.path.Front.{Front}
 use Rattle.decimal.specs.declared.path.Front.TheVariants.{Empty, First, Second}
 
@@ -93,9 +91,9 @@ abbrev pub path_of : ℕ → Path
 path_of n = marks_from n n
 
 -- the code's answers: for a path's field, and for taking the outermost mark off
-abbrev pub path_reading : Option Path → PathReading
-path_reading (some p) = Marks (path_number p)
-path_reading none = Unreadable
+abbrev pub path_reading : Option Path → Maybe ℕ
+path_reading (some p) = Some (path_number p)
+path_reading none = None
 
 abbrev pub front : Path → Front
 front [] = Empty

@@ -5,7 +5,7 @@ ghost use Rattle.std.proofs.lemmas.List.Edits.{sets};
 ghost use Rattle.std.specs.Int.{w32};
 ghost use Rattle.std.proofs.Common.{to_z};
 ghost use Rattle.word.specs.Word.{words};
-ghost use Rattle.decimal.specs.Field.{decimal, text, written, counted, numeral, reads_at, reading, put_at};
+ghost use Rattle.decimal.specs.Field.{decimal, text, written, counted, numeral, reads_at, reading, bits_said, put_at};
 
 use super::part::{MINUS, NINE, NOUGHT, has, past_spaces, put_spaces};
 
@@ -30,6 +30,19 @@ pub enum Reading {
     Number(u32),
     Blank,
     Unreadable,
+}
+
+impl Reading {
+    // The bits of the number that the field says, if it says one.
+    pub fn number(self) -> Option<u32>
+        ensures { result ≡ bits_said self }
+    {
+        match self {
+            Reading::Number(bits) => Some(bits),
+            Reading::Blank => None,
+            Reading::Unreadable => None,
+        }
+    }
 }
 
 // The bits of - n, where n is not 0.

@@ -11,13 +11,6 @@ use super::part::{NOUGHT, has, past_spaces, put_spaces};
 // How wide a path is written.
 pub const PATH_COLUMNS: usize = 16;
 
-// What a path's field says: a path's number, or that it is unreadable.
-#[derive(Clone, Copy)]
-pub enum PathReading {
-    Marks(u32),
-    Unreadable,
-}
-
 // A path's outermost mark and the path after it.
 #[derive(Clone, Copy)]
 pub enum Front {
@@ -40,7 +33,7 @@ pub fn front_mark(path: u32) -> Front
 }
 
 // The marks whose digits stand from `at` on, the innermost read first.
-fn read_marks(s: &[u8], at: usize, end: usize) -> PathReading
+fn read_marks(s: &[u8], at: usize, end: usize) -> Option<u32>
     requires { (at ≤ end) × (end ≤ length s.now) × (end ≤ at + path_columns) }
     ensures { result ≡ path_reading (marks (slice at end s.now)) }
 {
@@ -49,40 +42,40 @@ fn read_marks(s: &[u8], at: usize, end: usize) -> PathReading
     while at < i {
         let b = s[i - 1];
         if b < NOUGHT + 1 {
-            return PathReading::Unreadable;
+            return None;
         }
         if NOUGHT + 2 < b {
-            return PathReading::Unreadable;
+            return None;
         }
         path = path * 2 + (b - NOUGHT) as u32;
         i -= 1;
     }
-    PathReading::Marks(path)
+    Some(path)
 }
 
 // What the bytes from `at` on say, where the spaces are past.
-fn read_text(s: &[u8], at: usize, end: usize) -> PathReading
+fn read_text(s: &[u8], at: usize, end: usize) -> Option<u32>
     requires { (at ≤ end) × (end ≤ length s.now) × (end ≤ at + path_columns) }
     ensures { result ≡ path_reading (path_in (slice at end s.now)) }
 {
     if at == end {
-        return PathReading::Marks(0); // a blank field is the empty path
+        return Some(0); // a blank field is the empty path
     }
     if s[at] == NOUGHT {
         if at + 1 == end {
-            return PathReading::Marks(0);
+            return Some(0);
         }
-        return PathReading::Unreadable; // "00", "01", "02"
+        return None; // "00", "01", "02"
     }
     read_marks(s, at, end)
 }
 
-// What the path's field from `at` on says.
-pub fn read(s: &[u8], at: usize) -> PathReading
+// The number of the path that the field from `at` on says, if it says one.
+pub fn read(s: &[u8], at: usize) -> Option<u32>
     ensures { result ≡ path_reading (reads_path_at s.now at) }
 {
     if !has(s.len(), at, PATH_COLUMNS) {
-        return PathReading::Unreadable;
+        return None;
     }
     let end = at + PATH_COLUMNS;
     let i = past_spaces(s, at, end);

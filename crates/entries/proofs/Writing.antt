@@ -16,6 +16,9 @@ use Rattle.decimal.specs.Field.{written, action_columns, newline, put_at}
 use Rattle.decimal.specs.Path.{Path, max_marks, path_columns, written_path}
 use Rattle.tophat.specs.Syntax.{max_leaves, Ty}
 use Rattle.tophat.specs.Leaves.{padded, Leaf, no_leaf, unit_leaf, truth_leaf, number_leaf, leaf_kinds, leaf_number}
+use Rattle.tophat.specs.declared.Action.{Action}
+use Rattle.tophat.specs.declared.Action.TheVariants.{Value, Continue, Left, Right}
+use Rattle.tophat.specs.Actions.{number_of_action}
 use Rattle.formats.specs.Records.{path_field, Item, item_text, items_text, put_items, items_of, total}
 use Rattle.formats.specs.Touches.{entry_bytes, touch_text}
 use Rattle.formats.specs.Lists.{no_kinds, numbers_entry}
@@ -31,6 +34,13 @@ use Rattle.entries.proofs.Fronts.{Text, Front, front_none, front_next, front_byt
 
 digit_fits : (n : ℕ) → n < 10 → Fits (action_columns, pos n)
 digit_fits n h = number_fits 2 n (omega arith) (omega arith) (omega arith)
+
+-- an action's
+pub action_digit : (a : Action) → number_of_action a < 10
+action_digit Value = omega arith
+action_digit Continue = omega arith
+action_digit Left = omega arith
+action_digit Right = omega arith
 
 -- as code has them, by their bits
 bits_are : (ks : List ℕ) → ((i : ℕ) → get_or ks i 0 < 10) → items_of action_columns ks ≡ fields action_columns (map pos ks)

@@ -6,6 +6,7 @@
 ghost use Rattle.std.specs.Prelude.{cond, List, [], ℕ, ◌<◌, ◌≤◌, length};
 ghost use Rattle.decimal.specs.Path.{max_marks, path_of};
 ghost use Rattle.rows.specs.Kinds.{either_k, if_k, task_k, edit_k, update_k, xor_k, view_k};
+ghost use Rattle.tophat.specs.Actions.{number_of_action};
 ghost use Rattle.tophat.specs.Roles.{Who};
 ghost use Rattle.rows.specs.Rows.{max_rows, OfKind, FromKind, UpToKind};
 ghost use Rattle.state.specs.Ensured.{Fine};
@@ -23,7 +24,7 @@ use rows::{MAX_MARKS, MAX_ROWS, ROWS_WORDS, get, operand};
 use running::{enclose, handed_on, value};
 use shape::leaf_kinds;
 use state::{ENV_WORDS, STATE_SIZE, read, read_touches};
-use tophat::{CONTINUE, GIVE, LEFT, MAX_LEAVES, RIGHT};
+use tophat::{Action, MAX_LEAVES};
 use typing::{Binders, row_type};
 
 // How many bytes of entries a task shows at most.
@@ -46,30 +47,29 @@ fn least(a: usize, b: usize) -> usize
 }
 
 // An entry at the front of the list, where there is room for it; how many bytes it has.
-fn write_entry(list: &mut [u8], marks: u32, action: u32, kinds: [u32; MAX_LEAVES]) -> usize
-    requires { (length (path_of marks) ≤ max_marks) × (action < 10) × OneDigit kinds }
-    ensures { Wrote list.old list.new result (numbers_entry (path_of marks) action kinds) }
+fn write_entry(list: &mut [u8], marks: u32, action: Action, kinds: [u32; MAX_LEAVES]) -> usize
+    requires { (length (path_of marks) ≤ max_marks) × OneDigit kinds }
+    ensures { Wrote list.old list.new result (numbers_entry (path_of marks) (number_of_action action) kinds) }
 {
     if list.len() < ENTRY_BYTES {
         return ENTRY_BYTES;
     }
     path::write(list, 0, marks);
-    field::write(list, ENTRY_ACTION_AT, ACTION_COLUMNS, action);
+    field::write(list, ENTRY_ACTION_AT, ACTION_COLUMNS, u32::from(action));
     write_numbers(list, ENTRY_KINDS_AT, ACTION_COLUMNS, kinds);
     list[LAST] = NEWLINE;
     ENTRY_BYTES
 }
 
 // The entry of a button, where it can be pressed; how many bytes it has.
-fn button(list: &mut [u8], marks: u32, action: u32, enabled: bool) -> usize
-    requires { (length (path_of marks) ≤ max_marks) × (action < 10) }
-    ensures { Wrote list.old list.new result (cond enabled (numbers_entry (path_of marks) action no_kinds) []) }
+fn button(list: &mut [u8], marks: u32, action: Action, enabled: bool) -> usize
+    requires { length (path_of marks) ≤ max_marks }
+    ensures { Wrote list.old list.new result (cond enabled (numbers_entry (path_of marks) (number_of_action action) no_kinds) []) }
 {
     if !enabled {
         return 0;
     }
-    let none = [0u32; MAX_LEAVES];
-    write_entry(list, marks, action, none)
+    write_entry(list, marks, action, [0; MAX_LEAVES])
 }
 
 // The shape of what the editor at the row offers: of its content, of its type row, or of its cell's content.
@@ -98,7 +98,7 @@ fn offer(
     ensures { (result ≤ list_bytes) × ((env : List ℕ) (d : ℕ) → (v : Who) → EntriesOk v rows.now state.now row env d (path_of marks) list.old list.new result) }
 {
     let shape = content(rows, state, row);
-    write_entry(list, marks, GIVE, leaf_kinds(shape))
+    write_entry(list, marks, Action::Value, leaf_kinds(shape))
 }
 
 // Whether the step at the row shows Continue: A has a value, and B, tried under it in a copy of the state, does not fail.
@@ -134,9 +134,9 @@ fn choice(
 {
     let left = tried(rows, state, operand(rows, row, 1), env, depth);
     let right = tried(rows, state, operand(rows, row, 2), env, depth);
-    let n = button(list, marks, LEFT, !left);
+    let n = button(list, marks, Action::Left, !left);
     let at = least(n, list.len());
-    n + button(&mut list[at..], marks, RIGHT, !right)
+    n + button(&mut list[at..], marks, Action::Right, !right)
 }
 
 // Whether the row is of kind 50 and shows them nothing: its role is another's, or it has no touch left (CR 6). 0 is anyone.
@@ -192,7 +192,7 @@ pub fn entries(
             let n = entries(rows, state, a, env, depth, who, marks, unit, list);
             let enabled = goes_on(rows, state, row, env, depth);
             let at = least(n, list.len());
-            let m = button(&mut list[at..], marks, CONTINUE, enabled);
+            let m = button(&mut list[at..], marks, Action::Continue, enabled);
             least(n + m, LIST_BYTES)
         }
         46..=47 => {

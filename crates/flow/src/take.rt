@@ -1,13 +1,11 @@
 // An event that is read, taken by a flow in lent memory (01, "Four calls": handle after its event's bytes are read).
-ghost use Rattle.std.specs.Prelude.{◌≡◌, true};
+ghost use Rattle.std.specs.Prelude.{◌≡◌};
 ghost use Rattle.rows.specs.GroundNumbers.{not_handled};
-ghost use Rattle.handle.specs.Events.{KnownEvent};
 ghost use Rattle.flow.specs.Takes.{TakeOk};
 
 use super::answer::{Answer, refused};
-use super::event::EventReading;
 use super::open::open;
-use handle::handle;
+use handle::{Event, handle};
 use normalising::normalise;
 use rows::ROWS_WORDS;
 use rows::ground_numbers::{EVENT_NOT_READ, NOT_HANDLED};
@@ -22,8 +20,7 @@ fn take_failed() -> Answer
 }
 
 // The flow's answer to an event, and the state at exit.
-pub fn take(rows: &[i32], state: &mut [i32], e: EventReading) -> Answer
-    requires { e.readable ≡ true → KnownEvent e.event }
+pub fn take(rows: &[i32], state: &mut [i32], e: Option<Event>) -> Answer
     ensures { TakeOk rows.now state.old e result state.new }
 {
     let mut own = [0u32; ROWS_WORDS];
@@ -32,15 +29,15 @@ pub fn take(rows: &[i32], state: &mut [i32], e: EventReading) -> Answer
     if opening.number != 0 {
         return refused(opening.number);
     }
-    if !e.readable {
+    let Some(e) = e else {
         return refused(EVENT_NOT_READ);
-    }
+    };
     if opening.failed {
         return take_failed();
     }
     let none = [0u32; ENV_WORDS];
     let last = opening.n - 1;
-    let number = handle(&own, &mut words, last, &none, 0, e.event);
+    let number = handle(&own, &mut words, last, &none, 0, &e);
     if number != 0 {
         return refused(number);
     }

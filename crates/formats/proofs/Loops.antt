@@ -1,7 +1,8 @@
 -- Fields one after another: the laws of the loops that read and write them. Rests on Records.
 use mathlib.Core.Path.{◌≡◌, refl, sym, ap, ap₂, ◌∙◌}
-use mathlib.Core.Bool.{Bool, true, false, false≢true}
 use mathlib.Core.Option.{Option, none, some}
+use Rattle.std.specs.Prelude.{Option as Maybe, Some, None}
+use Rattle.std.proofs.lemmas.Option.{none-some}
 use mathlib.Core.List.{List, [], ◌∷◌, ◌++◌, map, map-append, append-nil}
 use Prim.Native.Nat.{ℕ, zero, suc, ◌+◌, ◌*◌, ◌-◌, ◌<◌, ◌≤◌}
 use native.Mathlib.Numerals.{add-one}
@@ -15,9 +16,7 @@ use Rattle.decimal.specs.declared.field.Reading.TheVariants.{Number, Blank, Unre
 use Rattle.decimal.proofs.Answers.{number_read, blank_said, nothing_said}
 use Rattle.tophat.specs.Syntax.{max_leaves}
 use Rattle.tophat.specs.Leaves.{padded, Given}
-use Rattle.formats.specs.declared.Leaf.{Leaf}
-use Rattle.formats.specs.declared.Leaves.{Leaves}
-use Rattle.formats.specs.Records.{total, place_of, fields_at, each, Item, put_items, items_of, leaf_bits, is_blank, leaf_read, leaves_read}
+use Rattle.formats.specs.Records.{total, place_of, fields_at, each, Item, put_items, items_of, leaf_bits, leaf_read, leaves_read}
 use Rattle.formats.specs.Touches.{leaf_said}
 use Rattle.formats.proofs.Each.{each_more, each_none}
 use Rattle.formats.proofs.Records.{widths, fields_length, field_at, put_more}
@@ -38,25 +37,22 @@ field_is s at k w l = field_at s at (alike w) k (omega (arith, length-replicate 
 -- ---- one leaf
 
 module _ (s : List ℕ) (at w : ℕ) where
-  abbrev leaf_at : Leaf
-  leaf_at = leaf_read (leaf_said (reads_at s at w))
-
-  pub leaf_number : (n : ℕ) → Number n ≡ reading (reads_at s at w) → record { readable = true; bits = n; blank = false } ≡ leaf_at
-  unfolding leaf_read leaf_said leaf_bits is_blank
+  pub leaf_number : (n : ℕ) → Number n ≡ reading (reads_at s at w) → Some (Some n) ≡ leaf_read (leaf_said (reads_at s at w))
+  unfolding leaf_said leaf_bits
   leaf_number n g =
       let d = number_read s at w n g in
       let e = d.is in
-      rw e (λ j. record { readable = true; bits = sym d.bits j; blank = false })
+      rw e (ap (λ m. Some (Some m)) (sym d.bits))
 
-  pub leaf_blank : Blank ≡ reading (reads_at s at w) → record { readable = true; bits = 0; blank = true } ≡ leaf_at
-  unfolding leaf_read leaf_said leaf_bits is_blank
+  pub leaf_blank : Blank ≡ reading (reads_at s at w) → Some None ≡ leaf_read (leaf_said (reads_at s at w))
+  unfolding leaf_said leaf_bits
   leaf_blank g = let e = blank_said (reads_at s at w) g in rw e
 
-  pub leaf_none : Unreadable ≡ reading (reads_at s at w) → record { readable = false; bits = 0; blank = false } ≡ leaf_at
-  unfolding leaf_read leaf_said
+  pub leaf_none : Unreadable ≡ reading (reads_at s at w) → None ≡ leaf_read (leaf_said (reads_at s at w))
+  unfolding leaf_said
   leaf_none g = let e = nothing_said (reads_at s at w) g in rw e
 
--- ---- the loop that reads: the first k fields are read; their bits stand first in the words, and which are blank first in the flags
+-- ---- the loop that reads: the first k fields are read, and what they say stands first
 
 -- what stands first, and the rest as at the start
 module _ {X : Type 0} (x : X) (xs : List X) (k : ℕ) (e : length xs ≡ k) (l : k < max_leaves) where
@@ -87,59 +83,45 @@ module _ (s : List ℕ) (at w : ℕ) where
   read_long : (k : ℕ) → k < max_leaves → k < length read
   read_long k l = omega (arith, fields_length s at (alike w), length-replicate max_leaves w, l)
 
-  pub record ReadTo (words : List ℕ) (blanks : List Bool) (k : ℕ) : Type 0 where
+  pub record ReadTo (leaves : List (Maybe ℕ)) (k : ℕ) : Type 0 where
     pub said : List Given
     pub long : length said ≡ k
     pub says : each leaf_said (take k read) ≡ some said
-    pub bits : words ≡ padded 0 (map leaf_bits said)
-    pub flags : blanks ≡ padded false (map is_blank said)
+    pub is : leaves ≡ padded None (map leaf_bits said)
 
-  pub read_first : ReadTo (replicate max_leaves 0) (replicate max_leaves false) 0
+  pub read_first : ReadTo (replicate max_leaves None) 0
   unfolding each padded
-  read_first = record { said = []; long = refl; says = refl; bits = refl; flags = refl }
+  read_first = record { said = []; long = refl; says = refl; is = refl }
 
-  module _ (k : ℕ) (m : k < max_leaves) (leaf : Leaf) (e : leaf ≡ leaf_read (leaf_said (reads_at s (at + k * w) w))) where
-    -- what the leaf is, if it can be read
-    said_leaf : leaf.readable ≡ true → (l : Given) × (leaf_said (reads_at s (at + k * w) w) ≡ some l) × (leaf.bits ≡ leaf_bits l) × (leaf.blank ≡ is_blank l)
-    unfolding leaf_read
-    said_leaf r = by (leaf_said (reads_at s (at + k * w) w)) e
-      where
-        by : (o : Option Given) → leaf ≡ leaf_read o → (l : Given) × (o ≡ some l) × (leaf.bits ≡ leaf_bits l) × (leaf.blank ≡ is_blank l)
-        by none q = absurd (false≢true (sym (ap (λ f. f.readable) q) ∙ r))
-        by (some l) q = (l, refl, ap (λ f. f.bits) q, ap (λ f. f.blank) q)
-
+  module _ (k : ℕ) (m : k < max_leaves) where
     -- one more leaf
-    pub read_more : (words : List ℕ) (blanks : List Bool) → ReadTo words blanks k → leaf.readable ≡ true → ReadTo (set words k leaf.bits) (set blanks k leaf.blank) (k + 1)
-    read_more words blanks r h =
-        let (l, f, b, x) = said_leaf h in
+    pub read_more : (leaf : Maybe ℕ) → Some leaf ≡ leaf_read (leaf_said (reads_at s (at + k * w) w)) → (leaves : List (Maybe ℕ)) → ReadTo leaves k → ReadTo (set leaves k leaf) (k + 1)
+    read_more leaf e leaves r =
+        let (l, f, b) = by (leaf_said (reads_at s (at + k * w) w)) e in
         let many = length-map r.said leaf_bits ∙ r.long in
-        let few = length-map r.said is_blank ∙ r.long in
         record {
           said = r.said ++ l ∷ [];
           long = length-append r.said (l ∷ []) ∙ ap (λ n. n + 1) r.long;
           says = ap (λ j. each leaf_said (take j read)) (add-one k) ∙ each_more leaf_said read k unreadable (read_long k m) r.says (ap leaf_said (field_is s at k w m) ∙ f);
-          bits = (λ j. set (r.bits j) k (b j)) ∙ next_set 0 (map leaf_bits r.said) k many m (leaf_bits l) ∙ ap (padded 0) (sym (map-append leaf_bits r.said (l ∷ [])));
-          flags = (λ j. set (r.flags j) k (x j)) ∙ next_set false (map is_blank r.said) k few m (is_blank l) ∙ ap (padded false) (sym (map-append is_blank r.said (l ∷ [])));
+          is = (λ j. set (r.is j) k (b j)) ∙ next_set None (map leaf_bits r.said) k many m (leaf_bits l) ∙ ap (padded None) (sym (map-append leaf_bits r.said (l ∷ [])));
         }
-
-    pub read_none : leaf.readable ≡ false
-        → ◌≡◌ {A = Leaves} (record { readable = false; words = replicate max_leaves 0; blank = replicate max_leaves false }) (leaves_read (each leaf_said read))
-    unfolding leaves_read leaf_read
-    read_none h = let q = each_none leaf_said read k unreadable (read_long k m) (ap leaf_said (field_is s at k w m) ∙ by (leaf_said (reads_at s (at + k * w) w)) e) in rw q
       where
-        by : (o : Option Given) → leaf ≡ leaf_read o → o ≡ none
-        by none q = refl
-        by (some l) q = absurd (false≢true (sym h ∙ ap (λ f. f.readable) q))
+        by : (o : Option Given) → Some leaf ≡ leaf_read o → (l : Given) × (o ≡ some l) × (leaf ≡ leaf_bits l)
+        by none q = absurd (none-some leaf (sym q))
+        by (some l) q = (l, refl, cc)
 
-  pub read_all : (words : List ℕ) (blanks : List Bool) (k : ℕ) → k ≡ max_leaves → ReadTo words blanks k
-      → ◌≡◌ {A = Leaves} (record { readable = true; words = words; blank = blanks }) (leaves_read (each leaf_said read))
-  unfolding leaves_read
-  read_all words blanks k n r =
+    pub read_none : None ≡ leaf_read (leaf_said (reads_at s (at + k * w) w)) → None ≡ leaves_read (each leaf_said read)
+    read_none e = let q = each_none leaf_said read k unreadable (read_long k m) (ap leaf_said (field_is s at k w m) ∙ by (leaf_said (reads_at s (at + k * w) w)) e) in rw q
+      where
+        by : (o : Option Given) → None ≡ leaf_read o → o ≡ none
+        by none q = refl
+        by (some l) q = absurd (none-some (leaf_bits l) q)
+
+  pub read_all : (leaves : List (Maybe ℕ)) (k : ℕ) → k ≡ max_leaves → ReadTo leaves k → Some leaves ≡ leaves_read (each leaf_said read)
+  read_all leaves k n r =
       let long : length read ≡ k = fields_length s at (alike w) ∙ length-replicate max_leaves w ∙ sym n in
       let f : each leaf_said read ≡ some r.said = ap (each leaf_said) (sym (take_all k read (omega (arith, long)))) ∙ r.says in
-      let a = r.bits ∙ padded_full 0 (map leaf_bits r.said) (length-map r.said leaf_bits ∙ r.long ∙ n) in
-      let b = r.flags ∙ padded_full false (map is_blank r.said) (length-map r.said is_blank ∙ r.long ∙ n) in
-      rw f (λ j. record { readable = true; words = a j; blank = b j })
+      rw f (ap Some (r.is ∙ padded_full None (map leaf_bits r.said) (length-map r.said leaf_bits ∙ r.long ∙ n)))
 
 -- ---- the loop that writes
 

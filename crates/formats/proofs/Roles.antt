@@ -1,7 +1,10 @@
--- Roles (CR 6): which numbers are roles, each way out of `read_role`, and that every role is read back. Rests on Items.
-use mathlib.Core.Path.{◌≡◌, refl, sym, ap, subst, ◌∙◌}
+-- Roles (CR 6): which numbers are roles, that every role is read back, and what `read_role` cites. Rests on Items.
+use mathlib.Core.Path.{◌≡◌, refl, ap, subst, ◌∙◌}
 use mathlib.Core.Bool.{true, false}
-use mathlib.Core.Option.{Option, none, some}
+use mathlib.Core.Option.{some}
+use Rattle.std.specs.Prelude.{Some, None}
+use Rattle.std.specs.Bool.{then_some}
+use Rattle.std.proofs.lemmas.Option.{none-some}
 use mathlib.Core.List.{List}
 use Prim.Native.Nat.{ℕ, ◌<◌}
 use native.Mathlib.Omega.{arith}
@@ -12,13 +15,13 @@ use lib.IntN.{pos, negsuc}
 use mir.Syntax.{w32}
 use mir.Val.{to_z}
 use Rattle.word.specs.Word.{words}
-use Rattle.word.proofs.TwosComplement.{number_low, number_high, halves}
-use Rattle.decimal.specs.Field.{Field, number, blank, unreadable, reads_at, reading}
-use Rattle.decimal.specs.declared.field.Reading.TheVariants.{Number, Blank, Unreadable}
-use Rattle.decimal.proofs.Answers.{number_read, blank_said, nothing_said}
+use Rattle.word.proofs.TwosComplement.{bits_lt, number_low, number_high, halves}
+use Rattle.word.specs.Options.{in_code}
+use Rattle.decimal.specs.Field.{Field, number, blank, unreadable, reads_at, reading, bits_said}
+use Rattle.decimal.specs.declared.field.Reading.{Reading}
+use Rattle.decimal.proofs.Answers.{bits_read}
 use Rattle.tophat.specs.Roles.{max_role}
 use Rattle.tophat.proofs.Basics.{apart, no_some, some_is, and_left, and_right}
-use Rattle.formats.specs.Records.{role_read}
 use Rattle.tophat.specs.Roles.{IsRole, is_role}
 use Rattle.formats.specs.Touches.{role_columns, role_said, event_role}
 use Rattle.formats.proofs.Items.{Fits, number_fits}
@@ -57,49 +60,26 @@ said_role (number (negsuc n)) h = no_some h
 said_role blank h = no_some h
 said_role unreadable h = no_some h
 
--- ---- the role that bits say
+-- ---- the role of an event
 
-pub bits_role : (n : ℕ) → is_role n ≡ true → n ≡ role_read (role_said (number (to_z w32 n)))
-unfolding role_said role_read
-bits_role n e = let l = (role_is n e).1 in let z = number_low n (omega (arith, l)) in rw (z, e)
+module _ (s : List ℕ) {r : Reading} (e : r ≡ reading (reads_at s 0 role_columns)) where
+  -- a number may be a role
+  pub role_bits : (n : ℕ) → Some n ≡ bits_said r → then_some (is_role n) n ≡ in_code (event_role s)
+  unfolding role_said
+  role_bits n h =
+      let d = bits_read s 0 role_columns n (h ∙ ap bits_said e) in
+      let f = d.is in
+      let g : n < words = subst (λ m. m < words) d.bits (bits_lt (to_z w32 n) d.word) in
+      halves n
+      (λ l. let z = number_low n l in rw (f, z) (cases (is_role n) (λ t. rw t) (λ t. rw t)))
+      (λ l. let z = number_high n l g in let t = not_role n (λ r. let m = r.1 in omega arith) in rw (f, z, t))
 
-pub bits_none : (n : ℕ) → n < words → is_role n ≡ false → 0 ≡ role_read (role_said (number (to_z w32 n)))
-unfolding role_said role_read
-bits_none n g e = halves n
-    (λ l. let z = number_low n l in rw (z, e))
-    (λ l. let z = number_high n l g in rw z)
-
--- ---- the bytes
-
-module _ (s : List ℕ) where
-  abbrev field : Field
-  field = reads_at s 0 role_columns
-
-  pub role_number : (n m : ℕ) → Number n ≡ reading field → m ≡ role_read (role_said (number (to_z w32 n))) → m ≡ role_read (event_role s)
-  role_number n m h g = g ∙ ap (λ f. role_read (role_said f)) (sym (number_read s 0 role_columns n h).is)
-
-  pub role_blank : Blank ≡ reading field → 0 ≡ role_read (event_role s)
-  unfolding role_said role_read
-  role_blank h = ap (λ f. role_read (role_said f)) (sym (blank_said field h))
-
-  pub role_unread : Unreadable ≡ reading field → 0 ≡ role_read (event_role s)
-  unfolding role_said role_read
-  role_unread h = ap (λ f. role_read (role_said f)) (sym (nothing_said field h))
-
--- ---- what a caller learns of an answer
-
-pub no_role_read : (f : Field) (n : ℕ) → n ≡ role_read (role_said f) → n ≡ 0 → role_said f ≡ none
-unfolding role_read
-no_role_read f n e z = by (role_said f) refl e
-  where
-    by : (o : Option ℕ) → role_said f ≡ o → n ≡ role_read o → role_said f ≡ none
-    by none h g = h
-    by (some r) h g = let l = (said_role f h).0 in absurd (omega (arith, l, g, z))
-
-pub a_role_read : (f : Field) (n : ℕ) → n ≡ role_read (role_said f) → (n ≡ 0 → ⊥) → (role_said f ≡ some n) × IsRole n
-unfolding role_read
-a_role_read f n e z = by (role_said f) refl e
-  where
-    by : (o : Option ℕ) → role_said f ≡ o → n ≡ role_read o → (role_said f ≡ some n) × IsRole n
-    by none h g = absurd (z g)
-    by (some r) h g = let q = h ∙ ap some (sym g) in (q, said_role f q)
+  -- anything else is none
+  pub role_none : None ≡ bits_said r → None ≡ in_code (event_role s)
+  unfolding role_said
+  role_none h = by (reads_at s 0 role_columns) (h ∙ ap bits_said e)
+    where
+      by : (f : Field) → None ≡ bits_said (reading f) → None ≡ in_code (role_said f)
+      by (number z) h = absurd (none-some _ h)
+      by blank h = refl
+      by unreadable h = refl

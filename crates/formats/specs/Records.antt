@@ -2,16 +2,13 @@
 -- full"). The widths of a record's fields are a list; its places and its length are computed from them. Rests on the fields of
 -- decimal.
 -- Believed, but for `items_in`, for proofs only, and the code's answers after `items_of`: for contracts only.
-use Rattle.std.specs.Prelude.{Bool, true, false, ◌&&◌, List, [], ◌∷◌, ◌++◌, map, ℕ, ◌+◌, eqb, ℤ, length, get_or, take, replicate}
+use Rattle.std.specs.Prelude.{Option as Maybe, Some, None, Bool, ◌&&◌, List, [], ◌∷◌, ◌++◌, map, ℕ, ◌+◌, eqb, ℤ, length, get_or, take}
 use Rattle.std.proofs.Math.Option.{Option, none, some, bind}
 use Rattle.std.specs.Int.{w32}
 use Rattle.std.proofs.Common.{to_z, of_z}
 use Rattle.decimal.specs.Field.{Field, number, blank, unreadable, written, reads_at, put_at, newline}
 use Rattle.decimal.specs.Path.{Path, written_path}
-use Rattle.tophat.specs.Syntax.{max_leaves}
 use Rattle.tophat.specs.Leaves.{Given}
-use Rattle.formats.specs.declared.Leaf.{Leaf}
-use Rattle.formats.specs.declared.Leaves.{Leaves}
 
 -- how many columns fields are together
 abbrev pub total : List ℕ → ℕ
@@ -89,25 +86,16 @@ put_items s at (i ∷ is) = put_items (put_at s at i.0 (written i.0 i.1)).1 (at 
 abbrev pub items_of : ℕ → List ℕ → List Item
 items_of w ns = map (λ n. (w, to_z w32 n)) ns
 
--- the bits of a leaf of an event, and whether it is blank
-unfoldable pub leaf_bits : Given → ℕ
-leaf_bits none = 0
-leaf_bits (some z) = of_z w32 z
+-- a leaf of an event: a number's bits, or blank
+unfoldable pub leaf_bits : Given → Maybe ℕ
+leaf_bits none = None
+leaf_bits (some z) = Some (of_z w32 z)
 
-unfoldable pub is_blank : Given → Bool
-is_blank none = true
-is_blank (some z) = false
+-- the code's answer for a leaf, and for all of them, where each can be read
+abbrev pub leaf_read : Option Given → Maybe (Maybe ℕ)
+leaf_read none = None
+leaf_read (some l) = Some (leaf_bits l)
 
--- the code's answer for a role (CR 6); 0 where none is said
-unfoldable pub role_read : Option ℕ → ℕ
-role_read none = 0
-role_read (some r) = r
-
--- the code's answer for a leaf, and for all of them; zeros where one cannot be read
-unfoldable pub leaf_read : Option Given → Leaf
-leaf_read none = record { readable = false; bits = 0; blank = false }
-leaf_read (some l) = record { readable = true; bits = leaf_bits l; blank = is_blank l }
-
-unfoldable pub leaves_read : Option (List Given) → Leaves
-leaves_read none = record { readable = false; words = replicate max_leaves 0; blank = replicate max_leaves false }
-leaves_read (some ls) = record { readable = true; words = map leaf_bits ls; blank = map is_blank ls }
+abbrev pub leaves_read : Option (List Given) → Maybe (List (Maybe ℕ))
+leaves_read none = None
+leaves_read (some ls) = Some (map leaf_bits ls)

@@ -3,12 +3,11 @@
 #![tactic(auto)]
 
 ghost use Rattle.std.specs.Prelude.{◌≡◌, ◌+◌, ◌*◌, ◌<◌, length, replicate};
-ghost use Rattle.std.specs.Int.{w32};
-ghost use Rattle.std.proofs.Common.{to_z};
-ghost use Rattle.decimal.specs.Field.{number, reads_at};
+ghost use Rattle.word.specs.Options.{in_code};
+ghost use Rattle.decimal.specs.Field.{reads_at};
 ghost use Rattle.tophat.specs.Syntax.{max_leaves};
-ghost use Rattle.formats.specs.Records.{fields_at, each, put_items, items_of, role_read, leaf_read, leaves_read};
-ghost use Rattle.formats.specs.Touches.{role_said, event_role, leaf_said};
+ghost use Rattle.formats.specs.Records.{fields_at, each, put_items, items_of, leaf_read, leaves_read};
+ghost use Rattle.formats.specs.Touches.{event_role, leaf_said};
 
 use decimal::field;
 use decimal::field::{ACTION_COLUMNS, ROW_COLUMNS, Reading, WORD_COLUMNS};
@@ -45,92 +44,35 @@ pub const HEAD_ENTRIES_AT: usize = HEAD_LEAVES_AT + MAX_LEAVES * WORD_COLUMNS;
 
 pub const HEAD_BYTES: usize = HEAD_ENTRIES_AT + ROW_COLUMNS + 1;
 
-// A leaf of an event, where its field can be read: a number's bits, or blank and the bits 0.
-#[derive(Clone, Copy)]
-struct Leaf {
-    readable: bool,
-    bits: u32,
-    blank: bool,
-}
-
-// All leaves of an event, where each can be read; else zeros.
-#[derive(Clone, Copy)]
-pub struct Leaves {
-    pub readable: bool,
-    pub words: [u32; MAX_LEAVES],
-    pub blank: [bool; MAX_LEAVES],
-}
-
-// The role of these bits, 0 where they are none's.
-fn as_role(bits: u32) -> u32
-    ensures { result ≡ role_read (role_said (number (to_z w32 bits))) }
+// The role that an event's first columns say, if they say one of 1 to 8 (CR 6). The rest of the event is not read.
+pub fn read_role(s: &[u8]) -> Option<u32>
+    ensures { result ≡ in_code (event_role s.now) }
 {
-    if is_role(bits) {
-        return bits;
-    }
-    0
+    let bits = field::read(s, 0, ROLE_COLUMNS).number()?;
+    is_role(bits).then_some(bits)
 }
 
-// The role that an event's first columns say, 0 where they say none of 1 to 8 (CR 6). The rest of the event is not read.
-pub fn read_role(s: &[u8]) -> u32
-    ensures { result ≡ role_read (event_role s.now) }
-{
-    let reading = field::read(s, 0, ROLE_COLUMNS);
-    match reading {
-        Reading::Number(bits) => as_role(bits),
-        Reading::Blank => 0,
-        Reading::Unreadable => 0,
-    }
-}
-
-// The leaf in the field of `width` columns from `at` on.
-fn read_leaf(s: &[u8], at: usize, width: usize) -> Leaf
+// The leaf in the field of `width` columns from `at` on, where the field can be read: a number's bits, or blank.
+fn read_leaf(s: &[u8], at: usize, width: usize) -> Option<Option<u32>>
     ensures { result ≡ leaf_read (leaf_said (reads_at s.now at width)) }
 {
-    let reading = field::read(s, at, width);
-    match reading {
-        Reading::Number(n) => Leaf {
-            readable: true,
-            bits: n,
-            blank: false,
-        },
-        Reading::Blank => Leaf {
-            readable: true,
-            bits: 0,
-            blank: true,
-        },
-        Reading::Unreadable => Leaf {
-            readable: false,
-            bits: 0,
-            blank: false,
-        },
+    match field::read(s, at, width) {
+        Reading::Number(bits) => Some(Some(bits)),
+        Reading::Blank => Some(None),
+        Reading::Unreadable => None,
     }
 }
 
-// The leaves in fields of `width` columns, one after another from `at` on.
-pub fn read_leaves(s: &[u8], at: usize, width: usize) -> Leaves
+// The leaves in fields of `width` columns, one after another from `at` on, where each can be read.
+pub fn read_leaves(s: &[u8], at: usize, width: usize) -> Option<[Option<u32>; MAX_LEAVES]>
     requires { at + max_leaves * width < 4294967296 }
     ensures { result ≡ leaves_read (each leaf_said (fields_at s.now at (replicate max_leaves width))) }
 {
-    let mut words = [0u32; MAX_LEAVES];
-    let mut blank = [false; MAX_LEAVES];
+    let mut leaves = [None; MAX_LEAVES];
     for k in 0..MAX_LEAVES {
-        let leaf = read_leaf(s, at + k * width, width);
-        if !leaf.readable {
-            return Leaves {
-                readable: false,
-                words: [0u32; MAX_LEAVES],
-                blank: [false; MAX_LEAVES],
-            };
-        }
-        words[k] = leaf.bits;
-        blank[k] = leaf.blank;
+        leaves[k] = read_leaf(s, at + k * width, width)?;
     }
-    Leaves {
-        readable: true,
-        words: words,
-        blank: blank,
-    }
+    Some(leaves)
 }
 
 // The numbers into fields of `width` columns, one after another from `at` on. Where the slice does not have a field, or a number

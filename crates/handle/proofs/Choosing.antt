@@ -11,7 +11,7 @@ use Rattle.decimal.proofs.PathNumbers.{path_0}
 use Rattle.tophat.specs.Syntax.{Ty, Code, edit, enter, update, then, next, fail, and, or, xor, view, gate, if, let', Env, Store}
 use Rattle.tophat.specs.Syntax.{TaskOf, unpicked, picked_left, picked_right}
 use Rattle.tophat.specs.Typing.{CodeType}
-use Rattle.tophat.specs.Handling.{continue, left, right, Action, press}
+use Rattle.tophat.specs.Handling.{continue, left, right, Action, give, press}
 use Rattle.tophat.proofs.Admitted.{verdict_none}
 use Rattle.tophat.proofs.ComputeNormalising.{settle}
 use Rattle.tophat.proofs.ComputeHandling.{at_sides, unless_failing, handle}
@@ -27,9 +27,10 @@ use Rattle.running.proofs.Forms.{on_unpicked, on_no_if, on_no_let, on_no_gate}
 use Rattle.running.specs.Hands.{Unhanded}
 use Rattle.normalising.specs.Trying.{SettleOk}
 use Rattle.handle.specs.declared.Event.{Event}
-use Rattle.handle.specs.Events.{give_number, continue_number, left_number, right_number, KnownEvent, leaves_by, event_path, event_action}
+use Rattle.handle.specs.Events.{action_by, leaves_by, event_path, event_action}
 use Rattle.handle.specs.Taking.{Picked, PickOk, answer_of}
-use Rattle.handle.proofs.Numbers.{some_marks, is_give, is_continue, is_left, is_right}
+use Rattle.handle.proofs.Numbers.{some_marks, by_action}
+use Rattle.tophat.specs.declared.Action.TheVariants.{Left, Right}
 
 -- ---- side, way by way
 
@@ -83,28 +84,28 @@ module _ (rs ws ws₁ : List ℕ) (i : ℕ) (env : List ℕ) (d : ℕ) (r : Bool
         (λ a b τ z h y n. subst (λ p. Handled rs ws ws₁ i env d (xor a b) e.role (answer_of r) (handle (xor a b) ρ s unpicked p (event_action e))) (sym ep)
         (subst (λ x. Handled rs ws ws₁ i env d (xor a b) e.role (answer_of r) (handle (xor a b) ρ s unpicked p x)) (sym ex) (f a b τ Σ Γ s ρ z h y n w))) c z τ t y h
 
-  pub handle_left : (a : ℕ) → (e.path ≡ 0) × (e.action ≡ left_number) → a ≡ op_a rs i → PickOk rs ws ws₁ i a one env d r → HandleOk rs ws ws₁ i env d e.role (event_path e) (event_action e) (answer_of r)
+  pub handle_left : (a : ℕ) → (e.path ≡ 0) × (e.action ≡ Left) → a ≡ op_a rs i → PickOk rs ws ws₁ i a one env d r → HandleOk rs ws ws₁ i env d e.role (event_path e) (event_action e) (answer_of r)
   unfolding handle at_sides
-  handle_left a (ep, en) ea h = chosen [] (press left) (path_0 e.path ep) (is_left e.action (leaves_by e.leaves e.blank) (λ k. omega arith) (λ k. omega arith) en)
+  handle_left a (ep, en) ea h = chosen [] (press left) (path_0 e.path ep) (ap (λ a. action_by a (leaves_by e.leaves)) en)
       (λ a₁ b₁ τ Σ Γ s ρ z g y n w. picked_left_lem rs ws ws₁ i env d e.role r a₁ b₁ z g _ _ _ (subst (λ a. PickOk rs ws ws₁ i a one env d r) ea h a₁ z.1 Σ Γ τ s ρ y w g.1))
 
-  pub handle_right : (b : ℕ) → (e.path ≡ 0) × (e.action ≡ right_number) → b ≡ op_b rs i → PickOk rs ws ws₁ i b other env d r → HandleOk rs ws ws₁ i env d e.role (event_path e) (event_action e) (answer_of r)
+  pub handle_right : (b : ℕ) → (e.path ≡ 0) × (e.action ≡ Right) → b ≡ op_b rs i → PickOk rs ws ws₁ i b other env d r → HandleOk rs ws ws₁ i env d e.role (event_path e) (event_action e) (answer_of r)
   unfolding handle at_sides
-  handle_right b (ep, en) eb h = chosen [] (press right) (path_0 e.path ep) (is_right e.action (leaves_by e.leaves e.blank) (λ k. omega arith) (λ k. omega arith) (λ k. omega arith))
+  handle_right b (ep, en) eb h = chosen [] (press right) (path_0 e.path ep) (ap (λ a. action_by a (leaves_by e.leaves)) en)
       (λ a₁ b₁ τ Σ Γ s ρ z g y n w. picked_right_lem rs ws ws₁ i env d e.role r a₁ b₁ z g _ _ _ (subst (λ b. PickOk rs ws ws₁ i b other env d r) eb h b₁ z.2 Σ Γ τ s ρ n w g.2))
 
 module _ (rs ws : List ℕ) (i : ℕ) (env : List ℕ) (d : ℕ) (e : Event) (v : Unhanded rs ws i) (q : OfKind rs i (task_k xor_k)) where
   -- a mark is left over, a value, or Continue
-  pub handle_unpicked : KnownEvent e → (e.path ≡ 0 → e.action ≡ left_number → ⊥) → (e.path ≡ 0 → e.action ≡ right_number → ⊥) → HandleOk rs ws ws i env d e.role (event_path e) (event_action e) not_handled
+  pub handle_unpicked : (e.path ≡ 0 → e.action ≡ Left → ⊥) → (e.path ≡ 0 → e.action ≡ Right → ⊥) → HandleOk rs ws ws i env d e.role (event_path e) (event_action e) not_handled
   unfolding handle at_sides
-  handle_unpicked l h g = by (ℕ_discrete e.path 0) (ℕ_discrete e.action give_number)
+  handle_unpicked h g = by (ℕ_discrete e.path 0)
     where
-      by : Dec (e.path ≡ 0) → Dec (e.action ≡ give_number) → HandleOk rs ws ws i env d e.role (event_path e) (event_action e) not_handled
-      by (no n) k = chosen rs ws ws i env d false e v q _ _ (some_marks e.path n) refl (λ a b τ Σ Γ s ρ z g y n w. (refl, refl))
-      by (yes p) (yes k) = chosen rs ws ws i env d false e v q [] _ (path_0 e.path p) (is_give e.action (leaves_by e.leaves e.blank) k) (λ a b τ Σ Γ s ρ z g y n w. (refl, refl))
-      by (yes p) (no k) =
-          let m : e.action ≡ continue_number = (let x = h p in let y = g p in omega (arith, l.0, l.1)) in
-          chosen rs ws ws i env d false e v q [] (press continue) (path_0 e.path p) (is_continue e.action (leaves_by e.leaves e.blank) k m) (λ a b τ Σ Γ s ρ z g y n w. (refl, refl))
+      by : Dec (e.path ≡ 0) → HandleOk rs ws ws i env d e.role (event_path e) (event_action e) not_handled
+      by (no n) = chosen rs ws ws i env d false e v q _ _ (some_marks e.path n) refl (λ a b τ Σ Γ s ρ z g y n w. (refl, refl))
+      by (yes p) = by_action e.action
+          (λ k. chosen rs ws ws i env d false e v q [] (give (leaves_by e.leaves)) (path_0 e.path p) (ap (λ a. action_by a (leaves_by e.leaves)) k) (λ a b τ Σ Γ s ρ z g y n w. (refl, refl)))
+          (λ k. chosen rs ws ws i env d false e v q [] (press continue) (path_0 e.path p) (ap (λ a. action_by a (leaves_by e.leaves)) k) (λ a b τ Σ Γ s ρ z g y n w. (refl, refl)))
+          (λ k. absurd (h p k)) (λ k. absurd (g p k))
 
 -- ---- rows that take no event: 45, 49, and what is no task
 

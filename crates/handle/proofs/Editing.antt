@@ -22,6 +22,7 @@ use Rattle.tophat.specs.Handling.{Action, give, press}
 use Rattle.tophat.proofs.Admitted.{verdict_none}
 use Rattle.tophat.proofs.ComputeHandling.{then_some, at_editor, handle}
 use Rattle.tophat.specs.Leaves.{Given, given}
+use Rattle.tophat.specs.declared.Action.TheVariants.{Value}
 use Rattle.tophat.proofs.EvaluationAgrees.{look_up}
 use Rattle.tophat.proofs.Leaves.{type_of_lem}
 use Rattle.tophat.proofs.TypeLeaves.{at_leaves, type_leaves}
@@ -34,7 +35,7 @@ use Rattle.shape.proofs.Counts.{by_type, shape_leaves_lem}
 use Rattle.typing.specs.RowTypes as typing
 use Rattle.typing.proofs.TypeRows.{type_shape}
 use Rattle.value.specs.Values.{as_value}
-use Rattle.value.specs.declared.Value.{Value}
+use Rattle.value.specs.declared.Value as Val
 use Rattle.value.specs.Fits.{Got, got_none, got_some, value_in, value_for, fits_in}
 use Rattle.value.proofs.Fitting.{fits_got}
 use Rattle.value.proofs.Operators.{differ}
@@ -48,36 +49,36 @@ use Rattle.state.proofs.Sites.{on_code}
 use Rattle.eval.proofs.Arms.{in_list}
 use Rattle.running.proofs.Forms.{on_filled, on_shared}
 use Rattle.handle.specs.declared.Event.{Event}
-use Rattle.handle.specs.Events.{give_number, ZeroBlanks, leaves_by, event_path, event_action}
-use Rattle.handle.specs.Taking.{taken_by, Filled, NoneBlank, FillOk, answer_of}
-use Rattle.handle.proofs.Numbers.{some_marks, is_give, is_press}
-use Rattle.handle.proofs.Blanks.{given_blank, given_bits}
+use Rattle.handle.specs.Events.{bits_of, leaves_by, event_path, event_action}
+use Rattle.handle.specs.Taking.{taken_by, Filled, FillOk, answer_of}
+use Rattle.handle.proofs.Numbers.{some_marks, by_action}
+use Rattle.handle.proofs.Blanks.{none_blank, given_blank, given_bits}
 
 -- ---- fill, way by way
 
 module _ (e : Event) where
   -- no value at the path's end
-  not_given : (τ : Ty) → (e.path ≡ 0 → e.action ≡ give_number → ⊥) → taken_by τ e ≡ none
+  not_given : (τ : Ty) → (e.path ≡ 0 → e.action ≡ Value → ⊥) → taken_by τ e ≡ none
   unfolding at_editor
   not_given τ h = by (ℕ_discrete e.path 0)
     where
       by : Dec (e.path ≡ 0) → taken_by τ e ≡ none
-      by (yes p) = let (b, q) = is_press e.action (leaves_by e.leaves e.blank) (h p) in rw (path_0 e.path p, q)
+      by (yes p) = by_action e.action (λ q. absurd (h p q)) (λ q. rw (path_0 e.path p, q)) (λ q. rw (path_0 e.path p, q)) (λ q. rw (path_0 e.path p, q))
       by (no n) = rw (some_marks e.path n)
 
   -- leaves at the path's end
-  at_end : (τ : Ty) → (e.path ≡ 0) × (e.action ≡ give_number) → taken_by τ e ≡ given τ (leaves_by e.leaves e.blank)
+  at_end : (τ : Ty) → (e.path ≡ 0) × (e.action ≡ Value) → taken_by τ e ≡ given τ (leaves_by e.leaves)
   unfolding at_editor
-  at_end τ (p, h) = rw (path_0 e.path p, is_give e.action (leaves_by e.leaves e.blank) h)
+  at_end τ (p, h) = rw (path_0 e.path p, h)
 
   -- none of which that the type has a leaf for is blank
-  taken_is : (c : ℕ) (τ : Ty) → (e.path ≡ 0) × (e.action ≡ give_number) → given τ (leaves_by e.leaves e.blank) ≡ given τ (map some (map (to_z w32) e.leaves)) → c ≡ as_shape τ
-      → value_in (record { shape = c; leaves = e.leaves }) τ ≡ taken_by τ e
+  taken_is : (c : ℕ) (τ : Ty) → (e.path ≡ 0) × (e.action ≡ Value) → given τ (leaves_by e.leaves) ≡ given τ (map some (map (to_z w32) (map bits_of e.leaves))) → c ≡ as_shape τ
+      → value_in (record { shape = c; leaves = map bits_of e.leaves }) τ ≡ taken_by τ e
   unfolding value_in
   taken_is c τ g b q = rw (eq-eqb c (as_shape τ) q) (sym b ∙ sym (at_end τ g))
 
 module _ (ws : List ℕ) (i x c : ℕ) (e : Event) where
-  pub fill_not_given : (e.path ≡ 0 → e.action ≡ give_number → ⊥) → FillOk ws ws i x c e false
+  pub fill_not_given : (e.path ≡ 0 → e.action ≡ Value → ⊥) → FillOk ws ws i x c e false
   unfolding bind
   fill_not_given h = by_type c (λ o. Filled ws ws i x false (bind o λ τ. taken_by τ e)) (refl, refl) (λ τ q l. subst (Filled ws ws i x false) (sym (not_given e τ h)) (refl, refl))
 
@@ -86,24 +87,24 @@ module _ (ws : List ℕ) (i x c : ℕ) (e : Event) where
   unfolding bind
   fill_untyped h = subst (λ o. Filled ws ws i x false (bind o λ τ. taken_by τ e)) (sym (ap as_type h ∙ no_type)) (refl, refl)
 
-  module _ (g : (e.path ≡ 0) × (e.action ≡ give_number)) (n : ℕ) (q : n ≡ shape_leaves c) (y : Bool) (b : NoneBlank e.blank n y) where
+  module _ (g : (e.path ≡ 0) × (e.action ≡ Value)) (n : ℕ) (q : n ≡ shape_leaves c) where
     -- of a type's leaves
-    of_type : (τ : Ty) → leaves τ ≤ max_leaves → c ≡ as_shape τ → NoneBlank e.blank (leaves τ) y
-    of_type τ l s = subst (λ n. NoneBlank e.blank n y) (q ∙ ap shape_leaves s ∙ shape_leaves_lem τ l) b
+    of_type : {y : Bool} (τ : Ty) → leaves τ ≤ max_leaves → c ≡ as_shape τ → none_blank e.leaves n ≡ y → none_blank e.leaves (leaves τ) ≡ y
+    of_type τ l s b = ap (none_blank e.leaves) (sym (q ∙ ap shape_leaves s ∙ shape_leaves_lem τ l)) ∙ b
 
-    pub fill_blank : y ≡ false → FillOk ws ws i x c e false
+    pub fill_blank : none_blank e.leaves n ≡ false → FillOk ws ws i x c e false
     unfolding bind
     fill_blank h = by_type c (λ o. Filled ws ws i x false (bind o λ τ. taken_by τ e)) (refl, refl)
-        (λ τ s l. subst (Filled ws ws i x false) (sym (at_end e τ g ∙ given_blank τ e.leaves e.blank y (of_type τ l s) h)) (refl, refl))
+        (λ τ s l. subst (Filled ws ws i x false) (sym (at_end e τ g ∙ given_blank τ e.leaves (of_type τ l s h))) (refl, refl))
 
-    module _ (z : ZeroBlanks e.leaves e.blank) (h : y ≡ true) (r : Bool) (w : r ≡ true → AllBits e.leaves) (f : r ≡ fits_in (record { shape = c; leaves = e.leaves }) c) where
+    module _ (h : none_blank e.leaves n ≡ true) (r : Bool) (w : r ≡ true → AllBits (map bits_of e.leaves)) (f : r ≡ fits_in (record { shape = c; leaves = map bits_of e.leaves }) c) where
       -- the value that the event gives, if there is one
-      given_got : Got r (λ u. record { shape = c; leaves = e.leaves } ≡ as_value u) (bind (as_type c) λ τ. taken_by τ e)
+      given_got : Got r (λ u. record { shape = c; leaves = map bits_of e.leaves } ≡ as_value u) (bind (as_type c) λ τ. taken_by τ e)
       unfolding value_for bind
       given_got =
-          let v : Value = record { shape = c; leaves = e.leaves } in
+          let v : Val.Value = record { shape = c; leaves = map bits_of e.leaves } in
           subst (Got r (λ u. v ≡ as_value u)) (by_type c (λ o. bind o (value_in v) ≡ bind o (λ τ. taken_by τ e)) refl
-          (λ τ s l. taken_is e c τ g (given_bits τ e.leaves e.blank y (of_type τ l s) z h) s)) (fits_got v c r w f)
+          (λ τ s l. taken_is e c τ g (given_bits τ e.leaves (of_type τ l s h)) s)) (fits_got v c r w f)
 
       pub fill_unfit : r ≡ false → FillOk ws ws i x c e false
       fill_unfit h = by given_got
@@ -112,10 +113,10 @@ module _ (ws : List ℕ) (i x c : ℕ) (e : Event) where
           by (got_none n) = (refl, refl)
           by (got_some n k) = differ (sym n ∙ h)
 
-      pub fill_fits : (ws₁ : List ℕ) → r ≡ true → Laid ws ws₁ i (x ∷ words_of (record { shape = c; leaves = e.leaves })) → FillOk ws ws₁ i x c e true
+      pub fill_fits : (ws₁ : List ℕ) → r ≡ true → Laid ws ws₁ i (x ∷ words_of (record { shape = c; leaves = map bits_of e.leaves })) → FillOk ws ws₁ i x c e true
       fill_fits ws₁ h m = by given_got
         where
-          by : {o : Option Val} → Got r (λ u. record { shape = c; leaves = e.leaves } ≡ as_value u) o → Filled ws ws₁ i x true o
+          by : {o : Option Val} → Got r (λ u. record { shape = c; leaves = map bits_of e.leaves } ≡ as_value u) o → Filled ws ws₁ i x true o
           by (got_none n) = differ (sym h ∙ n)
           by (got_some {x = u} n k) = (refl, laid_as u m k)
 

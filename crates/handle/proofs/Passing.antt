@@ -7,7 +7,6 @@ use mathlib.Core.Option.{Option, none, some}
 use mathlib.Core.List.{List, [], ◌∷◌}
 use Prim.Native.Nat.{ℕ}
 use native.Mathlib.Decide.{ℕ_discrete}
-use native.Mathlib.Omega.{arith}
 use Rattle.decimal.specs.Path.{first, second, Path}
 use Rattle.decimal.proofs.PathNumbers.{path_0}
 use Rattle.tophat.specs.Syntax.{Code, then, next, and, or, Val, Env, Store}
@@ -36,9 +35,10 @@ use Rattle.normalising.specs.Trying.{Attempted, AttemptOk}
 use Rattle.normalising.proofs.Asking.{two_kinds}
 use Rattle.normalising.proofs.Trying.{ran_next}
 use Rattle.handle.specs.declared.Event.{Event}
-use Rattle.handle.specs.Events.{continue_number, leaves_by, event_path, event_action}
+use Rattle.handle.specs.Events.{event_path, event_action}
 use Rattle.handle.specs.Taking.{going_on, GoingOk, answer_of}
-use Rattle.handle.proofs.Numbers.{some_marks, is_continue, continue_is}
+use Rattle.handle.proofs.Numbers.{some_marks, by_action}
+use Rattle.tophat.specs.declared.Action.TheVariants.{Continue}
 
 -- ---- Continue at a step: what goes on, by the value that going_on finds
 
@@ -63,24 +63,18 @@ module _ {X : Type 0} (F : Val → Option X) (G : Unit {0} → Option X) where
 
 -- going_on, way by way
 module _ (rs ws : List ℕ) (i : ℕ) (e : Event) where
-  pub going_none : (e.path ≡ 0 → e.action ≡ continue_number → ⊥) → GoingOk rs ws i e None
+  pub going_none : (e.path ≡ 0 → e.action ≡ Continue → ⊥) → GoingOk rs ws i e None
   unfolding going_on as_found
   going_none h d c z Σ Γ τ s t y st gs gb g w = by (ℕ_discrete e.path 0)
     where
-      at_end : e.path ≡ 0 → (x : Action) → event_action e ≡ x → None ≡ as_found (going_on (event_path e) (event_action e) (value c t s))
-      at_end p (give ls) q = rw (path_0 e.path p, q)
-      at_end p (press continue) q = absurd (h p (continue_is e.action (leaves_by e.leaves e.blank) q))
-      at_end p (press left) q = rw (path_0 e.path p, q)
-      at_end p (press right) q = rw (path_0 e.path p, q)
-
       by : Dec (e.path ≡ 0) → None ≡ as_found (going_on (event_path e) (event_action e) (value c t s))
-      by (yes p) = at_end p (event_action e) refl
+      by (yes p) = by_action e.action (λ q. rw (path_0 e.path p, q)) (λ q. absurd (h p q)) (λ q. rw (path_0 e.path p, q)) (λ q. rw (path_0 e.path p, q))
       by (no n) = rw (some_marks e.path n)
 
-  pub going_value : (r : Found) → (e.path ≡ 0) × (e.action ≡ continue_number) → ValueOk rs ws i r → GoingOk rs ws i e r
+  pub going_value : (r : Found) → (e.path ≡ 0) × (e.action ≡ Continue) → ValueOk rs ws i r → GoingOk rs ws i e r
   unfolding going_on
   going_value r (p, h) f d c z Σ Γ τ s t y st gs gb g w =
-      f d c z Σ Γ τ s t y st gs gb g w ∙ ap as_found (sym (rw (path_0 e.path p, is_continue e.action (leaves_by e.leaves e.blank) (λ k. omega arith) h)))
+      f d c z Σ Γ τ s t y st gs gb g w ∙ ap as_found (sym (rw (path_0 e.path p, h)))
 
 -- ---- the arms
 

@@ -1,7 +1,7 @@
 -- What the functions of this crate take of an event, and leave: an editor that gets a value, a value that a step goes
 -- on with, a side that is picked; and what a row of kind 50 makes of its part's answer (CR 6). Rests on Events and on crate state's terms.
 -- For contracts only: tied to the calculus' `handle` by the contract of `handle`.
-use Rattle.std.specs.Prelude.{◌≡◌, Bool, true, false, cond, List, [], ◌∷◌, ℕ, ◌-◌, ◌<◌, eqb, get_or}
+use Rattle.std.specs.Prelude.{◌≡◌, Bool, true, false, cond, List, [], ◌∷◌, ℕ, ◌-◌, eqb}
 use Rattle.std.proofs.Math.Option.{Option, none, some, bind}
 use Rattle.decimal.specs.Path.{Path}
 use Rattle.tophat.specs.Syntax.{Ty, Code, Val, TaskOf, Env, Store}
@@ -33,11 +33,6 @@ taken_by τ e = at_editor (event_path e) (event_action e) λ ls. given τ ls
 abbrev pub Filled : List ℕ → List ℕ → ℕ → ℕ → Bool → Option Val → Type 0
 Filled ws ws₁ i x r none = (r ≡ false) × (ws₁ ≡ ws)
 Filled ws ws₁ i x r (some v) = (r ≡ true) × Laid ws ws₁ i (x ∷ value_words v)
-
--- r tells whether none of the first n leaves is blank
-pub record NoneBlank (bs : List Bool) (n : ℕ) (r : Bool) : Type 0 where
-  pub yes : r ≡ true → (k : ℕ) → k < n → get_or bs k false ≡ false
-  pub no : r ≡ false → (k : ℕ) × (k < n) × (get_or bs k false ≡ true)
 
 -- that of the type whose shape is c, none where c is no type's shape
 abbrev pub FillOk : List ℕ → List ℕ → ℕ → ℕ → ℕ → Event → Bool → Type 0

@@ -5,15 +5,16 @@
 // specs/Events says what an event is.
 #![tactic(auto)]
 
-ghost use Rattle.std.specs.Prelude.{◌≡◌, List, ℕ, ◌-◌, ◌<◌, ◌≤◌};
+ghost use Rattle.std.specs.Prelude.{◌≡◌, List, map, ℕ, ◌-◌, ◌<◌, ◌≤◌, take, is_some};
+ghost use Rattle.std.specs.List.{list_all};
 ghost use Rattle.tophat.specs.Syntax.{max_leaves};
 ghost use Rattle.rows.specs.Kinds.{task_k, edit_k, update_k, xor_k};
 ghost use Rattle.rows.specs.Rows.{max_rows, OfKind, FromKind, UpToKind};
 ghost use Rattle.state.specs.Tags.{tag_word};
 ghost use Rattle.state.specs.Ensured.{Fine, HandleOk};
 ghost use Rattle.running.specs.Hands.{Unhanded};
-ghost use Rattle.handle.specs.Events.{ZeroBlanks, KnownEvent, event_path, event_action, Ends, passed};
-ghost use Rattle.handle.specs.Taking.{NoneBlank, FillOk, GoingOk, PickOk, answer_of, gate_verdict, PassOk};
+ghost use Rattle.handle.specs.Events.{bits_of, event_path, event_action, Ends, passed};
+ghost use Rattle.handle.specs.Taking.{FillOk, GoingOk, PickOk, answer_of, gate_verdict, PassOk};
 
 use decimal::path::{Front, front_mark};
 use normalising::{attempt, settle};
@@ -24,59 +25,55 @@ use running::{enclose, handed_on, value};
 use shape::leaves_of;
 use state::tag::Tag;
 use state::{ENV_WORDS, STATE_SIZE, put_tag, put_touches, put_value, read, read_touches};
-use tophat::{CONTINUE, GIVE, LEFT, MAX_LEAVES, RIGHT};
+use tophat::{Action, MAX_LEAVES};
 use typing::{Binders, row_type};
 use value::{Value, fits};
 
-// An event: a role (CR 6), a path as one number (crate decimal), an action's number, and leaves; a blank leaf's bits are 0.
+// An event: a role (CR 6), a path as one number (crate decimal), an action, and leaves: a number's bits, or blank (CR 2).
 #[derive(Clone, Copy)]
 pub struct Event {
     pub role: u32,
     pub path: u32,
-    pub action: u32,
-    pub leaves: [u32; MAX_LEAVES],
-    pub blank: [bool; MAX_LEAVES],
+    pub action: Action,
+    pub leaves: [Option<u32>; MAX_LEAVES],
 }
 
 // Whether the event is this action at the path's end.
-fn ends(e: Event, action: u32) -> bool
-    ensures { Ends e action result }
+fn ends(e: &Event, action: Action) -> bool
+    ensures { Ends e.now action result }
 {
-    if e.path != 0 {
-        return false;
-    }
-    e.action == action
+    e.path == 0 && e.action == action
 }
 
 // Whether none of the first n leaves is blank.
-fn none_blank(blank: [bool; MAX_LEAVES], n: usize) -> bool
+fn none_blank(leaves: &[Option<u32>; MAX_LEAVES], n: usize) -> bool
     requires { n ≤ max_leaves }
-    ensures { NoneBlank blank n result }
+    ensures { result ≡ list_all (λ l. is_some l) (take n leaves.now) }
 {
-    for k in 0..n {
-        if blank[k] {
-            return false;
-        }
-    }
-    true
+    leaves[..n].iter().all(|l| l.is_some())
+}
+
+// Their bits, a blank's 0.
+fn bits(leaves: [Option<u32>; MAX_LEAVES]) -> [u32; MAX_LEAVES]
+    ensures { result ≡ map bits_of leaves }
+{
+    leaves.map(|l| l.unwrap_or(0))
 }
 
 // The value that an event gives an editor of the shape, laid at the row. A blank where the type has a leaf gives none.
-fn fill(state: &mut [u32; STATE_SIZE], row: usize, tag: Tag, shape: u32, e: Event) -> bool
-    requires { (row < max_rows) × ZeroBlanks e.leaves e.blank }
-    ensures { FillOk state.old state.new row (tag_word tag) shape e result }
+fn fill(state: &mut [u32; STATE_SIZE], row: usize, tag: Tag, shape: u32, e: &Event) -> bool
+    requires { row < max_rows }
+    ensures { FillOk state.old state.new row (tag_word tag) shape e.now result }
 {
-    if !ends(e, GIVE) {
+    if !ends(e, Action::Value) {
         return false;
     }
-    let blank = e.blank;
-    if !none_blank(blank, leaves_of(shape)) {
+    if !none_blank(&e.leaves, leaves_of(shape)) {
         return false;
     }
-    let leaves = e.leaves;
     let v = Value {
         shape: shape,
-        leaves: leaves,
+        leaves: bits(e.leaves),
     };
     if fits(v, shape) {
         put_value(state, row, tag, v);
@@ -86,9 +83,9 @@ fn fill(state: &mut [u32; STATE_SIZE], row: usize, tag: Tag, shape: u32, e: Even
 }
 
 // An editor: its content's type is that of its row's value, of its type row, or of its cell.
-fn edit(rows: &[u32; ROWS_WORDS], state: &mut [u32; STATE_SIZE], row: usize, e: Event) -> bool
-    requires { Fine rows.now row 0 × FromKind rows.now row (task_k edit_k) × UpToKind rows.now row (task_k update_k) × ZeroBlanks e.leaves e.blank }
-    ensures { (env : List ℕ) (d : ℕ) → HandleOk rows.now state.old state.new row env d e.role (event_path e) (event_action e) (answer_of result) }
+fn edit(rows: &[u32; ROWS_WORDS], state: &mut [u32; STATE_SIZE], row: usize, e: &Event) -> bool
+    requires { Fine rows.now row 0 × FromKind rows.now row (task_k edit_k) × UpToKind rows.now row (task_k update_k) }
+    ensures { (env : List ℕ) (d : ℕ) → HandleOk rows.now state.old state.new row env d e.now.role (event_path e.now) (event_action e.now) (answer_of result) }
 {
     let kind = get(rows, row, 0);
     let a = operand(rows, row, 1);
@@ -113,12 +110,12 @@ fn going_on(
     rows: &[u32; ROWS_WORDS],
     state: &[u32; STATE_SIZE],
     row: usize,
-    e: Event,
+    e: &Event,
 ) -> Option<Value>
     requires { Fine rows.now row 0 }
-    ensures { GoingOk rows.now state.now row e result }
+    ensures { GoingOk rows.now state.now row e.now result }
 {
-    if !ends(e, CONTINUE) {
+    if !ends(e, Action::Continue) {
         return None;
     }
     value(rows, state, row)
@@ -153,12 +150,12 @@ fn pick(
     row: usize,
     env: &[u32; ENV_WORDS],
     depth: usize,
-    e: Event,
+    e: &Event,
 ) -> bool
-    requires { Fine rows.now row depth × OfKind rows.now row (task_k xor_k) × Unhanded rows.now state.old row × KnownEvent e }
-    ensures { HandleOk rows.now state.old state.new row env.now depth e.role (event_path e) (event_action e) (answer_of result) }
+    requires { Fine rows.now row depth × OfKind rows.now row (task_k xor_k) × Unhanded rows.now state.old row }
+    ensures { HandleOk rows.now state.old state.new row env.now depth e.now.role (event_path e.now) (event_action e.now) (answer_of result) }
 {
-    if ends(e, LEFT) {
+    if ends(e, Action::Left) {
         return side(
             rows,
             state,
@@ -169,7 +166,7 @@ fn pick(
             depth,
         );
     }
-    if ends(e, RIGHT) {
+    if ends(e, Action::Right) {
         return side(
             rows,
             state,
@@ -184,12 +181,10 @@ fn pick(
 }
 
 // The event past a mark.
-fn inside(e: Event, path: u32) -> Event
-    ensures { result ≡ passed e path }
+fn inside(e: &Event, path: u32) -> Event
+    ensures { result ≡ passed e.now path }
 {
-    let mut f = e;
-    f.path = path;
-    f
+    Event { path, ..*e }
 }
 
 // The number of an answer that passes no row of kind 50.
@@ -257,10 +252,10 @@ pub fn handle(
     row: usize,
     env: &[u32; ENV_WORDS],
     depth: usize,
-    e: Event,
+    e: &Event,
 ) -> u32
-    requires { Fine rows.now row depth × KnownEvent e }
-    ensures { HandleOk rows.now state.old state.new row env.now depth e.role (event_path e) (event_action e) result }
+    requires { Fine rows.now row depth }
+    ensures { HandleOk rows.now state.old state.new row env.now depth e.now.role (event_path e.now) (event_action e.now) result }
 {
     let part = handed_on(rows, state, row);
     if part != 0 {
@@ -285,8 +280,8 @@ pub fn handle(
             let front = front_mark(e.path);
             match front {
                 Front::Empty => NOT_HANDLED,
-                Front::First(rest) => handle(rows, state, a, env, depth, inside(e, rest)),
-                Front::Second(rest) => handle(rows, state, b, env, depth, inside(e, rest)),
+                Front::First(rest) => handle(rows, state, a, env, depth, &inside(e, rest)),
+                Front::Second(rest) => handle(rows, state, b, env, depth, &inside(e, rest)),
             }
         }
         48 => answer(pick(rows, state, row, env, depth, e)),

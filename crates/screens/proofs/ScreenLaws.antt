@@ -3,6 +3,8 @@
 use mathlib.Core.Path.{◌≡◌, refl, sym, ap, ap₂, subst, ◌∙◌}
 use mathlib.Core.Bool.{Bool, true, false}
 use mathlib.Core.Option.{Option, none, some}
+use Rattle.std.specs.Prelude.{Option as Maybe, unwrap_or}
+use Rattle.word.specs.Options.{in_code}
 use mathlib.Core.List.{List, [], ◌++◌, map, append-nil}
 use Prim.Native.Nat.{ℕ, zero, suc, ◌+◌, ◌*◌, ◌/◌, ◌-◌, ◌<◌, ◌≤◌}
 use native.Mathlib.Omega.{arith}
@@ -19,7 +21,6 @@ use Rattle.word.specs.Laid.{laid}
 use Rattle.word.specs.Word.{AllWords}
 use Rattle.word.proofs.Laid.{laid_front}
 use Rattle.word.proofs.Lists.{bits_replicate, bits_bits, words_whole}
-use Rattle.decimal.specs.Field.{reads_at}
 use Rattle.tophat.specs.Syntax.{max_leaves, Val}
 use Rattle.call_definitions.specs.States.{FlowState, value_in}
 use Rattle.tophat.proofs.ComputeNormalising.{failing}
@@ -27,13 +28,11 @@ use Rattle.tophat.proofs.ComputeEntries.{entries}
 use Rattle.rows.specs.Rows.{max_rows}
 use Rattle.rows.specs.GroundNumbers.{not_sized, event_not_read, list_too_short}
 use Rattle.formats.specs.Lines.{line_bytes}
-use Rattle.formats.specs.Records.{role_read}
-use Rattle.formats.specs.Touches.{role_columns, event_bytes, entry_bytes, event_role}
+use Rattle.formats.specs.Touches.{event_bytes, entry_bytes, event_role}
 use Rattle.tophat.specs.Roles.{is_role, is}
 use Rattle.formats.specs.Lists.{list_text}
 use Rattle.formats.specs.Heads.{head_bytes}
 use Rattle.formats.proofs.Records.{AllFit}
-use Rattle.formats.proofs.Roles.{no_role_read, a_role_read}
 use Rattle.sheet.specs.Sheet.{loaded}
 use Rattle.entries.proofs.Fronts.{tail_part, tail_put}
 use Rattle.flow.specs.declared.look.Looked.{Looked}
@@ -253,18 +252,13 @@ module _ (event : List ℕ) where
   unfolding role_of
   role_short h = let e = ne_eqb (length event) event_bytes h in rw e
 
-  module _ (l : length event ≡ event_bytes) (r : ℕ) (e : r ≡ role_read (event_role event)) where
-    said : or_start (event_role event) ≡ role_of event
-    unfolding role_of
-    said = let q = eq-eqb (length event) event_bytes l in rw q
-
-    pub role_none : r ≡ 0 → start_role ≡ role_of event
-    unfolding or_start
-    role_none z = sym (ap or_start (no_role_read (reads_at event 0 role_columns) r e z)) ∙ said
-
-    pub role_some : (r ≡ 0 → ⊥) → r ≡ role_of event
-    unfolding or_start
-    role_some n = sym (ap or_start (a_role_read (reads_at event 0 role_columns) r e n).0) ∙ said
+  pub role_looked : length event ≡ event_bytes → (r : Maybe ℕ) → r ≡ in_code (event_role event) → unwrap_or r start_role ≡ role_of event
+  unfolding role_of or_start
+  role_looked l r e = let q = eq-eqb (length event) event_bytes l in rw q (ap (λ r. unwrap_or r start_role) e ∙ by (event_role event))
+    where
+      by : (o : Option ℕ) → unwrap_or (in_code o) start_role ≡ or_start o
+      by none = refl
+      by (some role) = refl
 
 module _ (rows ws : List ℤ) (event out : List ℕ) (a : Answer) (ws₁ : List ℤ) (q : Answered (calls.handle_call rows ws event) a ws₁) where
   pub touch_state : ws₁ ≡ (touched rows ws event out).0

@@ -101,7 +101,7 @@ unfolding
     shape.front shape.as_type shape.pair_shape shape.first_shape shape.second_shape shape.leaves_in shape.shape_leaves shape.kinds_in shape.kinds_of
     layout.value_words layout.put_words layout.write_task layout.write_cells layout.encode layout.encode_failed lent.own_of lent.lent_of reading.read_value reading.read_touches reading.by_tag
     reading.read_task reading.read_store reading.same reading.decode values.leaf_bits values.as_value found.as_found fits.value_in fits.value_for
-    records.is_record records.fields_at records.number_said records.each records.text_of records.items_text records.put_items records.leaves_read lines.meant lines.meant_all lines.kind_word lines.after_row
+    records.is_record records.fields_at records.number_said records.each records.text_of records.items_text records.put_items lines.meant lines.meant_all lines.kind_word lines.after_row
     lines.line_says lines.lines_say touching.numbered touching.touch_in roles.is_role roles.of_role roles.touches_left roles.verdict roles.opens touching.role_said touching.leaf_said touching.is_nothing touching.all_nothing touching.allowed touching.event_says touching.action_of
     touching.event_of touching.unless_blank touching.entry_says lists.offer_act lists.offer_kinds lists.entry_text lists.list_text lists.under
     memories.state_of memories.failed_of memories.value_memory memories.has_one calls.start_with calls.start_call calls.at_rest calls.failed_as calls.decoded calls.read_with calls.opened

@@ -36,11 +36,7 @@ fn role_of(event: &[u8]) -> u32
     if event.len() != EVENT_BYTES {
         return START_ROLE;
     }
-    let role = read_role(event);
-    if role == 0 {
-        return START_ROLE;
-    }
-    role
+    read_role(event).unwrap_or(START_ROLE)
 }
 
 // The screen after an answer, in a role: its head line, and the entries after it.

@@ -1,20 +1,19 @@
 -- An event's leaves against a type: the leaves meet the type's kinds exactly where they are those of a value of it,
 -- that value is one, and `given` computes it. Rests on ComputeHandling.
 use mathlib.Core.Path.{◌≡◌, refl, sym, ap, ap₂, ◌∙◌, subst}
-use mathlib.Core.Bool.{Bool, true, false, ◌&&◌, ◌||◌, cond, false≢true}
+use mathlib.Core.Bool.{Bool, true, false, cond, false≢true}
 use mathlib.Core.Option.{none, some}
 use mathlib.Core.List.{List, [], ◌∷◌, ◌++◌, append_assoc, map, map-append}
 use Prim.Native.Nat.{ℕ, zero, suc, ◌+◌, ◌-◌}
 use native.Mathlib.Omega.{arith}
-use lib.Dec.{T, ltb, ltb→lt, lt→ltb}
+use lib.Dec.{ltb, lt→ltb}
 use lib.IntN.{ℤ, pos}
 use lib.Signed.{mag}
 use lib.ListN.{length, length-append, drop, replicate}
-use Rattle.word.proofs.Order.{eq_z_true}
-use Rattle.word.specs.Word.{half, eq_z}
+use Rattle.word.specs.Word.{half}
 use Rattle.tophat.specs.Syntax.{max_leaves, Ty, unit, truth, number, pair, leaves, Val, vunit, vtruth, vnumber, vpair}
 use Rattle.tophat.specs.Typing.{ValueType, v_unit, v_truth, v_number, v_pair, type_of}
-use Rattle.tophat.specs.Leaves.{leaves_of, padded, Given, Unused, u_end, u_zero, u_blank, Gives, Leaf, no_leaf, unit_leaf, truth_leaf, number_leaf, leaf_kinds}
+use Rattle.tophat.specs.Leaves.{leaves_of, padded, Given, Unused, u_end, u_zero, u_blank, Gives, Leaf, no_leaf, leaf_kinds}
 use Rattle.tophat.specs.Leaves.{Meets, m_end, m_none, m_blank, m_unit, m_false, m_true, m_number, value_of, meets_leaf, meets, number_given, given}
 use Rattle.tophat.proofs.Basics.{no_some}
 use Rattle.tophat.proofs.LeafMet.{test, both_passed, leaf_met}

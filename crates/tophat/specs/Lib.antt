@@ -6,6 +6,7 @@ pub mod Normalising
 pub mod Quiet
 pub mod Roles
 pub mod Handling
+pub mod Actions
 pub mod TouchesLeft
 pub mod Showing
 pub mod Residual

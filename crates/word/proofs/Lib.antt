@@ -6,3 +6,4 @@ pub mod Laid
 pub mod Lists
 pub mod Tabulate
 pub mod Examples
+pub mod Options

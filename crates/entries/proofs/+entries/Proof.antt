@@ -170,7 +170,7 @@ entries_next_after t c =
 
 entries_button_requires : (t : ℕ) → entries-lts.Need-button-m-requires (entries_calls t) (entries_at t) entries.Post
 entries_button_requires t c κs =
-    (c.requires.1.1.few, omega arith)
+    c.requires.1.1.few
 
 entries_add_least : (t : ℕ) → entries-lts.Need-overflow_add-n (entries_calls t) (entries_at t) entries.Post
 entries_add_least t c =

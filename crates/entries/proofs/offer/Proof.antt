@@ -16,7 +16,7 @@ offer_spec = tie.close (tie.spec
     (λ c κs. search rules)
     (λ c κs. search rules)
     (λ c κs.
-    (c.requires.3, omega arith, kinds_digit c.leaf_kinds.result c.content-shape.result c.leaf_kinds.ensures))
+    (c.requires.3, kinds_digit c.leaf_kinds.result c.content-shape.result c.leaf_kinds.ensures))
     (λ c. search rules)
     (λ c.
     (omega (arith, c.write_entry.ensures.most), λ env d v. entries_offer v c.args.rows.now c.args.state.now c.args.row env d (path_of c.args.marks) c.args.list.now c.write_entry.new.list c.write_entry.result c.content-shape.result c.content-shape.ensures (subst (λ ks. Wrote c.args.list.now c.write_entry.new.list c.write_entry.result (numbers_entry (path_of c.args.marks) (act_number giving) ks)) c.leaf_kinds.ensures c.write_entry.ensures))))
