@@ -1,7 +1,8 @@
 -- What handed_on and enclose answer, way by way. Rests on specs/Hands.
 use mathlib.Core.Path.{◌≡◌, refl, sym, subst}
 use mathlib.Core.Logic.{inl, inr}
-use mathlib.Core.List.{List}
+use mathlib.Core.List.{List, [], ◌∷◌}
+use Rattle.std.specs.Prelude.{Option, Some, None}
 use Prim.Native.Nat.{ℕ, suc, ◌+◌, ◌<◌, ◌≤◌}
 use native.Mathlib.Omega.{arith}
 use Rattle.rows.specs.Kinds.{either_k, if_k, let_k, task_k, then_k, fail_k, or_k, xor_k, gate_k, number_of}
@@ -9,8 +10,14 @@ use Rattle.rows.specs.Enclosing.{max_binders}
 use Rattle.state.specs.Words.{value_at, Pushed}
 use Rattle.match_laws.proofs.Ranges.{in_range}
 use Rattle.value.specs.declared.Value.{Value}
+use Rattle.rows.specs.declared.kinds.Kind.{Kind}
+use Rattle.rows.specs.declared.kinds.Kind.TheVariants.{If, Let, Then, Next, Or, Xor, Gate}
+use Rattle.rows.proofs.KindsRead.{IsOther}
+use Rattle.state.specs.declared.tag.Tag.{Tag}
+use Rattle.state.specs.declared.tag.Tag.TheVariants.{Own, One, Other, Whole}
+use Rattle.state.specs.Tags.{tag_word, IsTag}
 use Rattle.state.specs.Layout.{one, other}
-use Rattle.running.specs.Hands.{HandsOn, hands_if_true, hands_if_false, let_bound, then_after, next_after, hands_or_left, hands_or_right, xor_left, xor_right, gate_on, Handed, Binds, Bound, Under}
+use Rattle.running.specs.Hands.{taken, HandsOn, hands_if_true, hands_if_false, let_bound, then_after, next_after, hands_or_left, hands_or_right, xor_left, xor_right, gate_on, Handed, Binds, Bound, Under}
 
 -- ---- handed_on
 
@@ -70,6 +77,39 @@ handed_none p q r s t u v = record { low = omega arith; on = λ z. absurd (z ref
     no xor_left p q r s t u v = s refl (omega arith) (omega arith)
     no xor_right p q r s t u v = u refl (omega arith) (omega arith)
     no gate_on p q r s t u v = v refl
+
+-- a tag of neither
+handed_no : {n x : ℕ} → (x ≡ one → ⊥) → (x ≡ other → ⊥) → (n ≡ number_of (task_k gate_k) → ⊥) → Handed n x 0
+handed_no a b g = handed_none (λ z _. a z) (λ z _. a z) (λ z _ _. a z) (λ z _ _. a z) (λ z _. b z) (λ z _ _. b z) g
+
+-- by the tag, in a row of another kind than 50
+pub handed_taken : (o : Option Tag) {n x a b : ℕ} → IsTag o x → (x ≡ one → Handed n x a) → (x ≡ other → Handed n x b) → (n ≡ number_of (task_k gate_k) → ⊥) → Handed n x (taken o a b)
+handed_taken None t f g h = handed_no (t One) (t Other) h
+handed_taken (Some Own) t f g h = handed_no (λ z. omega arith) (λ z. omega arith) h
+handed_taken (Some One) t f g h = f t
+handed_taken (Some Other) t f g h = g t
+handed_taken (Some Whole) t f g h = handed_no (λ z. omega arith) (λ z. omega arith) h
+
+-- 31, 43 and 44 have no second thing
+pub handed_once : {n x : ℕ} → (n ≡ number_of (either_k if_k) → ⊥) → n < number_of (task_k or_k) → x ≡ other → Handed n x 0
+handed_once p l e = handed_none (λ z _. omega arith) (λ z _. omega arith) (λ z _ _. omega arith) (λ z _ _. omega arith) (λ z. p) (λ z h _. omega arith) (λ z. omega arith)
+
+-- the kinds of rows that hand on
+abbrev pub handing : List Kind
+handing = If ∷ Let ∷ Then ∷ Next ∷ Or ∷ Xor ∷ Gate ∷ []
+
+pub handed_other : {n x : ℕ} → IsOther handing n → Handed n x 0
+handed_other {n} o =
+    let step : number_of (task_k then_k) ≤ n → n < number_of (task_k fail_k) → ⊥ = λ h g. in_range (λ n. IsOther handing n → ⊥) (number_of (task_k then_k)) 2 ((λ o. o Then refl refl), ((λ o. o Next refl refl), tt)) h g o in
+    let choice : number_of (task_k or_k) ≤ n → n < suc (number_of (task_k xor_k)) → ⊥ = λ h g. in_range (λ n. IsOther handing n → ⊥) (number_of (task_k or_k)) 2 ((λ o. o Or refl refl), ((λ o. o Xor refl refl), tt)) h g o in
+    handed_none (λ _. o If refl) (λ _. o Let refl) (λ _. step) (λ _. choice) (λ _. o If refl) (λ _. choice) (o Gate refl)
+
+-- a tag that is not the first's
+pub not_first : (t : Tag) {x : ℕ} → x ≡ tag_word t → (t ≡ One → ⊥) → x ≡ one → ⊥
+not_first Own e n z = omega arith
+not_first One e n z = n refl
+not_first Other e n z = omega arith
+not_first Whole e n z = omega arith
 
 -- ---- enclose
 

@@ -1,10 +1,12 @@
 -- Rows that hand on: what has been taken, named or picked, and 25 and 31, are what the task below one operand is, and so is 50 but for
 -- touches and what it shows. Rests on the layout's tags.
 -- For contracts only: tied to the tasks that rows hold by the record `Hands` (proofs/Hands).
-use Rattle.std.specs.Prelude.{◌≡◌, ◌⊎◌, List, ℕ, ◌+◌, ◌<◌, ◌≤◌}
+use Rattle.std.specs.Prelude.{◌≡◌, ◌⊎◌, List, ℕ, ◌+◌, ◌<◌, ◌≤◌, Option, Some, None}
 use Rattle.rows.specs.Kinds.{either_k, if_k, let_k, task_k, then_k, next_k, or_k, xor_k, gate_k, number_of}
 use Rattle.rows.specs.Rows.{row_words, word}
 use Rattle.rows.specs.Enclosing.{max_binders}
+use Rattle.state.specs.declared.tag.Tag.{Tag}
+use Rattle.state.specs.declared.tag.Tag.TheVariants.{Own, One, Other, Whole}
 use Rattle.state.specs.Layout.{at, one, other}
 use Rattle.state.specs.Words.{value_at, Pushed}
 
@@ -24,6 +26,14 @@ pub data HandsOn : ℕ → ℕ → ℕ → Type 0 where
 -- row i hands on to no operand
 abbrev pub Unhanded : List ℕ → List ℕ → ℕ → Type 0
 Unhanded rs ws i = (m : ℕ) → HandsOn (word rs i 0) (at ws i 0) m → ⊥
+
+-- one of two operands, by the tag, or 0
+abbrev pub taken : Option Tag → ℕ → ℕ → ℕ
+taken (Some One) a b = a
+taken (Some Other) a b = b
+taken (Some Own) a b = 0
+taken (Some Whole) a b = 0
+taken None a b = 0
 
 -- the operand of a kind's number n and tag x, or 0 where there is none
 pub record Handed (n x k : ℕ) : Type 0 where

@@ -7,39 +7,44 @@ ghost use Rattle.rows.specs.Rows.{max_rows, word};
 ghost use Rattle.rows.specs.Enclosing.{max_binders};
 ghost use Rattle.state.specs.Layout.{at};
 ghost use Rattle.state.specs.Ensured.{Fine, ValueOk, EvaluateOk};
-ghost use Rattle.running.specs.Hands.{Handed, Bound, Under};
+ghost use Rattle.running.specs.Hands.{taken, Handed, Bound, Under};
 ghost use Rattle.value.specs.Found.{both_found};
 
 use eval::eval;
-use rows::kinds::GATE;
+use rows::kinds::{Kind, kind_at};
 use rows::{MAX_BINDERS, ROWS_WORDS, get, operand};
-use state::tag::Tag;
-use state::{
-    ENV_WORDS, ONE, OTHER, STATE_SIZE, push, put_tag, put_touches, put_value, read, read_value,
-};
+use state::tag::{Tag, tag_at};
+use state::{ENV_WORDS, STATE_SIZE, push, put_tag, put_touches, put_value, read_value};
 use value::{Value, is_true, pair};
+
+// One of two operands, by the tag, or 0.
+fn taken(tag: Option<Tag>, one: usize, other: usize) -> usize
+    ensures { result ≡ taken tag one other }
+{
+    let Some(tag) = tag else {
+        return 0;
+    };
+    match tag {
+        Tag::One => one,
+        Tag::Other => other,
+        _ => 0,
+    }
+}
 
 // The operand that names the row which the row hands on to, or 0.
 pub fn handed_on(rows: &[u32; ROWS_WORDS], state: &[u32; STATE_SIZE], row: usize) -> usize
     requires { row < max_rows }
     ensures { Handed (word rows.now row 0) (at state.now row 0) result }
 {
-    let kind = get(rows, row, 0);
-    let tag = read(state, row, 0);
-    if kind == GATE {
-        return 2;
-    }
-    match tag {
-        ONE => match kind {
-            25 | 31 | 43..=44 => 2,
-            47..=48 => 1,
-            _ => 0,
-        },
-        OTHER => match kind {
-            25 => 3,
-            47..=48 => 2,
-            _ => 0,
-        },
+    let Some(kind) = kind_at(rows, row) else {
+        return 0;
+    };
+    let tag = tag_at(state, row);
+    match kind {
+        Kind::If => taken(tag, 2, 3),
+        Kind::Let | Kind::Then | Kind::Next => taken(tag, 2, 0),
+        Kind::Or | Kind::Xor => taken(tag, 1, 2),
+        Kind::Gate => 2,
         _ => 0,
     }
 }
@@ -94,12 +99,10 @@ pub fn value(rows: &[u32; ROWS_WORDS], state: &[u32; STATE_SIZE], row: usize) ->
     let kind = get(rows, row, 0);
     match kind {
         40 | 49 => Some(read_value(state, row)),
-        41 => {
-            if read(state, row, 0) == ONE {
-                return Some(read_value(state, row));
-            }
-            None
-        }
+        41 => match tag_at(state, row)? {
+            Tag::One => Some(read_value(state, row)),
+            _ => None,
+        },
         42 => {
             let cell = operand(rows, row, 1);
             Some(read_value(state, cell))

@@ -37,11 +37,6 @@ pub const VALUE_WORDS: usize = 1 + MAX_LEAVES;
 
 pub const ENV_WORDS: usize = MAX_BINDERS * VALUE_WORDS;
 
-// Tags as words.
-pub const ONE: u32 = 2;
-
-pub const OTHER: u32 = 3;
-
 // Word m of a state row.
 pub fn read(state: &[u32; STATE_SIZE], row: usize, m: usize) -> u32
     requires { (row < max_rows) × (m < state_words) }

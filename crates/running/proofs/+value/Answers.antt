@@ -1,6 +1,9 @@
 -- `running::value` meets its contract: at a row that hands on by the law of all such rows, else an arm by the law of its form. Assumes
 -- nothing.
-use mathlib.Core.Path.{sym, ◌∙◌, subst}
+use mathlib.Core.Path.{sym, ◌∙◌, subst, ap}
+use Rattle.state.specs.declared.tag.Tag.TheVariants.{One}
+use Rattle.state.specs.Tags.{tag_word}
+use Rattle.running.proofs.Handed.{not_first}
 use native.Mathlib.Omega.{arith}
 use types.Run.{OneOf}
 use Rattle.eval.proofs.Arms.{call_a, call_b}
@@ -20,11 +23,6 @@ pub returns-then-k-ne0 : goal.returns-then-k-ne0
 returns-then-k-ne0 t c =
     value_hands c.args.rows.now c.args.state.now c.args.row (c.handed_on-k.ensures.on c.if-k-ne0.true)
     c.operand.ensures c.value.result c.value.ensures
-
-pub returns-then-read-eq-ONE : goal.returns-then-read-eq-ONE
-returns-then-read-eq-ONE t c =
-    value_entered c.args.rows.now c.args.state.now c.args.row c.read_value-then-read-eq-ONE.result
-    (sym c.get-kind.ensures ∙ c.in-41.is) (sym c.read.ensures ∙ c.if-read-eq-ONE.true) c.read_value-then-read-eq-ONE.ensures
 
 pub read_value-requires-in-42 : goal.read_value-requires-in-42
 read_value-requires-in-42 t c =
@@ -59,11 +57,6 @@ returns-in-40 t c =
     value_content c.args.rows.now c.args.state.now c.args.row c.read_value.result
     (subst (OneOf content_kinds) c.get-kind.ensures c.in-40.is) c.read_value.ensures
 
-pub returns-else-read-eq-ONE : goal.returns-else-read-eq-ONE
-returns-else-read-eq-ONE t c =
-    value_blank c.args.rows.now c.args.state.now c.args.row (sym c.get-kind.ensures ∙ c.in-41.is)
-    (λ e. c.if-read-eq-ONE.false (c.read.ensures ∙ e))
-
 pub returns-in-42 : goal.returns-in-42
 returns-in-42 t c =
     value_shared c.args.rows.now c.args.state.now c.args.row c.operand-cell.result c.read_value-in-42.result
@@ -91,3 +84,16 @@ returns-in_default t c =
     (λ e. c.in_default.in_default-own.rest.0.0.1 (c.get-kind.ensures ∙ e))
     (λ e. c.in_default.in_default-own.rest.0.1 (c.get-kind.ensures ∙ e))
     (λ e. c.in_default.in_default-own.rest.1 (c.get-kind.ensures ∙ e))
+
+pub returns-in_err-tag_at-in-41 : goal.returns-in_err-tag_at-in-41
+returns-in_err-tag_at-in-41 t c =
+    rw c.from_residual.ensures (value_blank c.args.rows.now c.args.state.now c.args.row (sym c.get-kind.ensures ∙ c.in-41.is) (c.in_err-tag_at-in-41.ensures One))
+
+pub returns-in-One : goal.returns-in-One
+returns-in-One t c =
+    let n = c.in_ok-tag_at-in-41.ensures in
+    value_entered c.args.rows.now c.args.state.now c.args.row c.read_value-in-One.result (sym c.get-kind.ensures ∙ c.in-41.is) (n ∙ ap tag_word c.in-One.is) c.read_value-in-One.ensures
+
+pub returns-in_default-2 : goal.returns-in_default-2
+returns-in_default-2 t c =
+    value_blank c.args.rows.now c.args.state.now c.args.row (sym c.get-kind.ensures ∙ c.in-41.is) (not_first c.in_ok-tag_at-in-41.field-0 c.in_ok-tag_at-in-41.ensures c.in_default-2.not-One)
