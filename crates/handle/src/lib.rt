@@ -9,6 +9,7 @@ ghost use Rattle.std.specs.Prelude.{◌≡◌, List, map, ℕ, ◌-◌, ◌<◌,
 ghost use Rattle.std.specs.List.{list_all};
 ghost use Rattle.tophat.specs.Syntax.{max_leaves};
 ghost use Rattle.rows.specs.Kinds.{task_k, edit_k, update_k, xor_k};
+ghost use Rattle.rows.specs.GroundNumbers.{answer_number};
 ghost use Rattle.rows.specs.Rows.{max_rows, OfKind, FromKind, UpToKind};
 ghost use Rattle.state.specs.Tags.{tag_word};
 ghost use Rattle.state.specs.Ensured.{Fine, HandleOk};
@@ -18,7 +19,7 @@ ghost use Rattle.handle.specs.Taking.{FillOk, GoingOk, PickOk, answer_of, gate_v
 
 use decimal::path::{Front, front_mark};
 use normalising::{attempt, settle};
-use rows::ground_numbers::{NO_TOUCH, NOT_HANDLED, OTHER_ROLE};
+use rows::ground::Ground;
 use rows::kinds::GATE;
 use rows::{ROWS_WORDS, get, operand};
 use running::{enclose, handed_on, value};
@@ -187,40 +188,35 @@ fn inside(e: &Event, path: u32) -> Event
     Event { path, ..*e }
 }
 
-// The number of an answer that passes no row of kind 50.
-fn answer(taken: bool) -> u32
-    ensures { result ≡ answer_of taken }
+// An answer that passes no row of kind 50.
+fn answer(taken: bool) -> Result<(), Ground>
+    ensures { answer_number result ≡ answer_of taken }
 {
     if taken {
-        return 0;
+        return Ok(());
     }
-    NOT_HANDLED
+    Err(Ground::NotHandled)
 }
 
 // What a row of kind 50, of a role and with so many touches left, makes of its part's verdict. CR 6: 30 before 31.
-fn gate_verdict(role: u32, own: u32, touches: u32, verdict: u32) -> u32
-    ensures { result ≡ gate_verdict role own touches verdict }
+fn gate_verdict(
+    role: u32,
+    own: u32,
+    touches: u32,
+    verdict: Result<(), Ground>,
+) -> Result<(), Ground>
+    ensures { answer_number result ≡ gate_verdict role own touches (answer_number verdict) }
 {
     if role != own {
-        return OTHER_ROLE;
+        return Err(Ground::OtherRole);
     }
-    if verdict == OTHER_ROLE {
+    if verdict == Err(Ground::OtherRole) {
         return verdict;
     }
     if touches == 0 {
-        return NO_TOUCH;
+        return Err(Ground::NoTouch);
     }
     verdict
-}
-
-// One touch less, where there is one.
-fn less_one(touches: u32) -> u32
-    ensures { result ≡ touches - 1 }
-{
-    if touches == 0 {
-        return touches;
-    }
-    touches - 1
 }
 
 // What a row that hands on makes of its part's answer: where the part took the event, a row of kind 50 says its own verdict and uses a touch.
@@ -229,19 +225,19 @@ fn pass(
     state: &mut [u32; STATE_SIZE],
     row: usize,
     role: u32,
-    answer: u32,
-) -> u32
+    answer: Result<(), Ground>,
+) -> Result<(), Ground>
     requires { row < max_rows }
-    ensures { PassOk rows.now state.old state.new row role answer result }
+    ensures { PassOk rows.now state.old state.new row role (answer_number answer) (answer_number result) }
 {
     if get(rows, row, 0) != GATE {
         return answer;
     }
-    if answer == NOT_HANDLED {
+    if answer == Err(Ground::NotHandled) {
         return answer;
     }
     let touches = read_touches(state, row);
-    put_touches(state, row, less_one(touches));
+    put_touches(state, row, touches.saturating_sub(1));
     gate_verdict(role, get(rows, row, 1), touches, answer)
 }
 
@@ -253,9 +249,9 @@ pub fn handle(
     env: &[u32; ENV_WORDS],
     depth: usize,
     e: &Event,
-) -> u32
+) -> Result<(), Ground>
     requires { Fine rows.now row depth }
-    ensures { HandleOk rows.now state.old state.new row env.now depth e.now.role (event_path e.now) (event_action e.now) result }
+    ensures { HandleOk rows.now state.old state.new row env.now depth e.now.role (event_path e.now) (event_action e.now) (answer_number result) }
 {
     let part = handed_on(rows, state, row);
     if part != 0 {
@@ -279,12 +275,12 @@ pub fn handle(
             let b = operand(rows, row, 2);
             let front = front_mark(e.path);
             match front {
-                Front::Empty => NOT_HANDLED,
+                Front::Empty => Err(Ground::NotHandled),
                 Front::First(rest) => handle(rows, state, a, env, depth, &inside(e, rest)),
                 Front::Second(rest) => handle(rows, state, b, env, depth, &inside(e, rest)),
             }
         }
         48 => answer(pick(rows, state, row, env, depth, e)),
-        _ => NOT_HANDLED,
+        _ => Err(Ground::NotHandled),
     }
 }

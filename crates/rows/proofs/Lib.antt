@@ -30,6 +30,7 @@ pub mod TreeSum
 pub mod Totals
 pub mod Moves
 -- the ground of rows, and accepted rows
+pub mod GroundsTold
 pub mod GroundZero
 pub mod Accepted
 pub mod Cases

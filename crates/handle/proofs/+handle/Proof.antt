@@ -61,7 +61,7 @@ pub +handle_spec : {M : Type 1} → statement M
     c.requires.1.low)
     (λ c.
     handle_part c.args.rows.now c.args.state.now c.handle-told.new.state c.pass.new.state c.args.row c.args.env.now
-    c.args.depth c.args.e.now.role (event_path c.args.e.now) (event_action c.args.e.now) c.handle-told.result c.pass.result c.pass.ensures
+    c.args.depth c.args.e.now.role (event_path c.args.e.now) (event_action c.args.e.now) (answer_number c.handle-told.result) (answer_number c.pass.result) c.pass.ensures
     (c.handed_on-part.ensures.on c.if-part-ne0.true) c.operand.ensures c.enclose-under.new.env c.enclose-under.result
     c.enclose-under.ensures c.handle-told.ensures)
     (λ c κs. (c.requires.1.low, omega arith))
@@ -79,7 +79,7 @@ pub +handle_spec : {M : Type 1} → statement M
     (λ c κs. search rules)
     (λ c.
     handle_continue c.args.rows.now c.args.state.now c.attempt.new.state c.args.row c.args.env.now
-    c.args.depth c.answer.result c.args.e.now c.operand-a.result c.going_on.result
+    c.args.depth (answer_number c.answer.result) c.args.e.now c.operand-a.result c.going_on.result
     (c.handed_on-part.ensures.none c.if-part-ne0.false) (sym c.get-kind.ensures ∙ c.in-44.is) c.operand-a.ensures
     c.going_on.ensures c.attempt.result c.answer.ensures c.in-Some.is c.attempt.ensures)
     (λ c. search rules)
@@ -109,12 +109,12 @@ pub +handle_spec : {M : Type 1} → statement M
     (q.0, q.1))
     (λ c.
     handle_then c.args.rows.now c.args.state.now c.handle.new.state c.args.row c.args.env.now
-    c.args.depth c.handle.result c.args.e.now.role c.operand-a.result (event_path c.args.e.now) (event_action c.args.e.now)
+    c.args.depth (answer_number c.handle.result) c.args.e.now.role c.operand-a.result (event_path c.args.e.now) (event_action c.args.e.now)
     (c.handed_on-part.ensures.none c.if-part-ne0.false) (sym c.get-kind.ensures ∙ c.in-43.is) c.operand-a.ensures
     c.handle.ensures)
     (λ c.
     handle_next c.args.rows.now c.args.state.now c.handle-in-44.new.state c.args.row c.args.env.now
-    c.args.depth c.handle-in-44.result c.args.e.now c.operand-a.result c.going_on.result
+    c.args.depth (answer_number c.handle-in-44.result) c.args.e.now c.operand-a.result c.going_on.result
     (c.handed_on-part.ensures.none c.if-part-ne0.false) (sym c.get-kind.ensures ∙ c.in-44.is) c.operand-a.ensures
     c.going_on.ensures c.in_default-going_on.is c.handle-in-44.ensures)
     (λ c.
@@ -130,20 +130,20 @@ pub +handle_spec : {M : Type 1} → statement M
     (front_empty (event_path c.args.e.now) (sym c.in-Empty.is ∙ c.front_mark-front.ensures)))
     (λ c.
     handle_first c.args.rows.now c.args.state.now c.handle-in-First.new.state c.args.row c.args.env.now
-    c.args.depth c.handle-in-First.result c.args.e.now.role (event_path c.args.e.now) (event_action c.args.e.now)
+    c.args.depth (answer_number c.handle-in-First.result) c.args.e.now.role (event_path c.args.e.now) (event_action c.args.e.now)
     (c.handed_on-part.ensures.none c.if-part-ne0.false) (omega (arith, c.get-kind.ensures, c.in-46-to-47.if-kind-lt46-own.false))
     (omega (arith, c.get-kind.ensures, c.in-46-to-47.if-kind-lt48-own.true)) c.operand-a.result (path_of c.in-First.rest)
     c.operand-a.ensures
     (front_one (event_path c.args.e.now) c.in-First.rest (sym c.in-First.is ∙ c.front_mark-front.ensures))
-    (subst (λ f. HandleOk c.args.rows.now c.args.state.now c.handle-in-First.new.state c.operand-a.result c.args.env.now c.args.depth f.role (event_path f) (event_action f) c.handle-in-First.result) c.inside.ensures c.handle-in-First.ensures))
+    (subst (λ f. HandleOk c.args.rows.now c.args.state.now c.handle-in-First.new.state c.operand-a.result c.args.env.now c.args.depth f.role (event_path f) (event_action f) (answer_number c.handle-in-First.result)) c.inside.ensures c.handle-in-First.ensures))
     (λ c.
     handle_second c.args.rows.now c.args.state.now c.handle-in-Second.new.state c.args.row c.args.env.now
-    c.args.depth c.handle-in-Second.result c.args.e.now.role (event_path c.args.e.now) (event_action c.args.e.now)
+    c.args.depth (answer_number c.handle-in-Second.result) c.args.e.now.role (event_path c.args.e.now) (event_action c.args.e.now)
     (c.handed_on-part.ensures.none c.if-part-ne0.false) (omega (arith, c.get-kind.ensures, c.in-46-to-47.if-kind-lt46-own.false))
     (omega (arith, c.get-kind.ensures, c.in-46-to-47.if-kind-lt48-own.true)) c.operand-b.result (path_of c.in-Second.rest)
     c.operand-b.ensures
     (front_two (event_path c.args.e.now) c.in-Second.rest (sym c.in-Second.is ∙ c.front_mark-front.ensures))
-    (subst (λ f. HandleOk c.args.rows.now c.args.state.now c.handle-in-Second.new.state c.operand-b.result c.args.env.now c.args.depth f.role (event_path f) (event_action f) c.handle-in-Second.result) c.inside-in-Second.ensures c.handle-in-Second.ensures))
+    (subst (λ f. HandleOk c.args.rows.now c.args.state.now c.handle-in-Second.new.state c.operand-b.result c.args.env.now c.args.depth f.role (event_path f) (event_action f) (answer_number c.handle-in-Second.result)) c.inside-in-Second.ensures c.handle-in-Second.ensures))
     (λ c.
     handle_none c.args.rows.now c.args.state.now c.args.row c.args.env.now c.args.depth c.args.e.now.role
     (event_path c.args.e.now) (event_action c.args.e.now) (c.handed_on-part.ensures.none c.if-part-ne0.false)
