@@ -24,12 +24,17 @@ use Rattle.tophat.proofs.ComputeNormalising.{failing}
 use Rattle.tophat.proofs.ComputeEntries.{entries}
 use Rattle.tophat.proofs.EntriesQuiet.{failing_empty}
 use Rattle.tophat.proofs.Preservation.{OptionType, o_some, value_type}
-use Rattle.rows.specs.GroundNumbers.{event_not_read, list_too_short}
+use Rattle.std.specs.Prelude.{Result, Ok, Err}
+use Rattle.std.specs.Result.{ResultUnwrapsOrElse}
+use Rattle.std.specs.Int.{from_bool}
+use Rattle.rows.specs.declared.ground.Ground.{Ground}
+use Rattle.rows.specs.declared.ground.Ground.TheVariants.{EventNotRead, ListTooShort}
+use Rattle.rows.specs.GroundNumbers.{number_of_ground, answer_number}
 use Rattle.value.specs.Values.{as_value, no_value}
 use Rattle.std.specs.Option.{is_some, unwrap_or}
 use Rattle.value.specs.Found.{Found, as_found}
 use Rattle.value.proofs.Meaning.{leaves_back}
-use Rattle.state.specs.Ensured.{Fine, ValueOk}
+use Rattle.state.specs.Ensured.{ValueOk}
 use Rattle.tophat.specs.Roles.{is_role, is}
 use Rattle.formats.specs.Touches.{entry_bytes}
 use Rattle.formats.specs.Lists.{list_text}
@@ -37,14 +42,15 @@ use Rattle.formats.proofs.EntriesFit.{entries_bytes, bytes_most}
 use Rattle.entries.specs.Listing.{who_of, Counted, EntriesOk}
 use Rattle.entries.proofs.Bounds.{entries_counted}
 use Rattle.flow.specs.declared.look.Looked.{Looked}
-use Rattle.flow.specs.declared.open.Opening.{Opening}
+use Rattle.flow.specs.declared.open.Rest.{Rest}
+use Rattle.flow.specs.declared.open.Rest.TheVariants.{Task, Failed}
 use Rattle.call_definitions.specs.Memory.{LookAnswer, look_refusal, flag, value_memory, has_one}
 use Rattle.call_definitions.specs.States.{FlowState}
 use Rattle.call_definitions.specs.Calls.{Opened, refused_by, rest_of, opened, look_rest, look_in, look_call}
-use Rattle.flow.specs.Opens.{Ready, OpensTo, to_task, to_failed, Opens, OpenOk}
-use Rattle.flow.specs.Looks.{Filled, FailsOk, RoomOk, ShowOk, ShowFailedOk, LookOk}
+use Rattle.flow.specs.Opens.{Ready, OpensTo, Opens, OpenOk}
+use Rattle.flow.specs.Looks.{shown, Filled, FailsOk, RoomOk, ShowOk, ShowFailedOk, LookOk}
 use Rattle.flow.proofs.SiteLaws.{sits, around, small, marks, tasks_rows, few_tasks, ready_writing}
-use Rattle.flow.proofs.OpenLaws.{opened_fine, opened_fits}
+use Rattle.flow.proofs.OpenLaws.{opened_ready, opened_failed, opened_fits}
 
 -- ---- the value
 
@@ -72,11 +78,7 @@ unfolding is_role who_of
 who_role zero h = apart h refl
 who_role (suc n) h = refl
 
--- a refusal
-abbrev shut : ℕ → Looked
-shut g = record { number = g; valued = 0; fails = 0; bytes = 0 }
-
-refused_filled : (g : ℕ) (vs : List ℤ) (list : List ℕ) → Filled (look_refusal g vs list) (shut g) vs list
+refused_filled : (g : Ground) (vs : List ℤ) (list : List ℕ) → Filled (look_refusal (number_of_ground g) vs list) (Err g) vs list
 refused_filled g vs list = record { number = refl; has_value = refl; fails = refl; bytes = refl; value = refl; list = refl }
 
 module _ (role : ℕ) (own words : List ℕ) (n : ℕ) where
@@ -122,16 +124,16 @@ module _ (role : ℕ) (own words : List ℕ) (n : ℕ) where
 
   module _ (vs : List ℤ) (list : List ℕ) (has : Bool) (room : RoomOk own words n role (length list) has) where
     -- ground 24
-    pub show_24 : has ≡ false → ShowOk own words n role vs list (shut list_too_short) vs list
+    pub show_24 : has ≡ false → ShowOk own words n role vs list (Err ListTooShort) vs list
     unfolding look_rest
-    show_24 z rows ws c t s x e i = let b = sym (room rows ws c t s x i) ∙ z in rw b (refused_filled list_too_short vs list)
+    show_24 z rows ws c t s x e i = let b = sym (room rows ws c t s x i) ∙ z in rw b (refused_filled ListTooShort vs list)
 
     module _ (z : has ≡ true) {env list₁ : List ℕ} {bytes : ℕ} (f : EntriesOk (who_of role) own words (n - 1) env 0 (path_of 0) list list₁ bytes) (found : Found) (v : ValueOk own words (n - 1) found)
         (long : length (unwrap_or found no_value).leaves ≡ max_leaves) where
-      pub show_0 : {vs₁ : List ℤ} {valued failed : ℕ} {b : Bool} → FailsOk own words (n - 1) bytes b → failed ≡ flag b → valued ≡ flag (is_some found) → vs₁ ≡ laid (to_z w32) (unwrap_or found no_value).leaves vs
-          → ShowOk own words n role vs list (record { number = 0; valued = valued; fails = failed; bytes = bytes }) vs₁ list₁
+      pub show_0 : {vs₁ : List ℤ} {valued b : Bool} → FailsOk own words (n - 1) bytes b → valued ≡ is_some found → vs₁ ≡ laid (to_z w32) (unwrap_or found no_value).leaves vs
+          → ShowOk own words n role vs list (Ok (record { valued = valued; fails = b; bytes = bytes })) vs₁ list₁
       unfolding look_rest
-      show_0 {b = b} fb p q u rows ws c t s x e i =
+      show_0 {b = b} fb q u rows ws c t s x e i =
           let w = ready_writing x in
           let d : found ≡ as_found (value c t s) = v 0 c (sits x.site) x.cells [] x.type s t x.writes.typed x.writes.stored (small x.site) small_nil w.holds w.stores in
           let y = listed f x i in
@@ -140,15 +142,15 @@ module _ (role : ℕ) (own words : List ℕ) (n : ℕ) where
           let g = leb-true (length (entries (is role) c [] s t) * entry_bytes) (length list) o in
           rw o (record {
             number = refl;
-            has_value = q ∙ ap (λ r. flag (is_some r)) d ∙ value_flag (value c t s);
-            fails = p ∙ ap flag (fails_is f x i b fb);
+            has_value = ap flag q ∙ ap (λ r. flag (is_some r)) d ∙ value_flag (value c t s);
+            fails = ap flag (fails_is f x i b fb);
             bytes = y.count;
             value = u ∙ laid_all (unwrap_or found no_value).leaves vs (long ∙ sym e) ∙ ap (λ r. map (to_z w32) (unwrap_or r no_value).leaves) d ∙ value_back (value c t s) (value_type x.writes.typed x.writes.stored);
             list = y.fits (omega (arith, l, g));
           })
 
 -- a last row that failed as a whole
-pub show_failed : (vs vs₁ : List ℤ) → vs₁ ≡ laid (to_z w32) no_value.leaves vs → ShowFailedOk vs (record { number = 0; valued = 0; fails = 1; bytes = 0 }) vs₁
+pub show_failed : (vs vs₁ : List ℤ) → vs₁ ≡ laid (to_z w32) no_value.leaves vs → ShowFailedOk vs (record { valued = false; fails = true; bytes = 0 }) vs₁
 unfolding look_rest entries failing value has_one list_text value_memory
 show_failed vs vs₁ e role τ s list l =
     let b : leb (0 * entry_bytes) (length list) ≡ true = le-leb (0 * entry_bytes) (length list) (omega arith) in
@@ -156,60 +158,52 @@ show_failed vs vs₁ e role τ s list l =
 
 -- ---- what `open` leaves
 
-module _ (rows ws : List ℤ) (role : ℕ) (vs : List ℤ) (list own words : List ℕ) (r : Opening) (h : OpenOk rows ws (eqb (length vs) max_leaves) own words r) where
-  pub fill_shut : (r.number ≡ 0 → ⊥) → Filled (look_call rows ws role vs list) (shut r.number) vs list
+module _ (rows ws : List ℤ) (role : ℕ) (vs : List ℤ) (list own words : List ℕ) where
+  pub fill_shut : (g : Ground) → OpenOk rows ws (eqb (length vs) max_leaves) own words (Err g) → Filled (look_call rows ws role vs list) (Err g) vs list
   unfolding look_call look_in
-  fill_shut z = by (opened rows ws (eqb (length vs) max_leaves)) h
+  fill_shut g h = by (opened rows ws (eqb (length vs) max_leaves)) h
     where
-      by : (o : Opened) → Opens rows ws own words r o → Filled (look_in role vs list o) (shut r.number) vs list
-      by (refused_by g) x = record { number = x.0; has_value = refl; fails = refl; bytes = refl; value = refl; list = refl }
-      by (rest_of q) x = absurd (z x.0)
+      by : (o : Opened) → Opens rows ws own words (Err g) o → Filled (look_in role vs list o) (Err g) vs list
+      by (refused_by k) x = record { number = x; has_value = refl; fails = refl; bytes = refl; value = refl; list = refl }
+      by (rest_of q) x = absurd x
 
-  pub fill_fine : r.number ≡ 0 → r.failed ≡ false → (1 ≤ r.n) × Fine own (r.n - 1) 0
-  fill_fine z n = let f = opened_fine rows ws own words r (opened rows ws (eqb (length vs) max_leaves)) h z n in (f.0, f.2)
+  module _ (r : Rest) (h : OpenOk rows ws (eqb (length vs) max_leaves) own words (Ok r)) where
+    -- a rest is opened
+    by_rest : {a : Result Looked Ground} {vs₁ : List ℤ} {list₁ : List ℕ} → ((q : FlowState) → OpensTo rows ws own words r q → length vs ≡ max_leaves → Filled (look_in role vs list (rest_of q)) a vs₁ list₁)
+        → Filled (look_call rows ws role vs list) a vs₁ list₁
+    unfolding look_call
+    by_rest {a} {vs₁} {list₁} g = by (opened rows ws (eqb (length vs) max_leaves)) refl h
+      where
+        by : (o : Opened) → opened rows ws (eqb (length vs) max_leaves) ≡ o → Opens rows ws own words (Ok r) o → Filled (look_in role vs list o) a vs₁ list₁
+        by (refused_by k) e x = absurd x
+        by (rest_of q) e x = g q x (eqb-true (length vs) max_leaves (opened_fits rows ws (eqb (length vs) max_leaves) e))
 
-  -- a rest is opened
-  by_rest : r.number ≡ 0 → {a : Looked} {vs₁ : List ℤ} {list₁ : List ℕ} → ((q : FlowState) → OpensTo rows ws own words r q → length vs ≡ max_leaves → Filled (look_in role vs list (rest_of q)) a vs₁ list₁)
-      → Filled (look_call rows ws role vs list) a vs₁ list₁
-  unfolding look_call
-  by_rest z {a} {vs₁} {list₁} g = by (opened rows ws (eqb (length vs) max_leaves)) refl h
-    where
-      by : (o : Opened) → opened rows ws (eqb (length vs) max_leaves) ≡ o → Opens rows ws own words r o → Filled (look_in role vs list o) a vs₁ list₁
-      by (refused_by k) e x = let p = x.0 in let q = x.1 in absurd (omega (arith, p, q, z))
-      by (rest_of q) e x = g q x.1 (eqb-true (length vs) max_leaves (opened_fits rows ws (eqb (length vs) max_leaves) e))
+    -- ground 8, whatever the rest shows
+    pub fill_8 : is_role role ≡ false → Filled (look_call rows ws role vs list) (Err EventNotRead) vs list
+    unfolding look_in
+    fill_8 n = by_rest (λ q f l. rw n (refused_filled EventNotRead vs list))
 
-  -- ground 8, whatever the rest shows
-  pub fill_8 : r.number ≡ 0 → is_role role ≡ false → Filled (look_call rows ws role vs list) (shut event_not_read) vs list
-  unfolding look_in
-  fill_8 z n = by_rest z (λ q f l. rw n (refused_filled event_not_read vs list))
-
-  module _ (z : r.number ≡ 0) (i : is_role role ≡ true) where
     -- of a task or of a row that failed
-    by_found : {a : Looked} {vs₁ : List ℤ} {list₁ : List ℕ} → ((q : FlowState) → OpensTo rows ws own words r q → length vs ≡ max_leaves → Filled (look_rest role vs list q) a vs₁ list₁)
+    by_found : is_role role ≡ true → {a : Result Looked Ground} {vs₁ : List ℤ} {list₁ : List ℕ} → ((q : FlowState) → OpensTo rows ws own words r q → length vs ≡ max_leaves → Filled (look_rest role vs list q) a vs₁ list₁)
         → Filled (look_call rows ws role vs list) a vs₁ list₁
     unfolding look_in
-    by_found g = by_rest z (λ q f l. rw i (g q f l))
+    by_found i g = by_rest (λ q f l. rw i (g q f l))
 
-    pub fill_ready : r.failed ≡ false → (a : Looked) (vs₁ : List ℤ) (list₁ : List ℕ) → ShowOk own words r.n role vs list a vs₁ list₁ → Filled (look_call rows ws role vs list) a vs₁ list₁
-    fill_ready n a vs₁ list₁ g = by_found (λ q f. by f)
-      where
-        by : {q : FlowState} → OpensTo rows ws own words r q → length vs ≡ max_leaves → Filled (look_rest role vs list q) a vs₁ list₁
-        by (to_task {c} {t} {s} k y) l = g rows ws c t s y l i
-        by (to_failed k) l = apart k n
+  module _ (i : is_role role ≡ true) where
+    pub fill_ready : (n : ℕ) → OpenOk rows ws (eqb (length vs) max_leaves) own words (Ok (Task n)) → (a : Result Looked Ground) (vs₁ : List ℤ) (list₁ : List ℕ) → ShowOk own words n role vs list a vs₁ list₁
+        → Filled (look_call rows ws role vs list) a vs₁ list₁
+    fill_ready n h a vs₁ list₁ g =
+        by_found (Task n) h i (λ q f l. opened_ready (λ q. Filled (look_rest role vs list q) a vs₁ list₁) (λ c t s y. g rows ws c t s y l i) f)
 
-    pub fill_failed : r.failed ≡ true → (a : Looked) (vs₁ : List ℤ) → ShowFailedOk vs a vs₁ → Filled (look_call rows ws role vs list) a vs₁ list
-    fill_failed n a vs₁ g = by_found (λ q f. by f)
-      where
-        by : {q : FlowState} → OpensTo rows ws own words r q → length vs ≡ max_leaves → Filled (look_rest role vs list q) a vs₁ list
-        by (to_task k y) l = apart n k
-        by (to_failed {τ} {s} k) l = g role τ s list l
+    pub fill_failed : OpenOk rows ws (eqb (length vs) max_leaves) own words (Ok Failed) → (a : Looked) (vs₁ : List ℤ) → ShowFailedOk vs a vs₁ → Filled (look_call rows ws role vs list) (Ok a) vs₁ list
+    fill_failed h a vs₁ g = by_found Failed h i (λ q f l. opened_failed (λ q. Filled (look_rest role vs list q) (Ok a) vs₁ list) (λ τ s. g role τ s list l) f)
 
 -- the part that is handed back is the front of the list
 abbrev Front : LookAnswer → Type 0
 Front a = (length a.part ≤ length a.list) × (take (length a.part) a.list ≡ a.part)
 
-pub part_is : (rows ws : List ℤ) (role : ℕ) (vs : List ℤ) (list : List ℕ) (a : Looked) (vs₁ : List ℤ) (list₁ : List ℕ) → Filled (look_call rows ws role vs list) a vs₁ list₁
-    → (a.bytes ≤ length list₁) × (take a.bytes list₁ ≡ (look_call rows ws role vs list).part)
+pub part_is : (rows ws : List ℤ) (role : ℕ) (vs : List ℤ) (list : List ℕ) (a : Result Looked Ground) (vs₁ : List ℤ) (list₁ : List ℕ) → Filled (look_call rows ws role vs list) a vs₁ list₁
+    → ((shown a).bytes ≤ length list₁) × (take (shown a).bytes list₁ ≡ (look_call rows ws role vs list).part)
 unfolding look_call look_in look_rest
 part_is rows ws role vs list a vs₁ list₁ h =
     let o = opened rows ws (eqb (length vs) max_leaves) in
@@ -230,10 +224,25 @@ part_is rows ws role vs list a vs₁ list₁ h =
 
 -- ---- the part
 
-pub part_long : (rows ws : List ℤ) (role : ℕ) (vs : List ℤ) (list : List ℕ) (a : Looked) (vs₁ : List ℤ) (list₁ : List ℕ) → Filled (look_call rows ws role vs list) a vs₁ list₁ → a.bytes ≡ length (take a.bytes list₁)
-part_long rows ws role vs list a vs₁ list₁ h = sym (length-take-le a.bytes list₁ (part_is rows ws role vs list a vs₁ list₁ h).0)
+-- the numbers of flags
+pub flag_is : (b : Bool) → from_bool b ≡ flag b
+flag_is true = refl
+flag_is false = refl
 
-pub look_is : (rows ws : List ℤ) (role : ℕ) (vs : List ℤ) (list : List ℕ) (a : Looked) (vs₁ : List ℤ) (list₁ : List ℕ) → Filled (look_call rows ws role vs list) a vs₁ list₁
-    → LookOk (look_call rows ws role vs list) (take a.bytes list₁) a.number a.valued a.fails vs₁
-look_is rows ws role vs list a vs₁ list₁ h =
-    record { part_is = (part_is rows ws role vs list a vs₁ list₁ h).1; number_is = h.number; valued_is = h.has_value; fails_is = h.fails; value_is = h.value }
+-- what code takes of an answer
+pub shown_is : (a : Result Looked Ground) {r : Looked} → ResultUnwrapsOrElse a (λ l. (l.valued ≡ false) × ((l.fails ≡ false) × (l.bytes ≡ 0))) r → r ≡ shown a
+shown_is (Ok l) e = e
+shown_is (Err g) (u, (v, w)) = λ i. record { valued = u i; fails = v i; bytes = w i }
+
+module _ (rows ws : List ℤ) (role : ℕ) (vs : List ℤ) (list : List ℕ) (a : Result Looked Ground) (vs₁ : List ℤ) (list₁ : List ℕ) (h : Filled (look_call rows ws role vs list) a vs₁ list₁) {r : Looked} (e : r ≡ shown a) where
+  pub part_long : r.bytes ≡ length (take r.bytes list₁)
+  part_long = rw e (sym (length-take-le (shown a).bytes list₁ (part_is rows ws role vs list a vs₁ list₁ h).0))
+
+  pub look_is : LookOk (look_call rows ws role vs list) (take r.bytes list₁) (answer_number a) (from_bool r.valued) (from_bool r.fails) vs₁
+  look_is = rw e (record {
+    part_is = (part_is rows ws role vs list a vs₁ list₁ h).1;
+    number_is = h.number;
+    valued_is = flag_is (shown a).valued ∙ h.has_value;
+    fails_is = flag_is (shown a).fails ∙ h.fails;
+    value_is = h.value;
+  })

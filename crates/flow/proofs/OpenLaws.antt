@@ -11,16 +11,19 @@ use borrow.Table.Steps.{cases}
 use lib.Dec.{eqb}
 use lib.IntN.{ℤ}
 use lib.ListN.{length, get_or}
+use Rattle.std.specs.Prelude.{Result, Ok, Err}
 use Rattle.word.specs.Word.{AllWords}
 use Rattle.word.specs.Decides.{Decides}
-use Rattle.tophat.specs.Syntax.{Ty, Code, Store}
+use Rattle.tophat.specs.Syntax.{Ty, Code, TaskOf, Store}
 use Rattle.tophat.specs.Typing.{v_nil}
 use Rattle.tophat.specs.Normalising.{s_fail, n_done}
 use Rattle.tophat.proofs.Basics.{apart}
 use Rattle.tophat.proofs.ComputeEvaluation.{overflows_task}
 use Rattle.tophat.proofs.ComputeNormalising.{stride}
 use Rattle.tophat.proofs.TaskEvaluationAgrees.{evaluate_good, overflows_task_is}
-use Rattle.rows.specs.GroundNumbers.{not_accepted, wrong_memory, not_state, not_at_rest}
+use Rattle.rows.specs.declared.ground.Ground.{Ground}
+use Rattle.rows.specs.declared.ground.Ground.TheVariants.{NotAccepted, WrongMemory, NotState, NotAtRest}
+use Rattle.rows.specs.GroundNumbers.{number_of_ground, wrong_memory, not_accepted}
 use Rattle.rows.specs.Rows.{max_rows}
 use Rattle.rows.specs.Lent.{own_rows, row_count}
 use Rattle.rows.proofs.Basics.{no}
@@ -32,15 +35,16 @@ use Rattle.state.specs.Ensured.{Fine, StrideOk}
 use Rattle.state.proofs.LentLaws.{own_length}
 use Rattle.state.specs.Writing.{Writing, WritingFailed}
 use Rattle.state_check.specs.States.{State, ZerosAfter, HeldOk}
-use Rattle.flow.specs.declared.open.Opening.{Opening}
+use Rattle.flow.specs.declared.open.Rest.{Rest}
+use Rattle.flow.specs.declared.open.Rest.TheVariants.{Task, Failed}
 use Rattle.call_definitions.specs.Memory.{failed_of}
-use Rattle.call_definitions.specs.States.{FlowState, failed_state}
+use Rattle.call_definitions.specs.States.{FlowState, task_state, failed_state}
 use Rattle.call_definitions.specs.Answers.{WritesTask, Writes, as_task, as_failed, shut_22, shut_23}
 use Rattle.call_definitions.specs.Calls.{Opened, refused_by, rest_of, opened}
 use Rattle.call_definitions.proofs.Flows.{accepts_loads, flow_of}
 use Rattle.call_definitions.proofs.Opening.{flow_rows, past, opens, unmoved, still_of, same_first, first_typed}
 use Rattle.call_definitions.proofs.Grounds.{shut_only, opened_20, opened_misfit}
-use Rattle.flow.specs.Opens.{Site, task_opening, OpensTo, to_task, to_failed, Opens, OpenOk}
+use Rattle.flow.specs.Opens.{Site, Ready, OpensTo, to_task, to_failed, Opens, OpenOk}
 use Rattle.flow.specs.Failed.{IsFailedOk}
 use Rattle.flow.proofs.SiteLaws.{here, there, some_rows, few_rows, room_is, sits, is_fine, around, written_in, copied_in}
 use Rattle.flow.proofs.FailedLaws.{failed_in, failed_copied}
@@ -71,21 +75,21 @@ fitted : (b : Bool) → Decides b (b ≡ true)
 fitted b = record { yes = λ e. e; no = λ e f. no (sym e ∙ f) }
 
 module _ (rows ws : List ℤ) (own words : List ℕ) (fits : Bool) where
-  abbrev Answers : ℕ → ℕ → Type 0
-  Answers g n = OpenOk rows ws fits own words (task_opening g n)
+  abbrev Answers : Result Rest Ground → Type 0
+  Answers r = OpenOk rows ws fits own words r
 
-  by_ground : (n : ℕ) {g : ℕ} → 1 ≤ g → opened rows ws fits ≡ refused_by g → Answers g n
-  by_ground n {g} l q = subst (Opens rows ws own words (task_opening g n)) (sym q) (refl, l)
+  by_ground : (g : Ground) → opened rows ws fits ≡ refused_by (number_of_ground g) → Answers (Err g)
+  by_ground g q = subst (Opens rows ws own words (Err g)) (sym q) refl
 
-  pub open_20 : None ≡ accepted_count rows → Answers not_accepted 0
-  open_20 e = by_ground 0 (omega arith) (opened_20 rows ws (Unit {0}) (counted_no rows e) fits)
+  pub open_20 : None ≡ accepted_count rows → Answers (Err NotAccepted)
+  open_20 e = by_ground NotAccepted (opened_20 rows ws (Unit {0}) (counted_no rows e) fits)
 
   module _ (n : ℕ) {c : Code} {Σ : List Ty} {τ : Ty} (z : Site rows own n c Σ τ) (wr : AllWords rows) where
-    pub open_length : (length ws ≡ n * state_words → ⊥) → Answers wrong_memory n
-    open_length l = by_ground n (omega arith) (opened_misfit rows ws fits z.flow.loads (λ m f. l (m ∙ ap (λ k. k * state_words) (sym z.count))))
+    pub open_length : (length ws ≡ n * state_words → ⊥) → Answers (Err WrongMemory)
+    open_length l = by_ground WrongMemory (opened_misfit rows ws fits z.flow.loads (λ m f. l (m ∙ ap (λ k. k * state_words) (sym z.count))))
 
-    pub open_misfit : not fits ≡ true → Answers wrong_memory n
-    open_misfit f = by_ground n (omega arith) (opened_misfit rows ws fits z.flow.loads (λ m g. no (sym (not-true fits f) ∙ g)))
+    pub open_misfit : not fits ≡ true → Answers (Err WrongMemory)
+    open_misfit f = by_ground WrongMemory (opened_misfit rows ws fits z.flow.loads (λ m g. no (sym (not-true fits f) ∙ g)))
 
     module _ (f : not fits ≡ false) (l : length ws ≡ n * state_words) (ww : AllWords ws) (e : words ≡ own_state n ws) where
       fit : fits ≡ true
@@ -117,15 +121,15 @@ module _ (rows ws : List ℤ) (own words : List ℕ) (fits : Bool) where
               let q = same_first z.flow f in
               failed_here.no g (ap (overflows_task c []) (sym q) ∙ overflows_task_is o, failed_in z (d ∙ ap (failed_of rows) q) e)
 
-          pub open_22 : x ≡ false → Answers not_state n
-          open_22 g = by_ground n (omega arith) (shut_only rows ws (fits ≡ true) wr ww fits (fitted fits) (shut_22 z.flow (room_is z ws l) fit (λ q w. no_state w g)))
+          pub open_22 : x ≡ false → Answers (Err NotState)
+          open_22 g = by_ground NotState (shut_only rows ws (fits ≡ true) wr ww fits (fitted fits) (shut_22 z.flow (room_is z ws l) fit (λ q w. no_state w g)))
 
-          pub open_failed : x ≡ true → OpenOk rows ws fits own words (record { number = 0; n = n; failed = true })
+          pub open_failed : x ≡ true → Answers (Ok Failed)
           open_failed g =
               let (o, v) = failed_here.yes g in
               let over = (evaluate_good z.flow.flow.typed [] first v_nil (first_typed z.flow)).over o in
               let w : Writes rows ws c Σ τ (failed_state τ first) = as_failed z.flow.flow over (failed_copied z v l ww e) in
-              subst (Opens rows ws own words (record { number = 0; n = n; failed = true })) (sym (ap (opened rows ws) fit ∙ opens z.flow w (n_done s_fail))) (refl, to_failed refl)
+              subst (Opens rows ws own words (Ok Failed)) (sym (ap (opened rows ws) fit ∙ opens z.flow w (n_done s_fail))) to_failed
 
         module _ (y : not b ≡ false) (moved : Bool) (after env : List ℕ) (m : StrideOk own work after (n - 1) env 0 moved) where
           state : State (own_rows rows) (row_count rows) (flow_rows z.flow) words
@@ -142,24 +146,31 @@ module _ (rows ws : List ℤ) (own words : List ℕ) (fits : Bool) where
               let u = subst (λ ws. StrideOk own ws after (n - 1) env 0 moved) ((held_here (flow_rows z.flow) (past z.flow)).1 (not-false b y)) m in
               (u c (sits z) Σ [] τ state.store [] state.task state.typed (around z writing.stores state.stored) writing.holds).1
 
-          pub open_23 : moved ≡ true → Answers not_at_rest n
-          open_23 q = by_ground n (omega arith) (shut_only rows ws (fits ≡ true) wr ww fits (fitted fits)
+          pub open_23 : moved ≡ true → Answers (Err NotAtRest)
+          open_23 q = by_ground NotAtRest (shut_only rows ws (fits ≡ true) wr ww fits (fitted fits)
               (shut_23 z.flow fit (as_task writes) (λ d. apart (sym flag ∙ q) (unmoved z.flow state.typed state.stored d))))
 
-          pub open_0 : moved ≡ false → Answers 0 n
+          pub open_0 : moved ≡ false → Answers (Ok (Task n))
           open_0 q =
               let d = still_of z.flow state.typed state.stored (sym flag ∙ q) in
-              subst (Opens rows ws own words (task_opening 0 n)) (sym (ap (opened rows ws) fit ∙ opens z.flow (as_task writes) d))
-              (refl, to_task refl (record { cells = Σ; type = τ; site = z; writes = writes; state_in = e }))
+              subst (Opens rows ws own words (Ok (Task n))) (sym (ap (opened rows ws) fit ∙ opens z.flow (as_task writes) d))
+              (to_task (record { cells = Σ; type = τ; site = z; writes = writes; state_in = e }))
 
--- what a caller that gets 0 and no failed row may ask for
-pub opened_fine : (rows ws : List ℤ) (own words : List ℕ) (r : Opening) (o : Opened) → Opens rows ws own words r o → r.number ≡ 0 → r.failed ≡ false → (1 ≤ r.n) × (r.n ≤ max_rows) × Fine own (r.n - 1) 0
-opened_fine rows ws own words r (refused_by g) x z f = let p = x.0 in let q = x.1 in absurd (omega (arith, p, q, z))
-opened_fine rows ws own words r (rest_of q) x z f = by x.1
+-- what stands where a task is opened
+pub opened_ready : {rows ws : List ℤ} {own words : List ℕ} {n : ℕ} (P : FlowState → Type 0)
+    → ((c : Code) (t : TaskOf c) (s : Store) → Ready rows ws own words n c t s → P (task_state c t s)) → {z : FlowState} → OpensTo rows ws own words (Task n) z → P z
+opened_ready P f (to_task {c = c} {t = t} {s = s} y) = f c t s y
+
+pub opened_failed : {rows ws : List ℤ} {own words : List ℕ} (P : FlowState → Type 0) → ((τ : Ty) (s : Store) → P (failed_state τ s)) → {z : FlowState} → OpensTo rows ws own words Failed z → P z
+opened_failed P f (to_failed {τ} {s}) = f τ s
+
+-- what a caller that gets a task may ask for
+pub opened_fine : (rows ws : List ℤ) (fits : Bool) (own words : List ℕ) (n : ℕ) → OpenOk rows ws fits own words (Ok (Task n)) → (1 ≤ n) × (n ≤ max_rows) × Fine own (n - 1) 0
+opened_fine rows ws fits own words n h = by (opened rows ws fits) h
   where
-    by : {q : FlowState} → OpensTo rows ws own words r q → (1 ≤ r.n) × (r.n ≤ max_rows) × Fine own (r.n - 1) 0
-    by (to_task e y) = (some_rows y.site, few_rows y.site, is_fine y.site)
-    by (to_failed e) = apart e f
+    by : (o : Opened) → Opens rows ws own words (Ok (Task n)) o → (1 ≤ n) × (n ≤ max_rows) × Fine own (n - 1) 0
+    by (refused_by g) x = absurd x
+    by (rest_of z) x = opened_ready (λ z. (1 ≤ n) × (n ≤ max_rows) × Fine own (n - 1) 0) (λ c t s y. (some_rows y.site, few_rows y.site, is_fine y.site)) x
 
 -- where a rest is opened, the other memories fit
 pub opened_fits : (rows ws : List ℤ) (fits : Bool) {z : FlowState} → opened rows ws fits ≡ rest_of z → fits ≡ true

@@ -17,7 +17,10 @@ use Rattle.tophat.proofs.ComputeNormalising.{settle}
 use Rattle.tophat.proofs.TaskEvaluationAgrees.{evaluate_good}
 use Rattle.tophat.proofs.NormalisingSound.{normalise_sound}
 use Rattle.tophat.proofs.Bound.{normalises_bound}
-use Rattle.rows.specs.GroundNumbers.{not_accepted, wrong_memory}
+use Rattle.std.specs.Prelude.{Ok, Err}
+use Rattle.rows.specs.declared.ground.Ground.{Ground}
+use Rattle.rows.specs.declared.ground.Ground.TheVariants.{NotAccepted, WrongMemory}
+use Rattle.rows.specs.GroundNumbers.{number_of_ground}
 use Rattle.rows.specs.Rows.{movers}
 use Rattle.rows.specs.Lent.{own_rows, row_count}
 use Rattle.rows.proofs.CellsAt.{store_typed}
@@ -30,7 +33,6 @@ use Rattle.state.specs.Writing.{Writing}
 use Rattle.state.proofs.Words.{zero_words}
 use Rattle.state.proofs.Frames.{same_row}
 use Rattle.state.proofs.SitsOf.{last_sits, world}
-use Rattle.flow.specs.declared.answer.Answer.{Answer}
 use Rattle.call_definitions.specs.Memory.{CallAnswer, refusal}
 use Rattle.call_definitions.specs.Calls.{start_call}
 use Rattle.call_definitions.specs.Touches.{Bounded}
@@ -88,23 +90,20 @@ bounded_by rows d m e = let b = normalises_bound d in omega (arith, b, m, e)
 -- ---- start
 
 -- a refusal, as the code answers it
-pub refused_as : (rows ws : List ℤ) {a : CallAnswer} {r : Answer} (g : ℕ) → a ≡ refusal g ws → (r.number ≡ g) × (r.strides ≡ 0) → Answered a r ws × Bounded rows r.strides
-refused_as rows ws {a} {r} g e h =
-    let z = zero_bounded rows in
-    let k = h.1 in
-    ((h.0 ∙ sym (ap (λ a. a.number) e), h.1 ∙ sym (ap (λ a. a.strides) e), sym (ap (λ a. a.state) e)), omega (arith, z, k))
+pub refused_as : (rows ws : List ℤ) {a : CallAnswer} (g : Ground) → a ≡ refusal (number_of_ground g) ws → Answered a (Err g) ws × Bounded rows 0
+refused_as rows ws g e = ((sym (ap (λ a. a.number) e), sym (ap (λ a. a.strides) e), sym (ap (λ a. a.state) e)), zero_bounded rows)
 
-module _ (rows ws : List ℤ) (r : Answer) where
-  pub start_20 : None ≡ accepted_count rows → (r.number ≡ not_accepted) × (r.strides ≡ 0) → Answered (start_call rows ws) r ws × Bounded rows r.strides
-  start_20 e h = refused_as rows ws not_accepted (start_20_is rows ws (counted_no rows e)) h
+module _ (rows ws : List ℤ) where
+  pub start_20 : None ≡ accepted_count rows → Answered (start_call rows ws) (Err NotAccepted) ws × Bounded rows 0
+  start_20 e = refused_as rows ws NotAccepted (start_20_is rows ws (counted_no rows e))
 
   module _ {own : List ℕ} {n : ℕ} {c : Code} {Σ : List Ty} {τ : Ty} (z : Site rows own n c Σ τ) where
-    pub start_21 : (length ws ≡ n * state_words → ⊥) → (r.number ≡ wrong_memory) × (r.strides ≡ 0) → Answered (start_call rows ws) r ws × Bounded rows r.strides
-    start_21 l h = refused_as rows ws wrong_memory (start_21_is rows ws (loads_accepts z.flow.loads) (λ m. l (m ∙ ap (λ k. k * state_words) (sym z.count)))) h
+    pub start_21 : (length ws ≡ n * state_words → ⊥) → Answered (start_call rows ws) (Err WrongMemory) ws × Bounded rows 0
+    start_21 l = refused_as rows ws WrongMemory (start_21_is rows ws (loads_accepts z.flow.loads) (λ m. l (m ∙ ap (λ k. k * state_words) (sym z.count))))
 
 -- what is begun, copied out
 pub start_0 : {rows : List ℤ} (ws out : List ℤ) {own : List ℕ} (words : List ℕ) {n : ℕ} (j : ℕ) {c : Code} {Σ : List Ty} {τ : Ty} (z : Site rows own n c Σ τ) → length ws ≡ n * state_words → BeginOk own n words j → length words ≡ state_size
-    → out ≡ lent_of n (take (n * state_words) words) → Answered (start_call rows ws) (record { number = 0; strides = j }) out × Bounded rows j
+    → out ≡ lent_of n (take (n * state_words) words) → Answered (start_call rows ws) (Ok j) out × Bounded rows j
 unfolding settle
 start_0 {rows} ws out {own} words {n} j {c} {Σ} {τ} z l b m o =
     let a = z.flow in
@@ -112,8 +111,8 @@ start_0 {rows} ws out {own} words {n} j {c} {Σ} {τ} z l b m o =
     let y = there z (λ o k. BeginOk o k words j) b (flow_rows a) (past a) w in
     let g = evaluate_good a.flow.typed [] a.first v_nil (store_typed w a.flow.cells) in
     let d = normalise_sound c [] _ _ g.task v_nil g.store in
-    subst (λ r. Answered r (record { number = 0; strides = j }) out × Bounded rows j) (sym (start_is a ws (room_is z ws l)))
-    (by_start a (λ r. Answered r (record { number = 0; strides = j }) out × Bounded rows j)
+    subst (λ r. Answered r (Ok j) out × Bounded rows j) (sym (start_is a ws (room_is z ws l)))
+    (by_start a (λ r. Answered r (Ok j) out × Bounded rows j)
     (λ e. let (v, k) = y.1 e in ((refl, k, o ∙ failed_out z v m), omega (arith, k)))
     (λ e.
     let (u, k) = y.0 e in

@@ -1,19 +1,15 @@
-// What start and handle answer.
+// What a call answers, as a number.
 ghost use Rattle.std.specs.Prelude.{◌≡◌};
+ghost use Rattle.rows.specs.GroundNumbers.{answer_number};
 
-// 0 or the ground, and the strides.
-#[derive(Clone, Copy)]
-pub struct Answer {
-    pub number: u32,
-    pub strides: u32,
-}
+use rows::ground::Ground;
 
-// A refusal by a ground counts none.
-pub fn refused(number: u32) -> Answer
-    ensures { (result.number ≡ number) × (result.strides ≡ 0) }
+// 0 where the call is accepted, else the number of its ground.
+pub fn number<T>(answer: &Result<T, Ground>) -> u32
+    ensures { result ≡ answer_number answer.now }
 {
-    Answer {
-        number: number,
-        strides: 0,
+    match answer {
+        Ok(_) => 0,
+        Err(ground) => u32::from(*ground),
     }
 }

@@ -4,7 +4,7 @@
 
 pub use sheet::load; // the call load
 
-pub mod answer; // what start and handle answer
+pub mod answer; // an answer's number
 pub mod start; // the call start
 pub mod look; // the call look, and the function below it that states the whole list
 pub mod touch; // the call handle

@@ -5,37 +5,27 @@ ghost use Rattle.std.proofs.Common.{to_z};
 ghost use Rattle.word.specs.Laid.{laid};
 ghost use Rattle.tophat.specs.Syntax.{max_leaves};
 ghost use Rattle.state.specs.Ensured.{Fine};
-ghost use Rattle.call_definitions.specs.Memory.{flag};
 ghost use Rattle.call_definitions.specs.Calls.{look_call};
 ghost use Rattle.flow.specs.Looks.{Filled, FailsOk, RoomOk, ShowOk, ShowFailedOk, LookOk};
 
-use super::open::open;
+use super::answer;
+use super::open::{Rest, open};
 use entries::entries;
 use formats::ENTRY_BYTES;
 use normalising::failing;
-use rows::ground_numbers::{EVENT_NOT_READ, LIST_TOO_SHORT};
+use rows::ground::Ground;
 use rows::{ROWS_WORDS, is_role};
 use state::{ENV_WORDS, STATE_SIZE};
 use tophat::MAX_LEAVES;
 use value::{NO_VALUE, Value};
 use word::copy_out;
 
-// 0 or the ground, the flags, and how many bytes the part has.
-#[derive(Clone, Copy)]
+// What a rest shows: whether it has a value, whether it fails, and how many bytes the part has. By default nothing, as where it is refused.
+#[derive(Clone, Copy, Default)]
 pub struct Looked {
-    pub number: u32,
-    pub valued: u32,
-    pub fails: u32,
+    pub valued: bool,
+    pub fails: bool,
     pub bytes: usize,
-}
-
-fn flag(b: bool) -> u32
-    ensures { result ≡ flag b }
-{
-    if b {
-        return 1;
-    }
-    0
 }
 
 // The leaves' numbers, over the front of the lent words.
@@ -86,30 +76,24 @@ fn show(
     role: u32,
     value: &mut [i32],
     list: &mut [u8],
-) -> Looked
+) -> Result<Looked, Ground>
     requires { (1 ≤ n) × Fine own.now (n - 1) 0 }
     ensures { ShowOk own.now words.now n role value.old list.old result value.new list.new }
 {
     if !has_room(own, words, n, role, list.len()) {
-        return Looked {
-            number: LIST_TOO_SHORT,
-            valued: 0,
-            fails: 0,
-            bytes: 0,
-        };
+        return Err(Ground::ListTooShort);
     }
     let none = [0u32; ENV_WORDS];
     let bytes = entries(own, words, n - 1, &none, 0, role, 0, 1, list);
     let found = running::value(own, words, n - 1);
-    let failed = flag(fails(own, words, n - 1, bytes));
-    let has_value = flag(found.is_some());
+    let failed = fails(own, words, n - 1, bytes);
+    let valued = found.is_some();
     value_out(found.unwrap_or(NO_VALUE), value);
-    Looked {
-        number: 0,
-        valued: has_value,
+    Ok(Looked {
+        valued: valued,
         fails: failed,
         bytes: bytes,
-    }
+    })
 }
 
 // What a last row that failed as a whole shows: no value, failing, and no entry (CR 3).
@@ -118,41 +102,33 @@ fn show_failed(value: &mut [i32]) -> Looked
 {
     value_out(NO_VALUE, value);
     Looked {
-        number: 0,
-        valued: 0,
-        fails: 1,
+        valued: false,
+        fails: true,
         bytes: 0,
     }
 }
 
 // Looks in a role, and states all of the list at exit. A role outside 1 to 8 is 8 (CR 6).
-pub fn fill(rows: &[i32], state: &[i32], role: u32, value: &mut [i32], list: &mut [u8]) -> Looked
+pub fn fill(
+    rows: &[i32],
+    state: &[i32],
+    role: u32,
+    value: &mut [i32],
+    list: &mut [u8],
+) -> Result<Looked, Ground>
     ensures { Filled (look_call rows.now state.now role value.old list.old) result value.new list.new }
 {
     let mut own = [0u32; ROWS_WORDS];
     let mut words = [0u32; STATE_SIZE];
     let fits = value.len() == MAX_LEAVES;
-    let rest = open(rows, state, fits, &mut own, &mut words);
-    if rest.number != 0 {
-        return Looked {
-            number: rest.number,
-            valued: 0,
-            fails: 0,
-            bytes: 0,
-        };
-    }
+    let rest = open(rows, state, fits, &mut own, &mut words)?;
     if !is_role(role) {
-        return Looked {
-            number: EVENT_NOT_READ,
-            valued: 0,
-            fails: 0,
-            bytes: 0,
-        };
+        return Err(Ground::EventNotRead);
     }
-    if rest.failed {
-        return show_failed(value);
+    match rest {
+        Rest::Task(n) => show(&own, &words, n, role, value, list),
+        Rest::Failed => Ok(show_failed(value)),
     }
-    show(&own, &words, rest.n, role, value, list)
 }
 
 // Looks in a role, and hands back the part of the list that was written. The part is a new borrow, and the list's own is spent with it: no
@@ -170,9 +146,9 @@ pub fn look<'a>(
     ensures { LookOk (look_call rows.now state.now role value.old list.old) result.now number.new valued.new fails.new value.new }
 {
     let seen = fill(rows, state, role, value, list);
-    let n = seen.bytes;
-    *number = seen.number;
-    *valued = seen.valued;
-    *fails = seen.fails;
-    &mut list[..n]
+    *number = answer::number(&seen);
+    let shown = seen.unwrap_or_default();
+    *valued = u32::from(shown.valued);
+    *fails = u32::from(shown.fails);
+    &mut list[..shown.bytes]
 }

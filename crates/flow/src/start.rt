@@ -4,14 +4,13 @@ ghost use Rattle.state.specs.Ensured.{Fine};
 ghost use Rattle.state.specs.Lent.{state_size};
 ghost use Rattle.call_definitions.specs.Calls.{start_call};
 ghost use Rattle.call_definitions.specs.Touches.{Bounded};
-ghost use Rattle.flow.specs.Starts.{Answered, BeginOk};
+ghost use Rattle.flow.specs.Starts.{strides_of, Answered, BeginOk};
 
-use super::answer::{Answer, refused};
 use super::failed::write_failed;
 use super::firsts::first_cells;
 use normalising::normalise;
 use rows::ROWS_WORDS;
-use rows::ground_numbers::{NOT_ACCEPTED, WRONG_MEMORY};
+use rows::ground::Ground;
 use running::evaluate;
 use sheet::accepted_rows;
 use state::lent::state_out;
@@ -34,23 +33,20 @@ fn begin(rows: &[u32; ROWS_WORDS], n: usize, words: &mut [u32; STATE_SIZE]) -> u
     normalise(rows, words, n - 1, &none, 0)
 }
 
-// Starts a flow: the answer, and the state at exit.
-pub fn start(rows: &[i32], state: &mut [i32]) -> Answer
+// Starts a flow: the strides, and the state at exit.
+pub fn start(rows: &[i32], state: &mut [i32]) -> Result<u32, Ground>
     ensures answered { Answered (start_call rows.now state.old) result state.new }
-    ensures bounded { Bounded rows.now result.strides }
+    ensures bounded { Bounded rows.now (strides_of result) }
 {
     let mut own = [0u32; ROWS_WORDS];
     let Some(n) = accepted_rows(rows, &mut own) else {
-        return refused(NOT_ACCEPTED);
+        return Err(Ground::NotAccepted);
     };
     if state.len() != n * STATE_WORDS {
-        return refused(WRONG_MEMORY);
+        return Err(Ground::WrongMemory);
     }
     let mut words = [0u32; STATE_SIZE];
     let strides = begin(&own, n, &mut words);
     state_out(&words, n, state);
-    Answer {
-        number: 0,
-        strides: strides,
-    }
+    Ok(strides)
 }

@@ -9,6 +9,7 @@ ghost use Rattle.call_definitions.specs.Calls.{start_call, look_call, handle_cal
 ghost use Rattle.call_definitions.specs.Touches.{Bounded};
 ghost use Rattle.receipt.specs.Receipts.{receipt_of};
 
+use flow::answer::number;
 use flow::{look, start, touch};
 use receipt;
 use rows;
@@ -20,10 +21,7 @@ pub extern "C" fn nannyjiffy_load(sheet: &[u8], rows: &mut [i32]) -> u32
     ensures value { result ≡ (loaded sheet.now rows.old).0 }
     ensures rows_after { rows.new ≡ (loaded sheet.now rows.old).1 }
 {
-    match sheet::load(sheet, rows) {
-        Ok(()) => 0,
-        Err(ground) => ground.into(),
-    }
+    number(&sheet::load(sheet, rows))
 }
 
 // Starts a flow in a lent state: 0, or the first ground of 20 and 21.
@@ -35,8 +33,8 @@ pub extern "C" fn nannyjiffy_start(rows: &[i32], state: &mut [i32], strides: &mu
     ensures bounded { Bounded rows.now strides.new }
 {
     let started = start::start(rows, state);
-    *strides = started.strides;
-    started.number
+    *strides = started.unwrap_or(0);
+    number(&started)
 }
 
 // Looks at a rest in a role: 0, or the first ground of 20 to 23, 8 for a role outside 1 to 8 (CR 6), and 24. `bytes` is the
@@ -60,10 +58,11 @@ pub extern "C" fn nannyjiffy_look(
     ensures list_after { list.new ≡ (look_call rows.now state.now role value.old list.old).list }
 {
     let seen = look::fill(rows, state, role, value, list);
-    *valued = seen.valued;
-    *fails = seen.fails;
-    *bytes = seen.bytes;
-    seen.number
+    let shown = seen.unwrap_or_default();
+    *valued = u32::from(shown.valued);
+    *fails = u32::from(shown.fails);
+    *bytes = shown.bytes;
+    number(&seen)
 }
 
 // Handles an event: 0, or the first ground of 20 to 23, 8, 9, 30 and 31.
@@ -80,8 +79,8 @@ pub extern "C" fn nannyjiffy_handle(
     ensures bounded { Bounded rows.now strides.new }
 {
     let handled = touch::handle(rows, state, event);
-    *strides = handled.strides;
-    handled.number
+    *strides = handled.unwrap_or(0);
+    number(&handled)
 }
 
 // What an order comes to by a price list (CR 7): 0, or the first of 32, 33 and 34. `cents` is the total, 0 where one holds.

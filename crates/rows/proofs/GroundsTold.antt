@@ -1,5 +1,6 @@
--- A ground's number is no 0, and no other ground's. Rests on GroundNumbers.
-use Rattle.std.specs.Prelude.{◌≡◌, cond, ℕ, ◌≤◌, eqb}
+-- A ground's number is no 0, and no other ground's; and what the exit of a `?` hands on. Rests on GroundNumbers.
+use Rattle.std.specs.Prelude.{◌≡◌, cond, ℕ, ◌≤◌, eqb, Result, Ok, Err}
+use Rattle.std.specs.Result.{IsErrAnd}
 use Rattle.std.proofs.Common.{refl, sym, ap, ◌∙◌, arith}
 use Rattle.rows.specs.declared.ground.Ground.{Ground}
 use Rattle.rows.specs.declared.ground.Ground.TheVariants.{NotSized, NotRead, NotListed, NotSorted, NotNamed, NotSmall, NotTyped, EventNotRead, NotHandled, NotAccepted, WrongMemory, NotState, NotAtRest, ListTooShort, OtherRole, NoTouch}
@@ -64,3 +65,7 @@ numbered NoTouch = refl
 
 pub one_ground : (g k : Ground) → number_of_ground g ≡ number_of_ground k → g ≡ k
 one_ground g k e = sym (numbered g) ∙ ap of_number e ∙ numbered k
+
+pub passed_on : {X : Type 0} {g : Ground} (r : Result X Ground) → IsErrAnd r (λ e. e ≡ g) → r ≡ Err g
+passed_on (Ok x) h = absurd h
+passed_on (Err e) h = ap Err h

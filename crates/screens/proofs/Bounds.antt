@@ -30,8 +30,10 @@ use Rattle.call_definitions.specs.Memory.{CallAnswer, refusal}
 use Rattle.call_definitions.specs.States.{FlowState, failed_state}
 use Rattle.call_definitions.specs.Calls as calls
 use Rattle.call_definitions.specs.Touches.{Bounded}
-use Rattle.flow.specs.declared.answer.Answer.{Answer}
-use Rattle.flow.specs.Starts.{Answered}
+use Rattle.std.specs.Prelude.{Result}
+use Rattle.rows.specs.declared.ground.Ground.{Ground}
+use Rattle.rows.specs.GroundNumbers.{answer_number}
+use Rattle.flow.specs.Starts.{strides_of, Answered}
 use Rattle.screens.specs.Heads.{four_digits}
 
 -- ---- strides
@@ -57,11 +59,11 @@ start_low : (rows ws : List ℤ) → Low (calls.start_call rows ws)
 unfolding calls.start_call
 start_low rows ws = either Low (accepts_rows rows) _ _ (either Low (eqb (length ws) (row_count rows * state_words)) _ _ (started_low rows ws (calls.code_of rows)) (omega arith)) (omega arith)
 
-pub start_few : (rows ws : List ℤ) (a : Answer) (ws₁ : List ℤ) → Answered (calls.start_call rows ws) a ws₁ → Bounded rows a.strides → (a.number < four_digits) × (a.strides < four_digits)
+pub start_few : (rows ws : List ℤ) (a : Result ℕ Ground) (ws₁ : List ℤ) → Answered (calls.start_call rows ws) a ws₁ → Bounded rows (strides_of a) → (answer_number a < four_digits) × (strides_of a < four_digits)
 unfolding calls.start_call
 start_few rows ws a ws₁ q b = (
   subst (λ n. n < four_digits) (sym q.0) (start_low rows ws),
-  cases (accepts_rows rows) (λ e. strides_few rows a.strides e b) (λ e. let z : a.strides ≡ 0 = rw e at q.1 in omega (arith, z)),
+  cases (accepts_rows rows) (λ e. strides_few rows (strides_of a) e b) (λ e. let z : strides_of a ≡ 0 = rw e at q.1 in omega (arith, z)),
 )
 
 -- ---- handle
@@ -122,10 +124,10 @@ shut_strides : (rows ws : List ℤ) (event : List ℕ) → accepts_rows rows ≡
 unfolding calls.handle_call calls.opened calls.handle_in
 shut_strides rows ws event e = rw e
 
-pub handle_few : (rows ws : List ℤ) (event : List ℕ) (a : Answer) (ws₁ : List ℤ) → Answered (calls.handle_call rows ws event) a ws₁ → Bounded rows a.strides
-    → (a.number < four_digits) × (a.strides < four_digits)
+pub handle_few : (rows ws : List ℤ) (event : List ℕ) (a : Result ℕ Ground) (ws₁ : List ℤ) → Answered (calls.handle_call rows ws event) a ws₁ → Bounded rows (strides_of a)
+    → (answer_number a < four_digits) × (strides_of a < four_digits)
 unfolding calls.handle_call
 handle_few rows ws event a ws₁ q b = (
   subst (λ n. n < four_digits) (sym q.0) (handle_in_low rows ws (event_of event) (calls.opened rows ws true) (opened_low rows ws true)),
-  cases (accepts_rows rows) (λ e. strides_few rows a.strides e b) (λ e. let z = q.1 ∙ shut_strides rows ws event e in omega (arith, z)),
+  cases (accepts_rows rows) (λ e. strides_few rows (strides_of a) e b) (λ e. let z = q.1 ∙ shut_strides rows ws event e in omega (arith, z)),
 )

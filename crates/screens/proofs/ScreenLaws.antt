@@ -36,11 +36,15 @@ use Rattle.formats.proofs.Records.{AllFit}
 use Rattle.sheet.specs.Sheet.{loaded}
 use Rattle.entries.proofs.Fronts.{tail_part, tail_put}
 use Rattle.flow.specs.declared.look.Looked.{Looked}
-use Rattle.flow.specs.declared.answer.Answer.{Answer}
+use Rattle.std.specs.Prelude.{Result}
+use Rattle.rows.specs.declared.ground.Ground.{Ground}
+use Rattle.rows.specs.GroundNumbers.{answer_number}
+use Rattle.std.specs.Int.{from_bool}
+use Rattle.flow.proofs.LookLaws.{flag_is}
 use Rattle.call_definitions.specs.Memory.{CallAnswer, LookAnswer, look_refusal, flag, has_one}
 use Rattle.call_definitions.specs.Calls as calls
-use Rattle.flow.specs.Looks.{Filled}
-use Rattle.flow.specs.Starts.{Answered}
+use Rattle.flow.specs.Looks.{shown, Filled}
+use Rattle.flow.specs.Starts.{strides_of, Answered}
 use Rattle.screens.specs.declared.head.Head.{Head}
 use Rattle.screens.specs.declared.turn.Begun.{Begun}
 use Rattle.screens.specs.Heads.{four_digits, head_items, head_over, head_text}
@@ -107,24 +111,33 @@ bits_whole vs own e =
 
 -- ---- the screen after an answer
 
-module _ (rows ws : List ℤ) (role answer strides : ℕ) (out : List ℕ) (long : length out ≡ screen_bytes) (r : Looked) (vs : List ℤ) (list : List ℕ)
+-- what code has for the head line
+pub head_in_code : (looked : Result Looked Ground) {answer strides a b f v : ℕ} {d : Looked} {leaves : List ℕ} → a ≡ answer → b ≡ strides → f ≡ from_bool d.fails → v ≡ from_bool d.valued → d ≡ shown looked
+    → ◌≡◌ {A = Head} (record { answer = a; strides = b; fails = f; valued = v; leaves = leaves; entries = d.bytes / entry_bytes })
+    (record { answer = answer; strides = strides; fails = flag (shown looked).fails; valued = flag (shown looked).valued; leaves = leaves; entries = (shown looked).bytes / entry_bytes })
+head_in_code looked {leaves = leaves} x y z w e =
+    let f = z ∙ ap (λ d. from_bool d.fails) e ∙ flag_is (shown looked).fails in
+    let v = w ∙ ap (λ d. from_bool d.valued) e ∙ flag_is (shown looked).valued in
+    λ i. record { answer = x i; strides = y i; fails = f i; valued = v i; leaves = leaves; entries = (e i).bytes / entry_bytes }
+
+module _ (rows ws : List ℤ) (role answer strides : ℕ) (out : List ℕ) (long : length out ≡ screen_bytes) (looked : Result Looked Ground) (vs : List ℤ) (list : List ℕ)
     (kept : length list ≡ length (take (length out - head_bytes) (drop head_bytes out)))
-    (e : Filled (calls.look_call rows ws role (replicate max_leaves (pos 0)) (take (length out - head_bytes) (drop head_bytes out))) r vs list) where
+    (e : Filled (calls.look_call rows ws role (replicate max_leaves (pos 0)) (take (length out - head_bytes) (drop head_bytes out))) looked vs list) where
   seen : LookAnswer
   seen = calls.look_call rows ws role (replicate max_leaves (pos 0)) (drop head_bytes out)
 
-  shown : Filled seen r vs list
+  filled : Filled seen looked vs list
   unfolding seen
-  shown = subst (λ b. Filled (calls.look_call rows ws role (replicate max_leaves (pos 0)) b) r vs list) (tail_part head_bytes out) e
+  filled = subst (λ b. Filled (calls.look_call rows ws role (replicate max_leaves (pos 0)) b) looked vs list) (tail_part head_bytes out) e
 
   list_length : length list ≡ max_rows * entry_bytes
   list_length = kept ∙ ap length (tail_part head_bytes out) ∙ length-drop head_bytes out ∙ omega (arith, long)
 
-  pub bytes_few : r.bytes ≤ max_rows * entry_bytes
+  pub bytes_few : (shown looked).bytes ≤ max_rows * entry_bytes
   unfolding seen
   bytes_few =
       let a = (plain role (replicate max_leaves (pos 0)) (drop head_bytes out) rows ws).within in
-      let b = shown.bytes in let d = ap length shown.list in let f = list_length in
+      let b = filled.bytes in let d = ap length filled.list in let f = list_length in
       omega (arith, a, b, d, f)
 
   memory : List ℕ
@@ -135,10 +148,10 @@ module _ (rows ws : List ℤ) (role answer strides : ℕ) (out : List ℕ) (long
   memory_length = let a = length-append (take head_bytes out) list in let b = length-take-le head_bytes out (omega (arith, long)) in let f = list_length in omega (arith, a, b, f)
 
   head_is : (leaves : List ℕ) → leaves ≡ map (of_z w32) vs
-      → ◌≡◌ {A = Head} (record { answer = answer; strides = strides; fails = r.fails; valued = r.valued; leaves = leaves; entries = r.bytes / entry_bytes }) (head_of answer strides seen)
+      → ◌≡◌ {A = Head} (record { answer = answer; strides = strides; fails = flag (shown looked).fails; valued = flag (shown looked).valued; leaves = leaves; entries = (shown looked).bytes / entry_bytes }) (head_of answer strides seen)
   head_is leaves l =
-      let q = l ∙ ap (map (of_z w32)) shown.value in
-      λ i. record { answer = answer; strides = strides; fails = shown.fails i; valued = shown.has_value i; leaves = q i; entries = shown.bytes i / entry_bytes }
+      let q = l ∙ ap (map (of_z w32)) filled.value in
+      λ i. record { answer = answer; strides = strides; fails = filled.fails i; valued = filled.has_value i; leaves = q i; entries = filled.bytes i / entry_bytes }
 
   head : Head
   head = head_of answer strides seen
@@ -147,14 +160,14 @@ module _ (rows ws : List ℤ) (role answer strides : ℕ) (out : List ℕ) (long
   unfolding seen head
   fits four w a b =
       let f = plain role (replicate max_leaves (pos 0)) (drop head_bytes out) rows ws in
-      let l = bits_bits seen.value (subst AllWords shown.value (words_whole max_leaves vs (omega (arith, four)) w)) in
-      all_fit head a b f.fails f.valued l (let k = bytes_few in let e = shown.bytes in omega (arith, k, e))
+      let l = bits_bits seen.value (subst AllWords filled.value (words_whole max_leaves vs (omega (arith, four)) w)) in
+      all_fit head a b f.fails f.valued l (let k = bytes_few in let e = filled.bytes in omega (arith, k, e))
 
   -- the head line, and the part after it
   text_printed : AllFit (head_items head) → length vs ≡ max_leaves → take (head_bytes + length seen.part) (head_over (take head_bytes out ++ seen.list) head) ≡ head_text head ++ seen.part
   unfolding seen head
   text_printed k four =
-      let n = length-map seen.value (of_z w32) ∙ sym (ap length shown.value) ∙ four in
+      let n = length-map seen.value (of_z w32) ∙ sym (ap length filled.value) ∙ four in
       let m = take head_bytes out ++ seen.list in
       let e = length-take-le head_bytes out (omega (arith, long)) in
       let g = length-append (take head_bytes out) seen.list in
@@ -165,20 +178,20 @@ module _ (rows ws : List ℤ) (role answer strides : ℕ) (out : List ℕ) (long
 
   pub drawn : answer < four_digits → strides < four_digits → length vs ≡ max_leaves → AllWords (take max_leaves vs) → (leaves out₁ : List ℕ) → leaves ≡ laid (of_z w32) vs (replicate max_leaves 0)
       → length out₁ ≡ length (put_mid head_bytes (length out - head_bytes) out list)
-      → out₁ ≡ head_over (put_mid head_bytes (length out - head_bytes) out list) (record { answer = answer; strides = strides; fails = r.fails; valued = r.valued; leaves = leaves; entries = r.bytes / entry_bytes })
-      → Drawn (shown_after rows ws role answer strides out) (head_bytes + r.bytes) out₁
+      → out₁ ≡ head_over (put_mid head_bytes (length out - head_bytes) out list) (record { answer = answer; strides = strides; fails = flag (shown looked).fails; valued = flag (shown looked).valued; leaves = leaves; entries = (shown looked).bytes / entry_bytes })
+      → Drawn (shown_after rows ws role answer strides out) (head_bytes + (shown looked).bytes) out₁
   unfolding shown_after seen memory head
   drawn x y four w leaves out₁ l n o =
       let p = tail_put head_bytes out list in
       let h = head_is leaves (l ∙ bits_whole vs (replicate max_leaves 0) four) in
       let g = n ∙ ap length p ∙ memory_length in
       let b = bytes_few in
-      let c = ap (λ k. head_bytes + k) shown.bytes in
-      let m = o ∙ (λ i. head_over (p i) (h i)) ∙ ap (λ m. head_over (take head_bytes out ++ m) (head_of answer strides seen)) shown.list in
+      let c = ap (λ k. head_bytes + k) filled.bytes in
+      let m = o ∙ (λ i. head_over (p i) (h i)) ∙ ap (λ m. head_over (take head_bytes out ++ m) (head_of answer strides seen)) filled.list in
       record {
         bytes = c;
         memory = m;
-        within = front (head_bytes + r.bytes) out₁ (omega (arith, g, b));
+        within = front (head_bytes + (shown looked).bytes) out₁ (omega (arith, g, b));
         printed = (λ i. take (c i) (m i)) ∙ text_printed (fits four w x y) four;
       }
 
@@ -230,18 +243,18 @@ module _ (n : ℕ) (text : List ℕ) (rows ws : List ℤ) (out : List ℕ) (g : 
   begin_refused h r out₁ d = subst (λ b. Beginning b r rows₁ ws out₁) (sym (begun ∙ refused_by g rows₁ ws out h))
       (record { started = d.0; rows = refl; state = refl; drawn = d.1 })
 
-  module _ (z : g ≡ 0) (a : Answer) (ws₁ : List ℤ) (q : Answered (calls.start_call rows₁ ws) a ws₁) where
-    started : begins n text rows ws out ≡ started_by a.number rows₁ out (calls.start_call rows₁ ws)
+  module _ (z : g ≡ 0) (a : Result ℕ Ground) (ws₁ : List ℤ) (q : Answered (calls.start_call rows₁ ws) a ws₁) where
+    started : begins n text rows ws out ≡ started_by (answer_number a) rows₁ out (calls.start_call rows₁ ws)
     started = begun ∙ ap (λ k. begun_by k rows₁ ws out) z ∙ ap (λ k. started_by k rows₁ out (calls.start_call rows₁ ws)) (sym q.0)
 
-    pub begin_unstarted : (a.number ≡ 0 → ⊥) → (r : Begun) (out₁ : List ℕ) → (r.started ≡ false) × Drawn (refused_screen a.number out) r.bytes out₁
+    pub begin_unstarted : ((answer_number a) ≡ 0 → ⊥) → (r : Begun) (out₁ : List ℕ) → (r.started ≡ false) × Drawn (refused_screen (answer_number a) out) r.bytes out₁
         → Beginning (begins n text rows ws out) r rows₁ ws₁ out₁
-    begin_unstarted h r out₁ d = subst (λ b. Beginning b r rows₁ ws₁ out₁) (sym (started ∙ unstarted_by a.number rows₁ out (calls.start_call rows₁ ws) h))
+    begin_unstarted h r out₁ d = subst (λ b. Beginning b r rows₁ ws₁ out₁) (sym (started ∙ unstarted_by (answer_number a) rows₁ out (calls.start_call rows₁ ws) h))
         (record { started = d.0; rows = refl; state = q.2; drawn = d.1 })
 
-    pub begin_started : a.number ≡ 0 → (bytes : ℕ) (out₁ : List ℕ) → Drawn (shown_after rows₁ ws₁ start_role a.number a.strides out) bytes out₁
+    pub begin_started : (answer_number a) ≡ 0 → (bytes : ℕ) (out₁ : List ℕ) → Drawn (shown_after rows₁ ws₁ start_role (answer_number a) (strides_of a) out) bytes out₁
         → Beginning (begins n text rows ws out) (record { started = true; bytes = bytes }) rows₁ ws₁ out₁
-    begin_started h bytes out₁ d = subst (λ b. Beginning b (record { started = true; bytes = bytes }) rows₁ ws₁ out₁) (sym (started ∙ started_by_lem a.number rows₁ out (calls.start_call rows₁ ws) h))
+    begin_started h bytes out₁ d = subst (λ b. Beginning b (record { started = true; bytes = bytes }) rows₁ ws₁ out₁) (sym (started ∙ started_by_lem (answer_number a) rows₁ out (calls.start_call rows₁ ws) h))
         (record { started = refl; rows = refl; state = q.2; drawn = subst (λ s. Drawn s bytes out₁) (λ i. shown_after rows₁ (q.2 i) start_role (q.0 i) (q.1 i) out) d })
 
 -- ---- an event
@@ -260,11 +273,11 @@ module _ (event : List ℕ) where
       by none = refl
       by (some role) = refl
 
-module _ (rows ws : List ℤ) (event out : List ℕ) (a : Answer) (ws₁ : List ℤ) (q : Answered (calls.handle_call rows ws event) a ws₁) where
+module _ (rows ws : List ℤ) (event out : List ℕ) (a : Result ℕ Ground) (ws₁ : List ℤ) (q : Answered (calls.handle_call rows ws event) a ws₁) where
   pub touch_state : ws₁ ≡ (touched rows ws event out).0
   unfolding touched
   touch_state = q.2
 
-  pub touch_drawn : (role : ℕ) → role ≡ role_of event → (bytes : ℕ) (out₁ : List ℕ) → Drawn (shown_after rows ws₁ role a.number a.strides out) bytes out₁ → Drawn (touched rows ws event out).1 bytes out₁
+  pub touch_drawn : (role : ℕ) → role ≡ role_of event → (bytes : ℕ) (out₁ : List ℕ) → Drawn (shown_after rows ws₁ role (answer_number a) (strides_of a) out) bytes out₁ → Drawn (touched rows ws event out).1 bytes out₁
   unfolding touched
   touch_drawn role e bytes out₁ d = subst (λ s. Drawn s bytes out₁) (λ i. shown_after rows (q.2 i) (e i) (q.0 i) (q.1 i) out) d

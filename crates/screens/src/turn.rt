@@ -1,12 +1,14 @@
 // The screens of a sheet and of an event (01, "A session in full"). Rests on the calls of crates sheet and flow.
 ghost use Rattle.std.specs.Prelude.{◌≡◌, false, ◌<◌, length};
 ghost use Rattle.rows.specs.GroundNumbers.{answer_number};
+ghost use Rattle.flow.specs.Starts.{strides_of};
 ghost use Rattle.screens.specs.Heads.{four_digits};
 ghost use Rattle.screens.specs.Screens.{screen_bytes, Drawn, Beginning, refused_screen, role_of, loaded_counted, shown_after, begins, touched};
 
 use super::head;
 use super::head::Head;
 use entries::LIST_BYTES;
+use flow::answer::number;
 use flow::look::fill;
 use flow::start::start;
 use flow::touch::handle;
@@ -40,20 +42,27 @@ fn role_of(event: &[u8]) -> u32
 }
 
 // The screen after an answer, in a role: its head line, and the entries after it.
-fn show(rows: &[i32], state: &[i32], role: u32, answer: u32, strides: u32, out: &mut [u8]) -> usize
-    requires { (length out.old ≡ screen_bytes) × (answer < four_digits) × (strides < four_digits) }
-    ensures { Drawn (shown_after rows.now state.now role answer strides out.old) result out.new }
+fn show(
+    rows: &[i32],
+    state: &[i32],
+    role: u32,
+    answer: Result<u32, Ground>,
+    out: &mut [u8],
+) -> usize
+    requires { (length out.old ≡ screen_bytes) × (answer_number answer < four_digits) × (strides_of answer < four_digits) }
+    ensures { Drawn (shown_after rows.now state.now role (answer_number answer) (strides_of answer) out.old) result out.new }
 {
     let mut value = [0i32; MAX_LEAVES];
     let seen = fill(rows, state, role, &mut value, &mut out[HEAD_BYTES..]);
     let mut leaves = [0u32; MAX_LEAVES];
     copy_in(&value, &mut leaves);
-    let bytes = seen.bytes;
+    let shown = seen.unwrap_or_default();
+    let bytes = shown.bytes;
     let h = Head {
-        answer: answer,
-        strides: strides,
-        fails: seen.fails,
-        valued: seen.valued,
+        answer: number(&answer),
+        strides: answer.unwrap_or(0),
+        fails: u32::from(shown.fails),
+        valued: u32::from(shown.valued),
         leaves: leaves,
         entries: (bytes / ENTRY_BYTES) as u32,
     };
@@ -108,14 +117,15 @@ pub fn begin(
     if let Err(ground) = load_counted(n, text, rows) {
         return refuse(ground.into(), out);
     }
-    let a = start(rows, state);
-    if a.number != 0 {
-        return refuse(a.number, out);
-    }
-    let bytes = show(rows, state, START_ROLE, a.number, a.strides, out);
-    Begun {
-        started: true,
-        bytes: bytes,
+    match start(rows, state) {
+        Ok(strides) => {
+            let bytes = show(rows, state, START_ROLE, Ok(strides), out);
+            Begun {
+                started: true,
+                bytes: bytes,
+            }
+        }
+        Err(ground) => refuse(u32::from(ground), out),
     }
 }
 
@@ -124,7 +134,7 @@ pub fn touch(rows: &[i32], state: &mut [i32], event: &[u8], out: &mut [u8; SCREE
     ensures state_after { state.new ≡ (touched rows.now state.old event.now out.old).0 }
     ensures drawn { Drawn (touched rows.now state.old event.now out.old).1 result out.new }
 {
-    let a = handle(rows, state, event);
+    let answer = handle(rows, state, event);
     let role = role_of(event);
-    show(rows, state, role, a.number, a.strides, out)
+    show(rows, state, role, answer, out)
 }

@@ -8,6 +8,7 @@ use Rattle.state.specs.Ensured.{HandleOk}
 use Rattle.state.proofs.Calls.{low_a, fine_at}
 use Rattle.eval.proofs.Arms.{call_a, call_b}
 use Rattle.running.proofs.Handing.{low_part, fine_part}
+use Rattle.rows.specs.GroundNumbers.{answer_number}
 use Rattle.handle.specs.Events.{event_path, event_action}
 use Rattle.decimal.proofs.Answers.{front_empty, front_one, front_two}
 use Rattle.handle.proofs.Passing.{handle_then, handle_next, handle_continue, handle_first, handle_second, handle_unmarked}
