@@ -1,13 +1,14 @@
 -- Values of one leaf, and what the eight operators give on the bits of two numbers. Rests on crate word's laws.
 use mathlib.Core.Path.{◌≡◌, refl, sym, ap, ap₂, ◌∙◌}
-use mathlib.Core.Bool.{Bool, true, false, ◌&&◌, ◌||◌}
+use mathlib.Core.Bool.{Bool, true, false, not, ◌&&◌, ◌||◌}
 use Prim.Native.Nat.{ℕ, zero, suc, ◌≤◌, ◌<◌}
 use native.Mathlib.Omega.{arith}
 use lib.IntN.{ℤ, ◌+ℤ◌, ◌-ℤ◌, ◌*ℤ◌}
 use lib.Signed.{lt_z, le_z}
 use mir.Syntax.{w32}
 use mir.Val.{to_z}
-use Rattle.word.specs.declared.Reckoning.TheVariants.{Word, Beyond}
+use Rattle.std.specs.Prelude.{Option, Some, None}
+use Rattle.std.specs.Option.{is_some, unwrap_or}
 use Rattle.word.specs.Word.{words, is_word, eq_z}
 use Rattle.word.specs.Reckoning.{reckoning}
 use Rattle.word.proofs.TwosComplement.{bits_number}
@@ -58,14 +59,13 @@ after_over_lem x e h = ap (λ x. after_over x e) (sym h)
 pub after_sure : (x : Bool) (e : Evaluation) → x ≡ false → e ≡ after_over x e
 after_sure x e h = ap (λ x. after_over x e) (sym h)
 
--- a result that is a word, and one that is none
-pub exactly_word : (z : ℤ) (w : ℕ) → Word w ≡ reckoning z → sure_of (as_value (vnumber (to_z w32 w))) ≡ exactly z
+-- a result, a word or none
+pub exactly_is : (z : ℤ) (r : Option ℕ) (x : Bool) → is_some r ≡ not x → r ≡ reckoning z → record { over = x; value = as_value (vnumber (to_z w32 (unwrap_or r 0))) } ≡ exactly z
 unfolding kept
-exactly_word z w e = let (h, k) = word_of z w e in rw (h, k)
-
-pub exactly_beyond : (z : ℤ) → Beyond ≡ reckoning z → record { over = true; value = as_value (vnumber (to_z w32 0)) } ≡ exactly z
-unfolding kept
-exactly_beyond z e = let h = beyond_of z e in rw h
+exactly_is z (Some w) false n e = let (h, k) = word_of z w e in rw (h, k)
+exactly_is z (Some w) true n e = differ n
+exactly_is z None false n e = differ (sym n)
+exactly_is z None true n e = let h = beyond_of z e in rw h
 
 -- what is no operator's number is read as the sum's
 no_operator : (n : ℕ) → (1 ≤ n → n ≤ 8 → ⊥) → operator_of n ≡ sum

@@ -19,7 +19,7 @@ ghost use Rattle.value.specs.Evaluations.{sure_of, after_over, exactly, applied}
 
 use shape::{first_shape, leaf_kinds, leaves_of, pair_shape, second_shape};
 use tophat::{MAX_LEAVES, NO_LEAF, NUMBER, TRUTH, UNIT};
-use word::{Reckoning, add, at_most, equal, less, mul, sub};
+use word::{add, at_most, equal, less, mul, sub};
 
 #[derive(Clone, Copy)]
 pub struct Value {
@@ -104,16 +104,13 @@ pub fn after(over: bool, e: Evaluation) -> Evaluation
     e
 }
 
-// What an exact result comes to.
-fn result(r: Reckoning) -> Evaluation
+// What an exact result comes to: 0 goes on in place of one that is no word.
+fn result(r: Option<u32>) -> Evaluation
     ensures { (z : ℤ) → r ≡ reckoning z → result ≡ exactly z }
 {
-    match r {
-        Reckoning::Word(w) => sure(number(w)),
-        Reckoning::Beyond => Evaluation {
-            over: true,
-            value: number(0),
-        },
+    Evaluation {
+        over: r.is_none(),
+        value: number(r.unwrap_or(0)),
     }
 }
 

@@ -1,28 +1,28 @@
 -- The definitions at a few numbers, computed. Assumes nothing.
 use mathlib.Core.Path.{◌≡◌, refl}
 use mathlib.Core.List.{[], ◌∷◌}
+use Rattle.std.specs.Prelude.{Some, None}
 use lib.IntN.{pos, negsuc, ◌+ℤ◌, ◌-ℤ◌, ◌*ℤ◌}
 use mir.Syntax.{w32}
 use mir.Val.{to_z, of_z}
-use Rattle.word.specs.declared.Reckoning.TheVariants.{Word, Beyond}
 use Rattle.word.specs.Word.{is_word}
 use Rattle.word.specs.Reckoning.{reckoning}
 use Rattle.word.specs.Laid.{laid}
 
 -- the ends of the words (CR 3, P12)
-greatest_and_one : reckoning (pos 2147483647 +ℤ pos 1) ≡ Beyond
+greatest_and_one : reckoning (pos 2147483647 +ℤ pos 1) ≡ None
 unfolding reckoning is_word
 greatest_and_one = refl
 
-least_less_none : reckoning (negsuc 2147483647 -ℤ pos 0) ≡ Word 2147483648
+least_less_none : reckoning (negsuc 2147483647 -ℤ pos 0) ≡ Some 2147483648
 unfolding reckoning is_word
 least_less_none = refl
 
-least_less_one : reckoning (negsuc 2147483647 -ℤ pos 1) ≡ Beyond
+least_less_one : reckoning (negsuc 2147483647 -ℤ pos 1) ≡ None
 unfolding reckoning is_word
 least_less_one = refl
 
-least_negated : reckoning (negsuc 2147483647 *ℤ negsuc 0) ≡ Beyond
+least_negated : reckoning (negsuc 2147483647 *ℤ negsuc 0) ≡ None
 unfolding reckoning is_word
 least_negated = refl
 

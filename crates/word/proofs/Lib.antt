@@ -1,5 +1,4 @@
 pub mod TwosComplement
-pub mod Signs
 pub mod Results
 pub mod Order
 pub mod Laid
