@@ -15,29 +15,23 @@ const LENGTH_BYTES: usize = LENGTH_COLUMNS + 1;
 // No stream has more sessions.
 const SESSIONS: usize = usize::MAX;
 
-// Replays the next session. Where no length can be read, there is none.
-fn replayed(rt: &(impl Print + Eprint), from: &mut impl Read) -> bool {
+// Replays the next session, if its length can be read and the output is not lost.
+fn replayed(rt: &(impl Print + Eprint), from: &mut impl Read) -> Option<()> {
     let mut text = [0u8; LENGTH_BYTES];
     read(rt, from, &mut text, LENGTH_BYTES);
-    let reading = field::read(&text, 0, LENGTH_COLUMNS);
-    match reading {
-        Reading::Number(n) => {
-            let rest = session(rt, from, n as usize);
-            skip(rt, from, rest);
-            rt.write_all(b"----\n").is_ok()
-        }
-        Reading::Blank => false,
-        Reading::Unreadable => false,
-    }
+    let Reading::Number(n) = field::read(&text, 0, LENGTH_COLUMNS) else {
+        return None;
+    };
+    let rest = session(rt, from, n as usize);
+    skip(rt, from, rest);
+    rt.write_all(b"----\n").ok()
 }
 
 fn main(rt: HostRuntime) {
     let mut from = rt.stdin();
-    let mut more = SESSIONS;
-    while 0 < more {
-        if !replayed(&rt, &mut from) {
+    for _ in 0..SESSIONS {
+        if replayed(&rt, &mut from).is_none() {
             return;
         }
-        more -= 1;
     }
 }

@@ -1,9 +1,10 @@
 -- `events` ends: fewer bytes are left after each turn.
 use Rattle.std.proofs.Common.{◌≤◌}
+use Rattle.std.specs.Io.Take.{take_limit}
 use Rattle.console.proofs.events.Given as goal
 
-abbrev pub invariant-loop-rest : goal.invariant-loop-rest
-invariant-loop-rest g l = l.rest ≤ l.left
+abbrev pub invariant-loop-event : goal.invariant-loop-event
+invariant-loop-event g l = take_limit l.from ≤ take_limit l.fn.from
 
-abbrev pub decreases-loop-rest : goal.decreases-loop-rest
-decreases-loop-rest g l = l.rest
+abbrev pub decreases-loop-event : goal.decreases-loop-event
+decreases-loop-event g l = take_limit l.from
