@@ -24,7 +24,7 @@ pub fn take(rows: &[i32], state: &mut [i32], e: Option<Event>) -> Result<u32, Gr
     };
     let none = [0u32; ENV_WORDS];
     let last = n - 1;
-    handle(&own, &mut words, last, &none, 0, &e)?;
+    handle(&own, &mut words, last, &none, 0, e)?;
     let strides = normalise(&own, &mut words, last, &none, 0);
     state_out(&words, n, state);
     Ok(strides)

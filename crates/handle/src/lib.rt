@@ -40,8 +40,8 @@ pub struct Event {
 }
 
 // Whether the event is this action at the path's end.
-fn ends(e: &Event, action: Action) -> bool
-    ensures { Ends e.now action result }
+fn ends(e: Event, action: Action) -> bool
+    ensures { Ends e action result }
 {
     e.path == 0 && e.action == action
 }
@@ -62,9 +62,9 @@ fn bits(leaves: [Option<u32>; MAX_LEAVES]) -> [u32; MAX_LEAVES]
 }
 
 // The value that an event gives an editor of the shape, laid at the row. A blank where the type has a leaf gives none.
-fn fill(state: &mut [u32; STATE_SIZE], row: usize, tag: Tag, shape: u32, e: &Event) -> bool
+fn fill(state: &mut [u32; STATE_SIZE], row: usize, tag: Tag, shape: u32, e: Event) -> bool
     requires { row < max_rows }
-    ensures { FillOk state.old state.new row (tag_word tag) shape e.now result }
+    ensures { FillOk state.old state.new row (tag_word tag) shape e result }
 {
     if !ends(e, Action::Value) {
         return false;
@@ -84,9 +84,9 @@ fn fill(state: &mut [u32; STATE_SIZE], row: usize, tag: Tag, shape: u32, e: &Eve
 }
 
 // An editor: its content's type is that of its row's value, of its type row, or of its cell.
-fn edit(rows: &[u32; ROWS_WORDS], state: &mut [u32; STATE_SIZE], row: usize, e: &Event) -> bool
+fn edit(rows: &[u32; ROWS_WORDS], state: &mut [u32; STATE_SIZE], row: usize, e: Event) -> bool
     requires { Fine rows.now row 0 × FromKind rows.now row (task_k edit_k) × UpToKind rows.now row (task_k update_k) }
-    ensures { (env : List ℕ) (d : ℕ) → HandleOk rows.now state.old state.new row env d e.now.role (event_path e.now) (event_action e.now) (answer_of result) }
+    ensures { (env : List ℕ) (d : ℕ) → HandleOk rows.now state.old state.new row env d e.role (event_path e) (event_action e) (answer_of result) }
 {
     let kind = get(rows, row, 0);
     let a = operand(rows, row, 1);
@@ -111,10 +111,10 @@ fn going_on(
     rows: &[u32; ROWS_WORDS],
     state: &[u32; STATE_SIZE],
     row: usize,
-    e: &Event,
+    e: Event,
 ) -> Option<Value>
     requires { Fine rows.now row 0 }
-    ensures { GoingOk rows.now state.now row e.now result }
+    ensures { GoingOk rows.now state.now row e result }
 {
     if !ends(e, Action::Continue) {
         return None;
@@ -151,10 +151,10 @@ fn pick(
     row: usize,
     env: &[u32; ENV_WORDS],
     depth: usize,
-    e: &Event,
+    e: Event,
 ) -> bool
     requires { Fine rows.now row depth × OfKind rows.now row (task_k xor_k) × Unhanded rows.now state.old row }
-    ensures { HandleOk rows.now state.old state.new row env.now depth e.now.role (event_path e.now) (event_action e.now) (answer_of result) }
+    ensures { HandleOk rows.now state.old state.new row env.now depth e.role (event_path e) (event_action e) (answer_of result) }
 {
     if ends(e, Action::Left) {
         return side(
@@ -182,10 +182,10 @@ fn pick(
 }
 
 // The event past a mark.
-fn inside(e: &Event, path: u32) -> Event
-    ensures { result ≡ passed e.now path }
+fn inside(e: Event, path: u32) -> Event
+    ensures { result ≡ passed e path }
 {
-    Event { path, ..*e }
+    Event { path, ..e }
 }
 
 // An answer that passes no row of kind 50.
@@ -248,10 +248,10 @@ pub fn handle(
     row: usize,
     env: &[u32; ENV_WORDS],
     depth: usize,
-    e: &Event,
+    e: Event,
 ) -> Result<(), Ground>
     requires { Fine rows.now row depth }
-    ensures { HandleOk rows.now state.old state.new row env.now depth e.now.role (event_path e.now) (event_action e.now) (answer_number result) }
+    ensures { HandleOk rows.now state.old state.new row env.now depth e.role (event_path e) (event_action e) (answer_number result) }
 {
     let part = handed_on(rows, state, row);
     if part != 0 {
@@ -276,8 +276,8 @@ pub fn handle(
             let front = front_mark(e.path);
             match front {
                 Front::Empty => Err(Ground::NotHandled),
-                Front::First(rest) => handle(rows, state, a, env, depth, &inside(e, rest)),
-                Front::Second(rest) => handle(rows, state, b, env, depth, &inside(e, rest)),
+                Front::First(rest) => handle(rows, state, a, env, depth, inside(e, rest)),
+                Front::Second(rest) => handle(rows, state, b, env, depth, inside(e, rest)),
             }
         }
         48 => answer(pick(rows, state, row, env, depth, e)),

@@ -18,7 +18,7 @@ pick_spec = tie.close (tie.spec
     (f.low, fine_at f c.operand.result c.args.depth (omega arith) f.room))
     (λ c.
     handle_left c.args.rows.now c.args.state.now c.side.new.state c.args.row c.args.env.now
-    c.args.depth c.side.result c.args.e.now c.requires.2 c.requires.1 c.operand.result
+    c.args.depth c.side.result c.args.e c.requires.2 c.requires.1 c.operand.result
     (c.ends.ensures.yes c.if-ends.true) c.operand.ensures c.side.ensures)
     (λ c κs. search rules)
     (λ c κs.
@@ -29,9 +29,9 @@ pick_spec = tie.close (tie.spec
     (f.low, fine_at f c.operand-then-ends-2.result c.args.depth (omega arith) f.room))
     (λ c.
     handle_right c.args.rows.now c.args.state.now c.side-then-ends-2.new.state c.args.row c.args.env.now
-    c.args.depth c.side-then-ends-2.result c.args.e.now c.requires.2 c.requires.1 c.operand-then-ends-2.result
+    c.args.depth c.side-then-ends-2.result c.args.e c.requires.2 c.requires.1 c.operand-then-ends-2.result
     (c.ends-2.ensures.yes c.if-ends-2.true) c.operand-then-ends-2.ensures c.side-then-ends-2.ensures)
     (λ c.
     handle_unpicked c.args.rows.now c.args.state.now c.args.row c.args.env.now c.args.depth
-    c.args.e.now c.requires.2 c.requires.1 (c.ends.ensures.no c.if-ends.false)
+    c.args.e c.requires.2 c.requires.1 (c.ends.ensures.no c.if-ends.false)
     (c.ends-2.ensures.no c.if-ends-2.false)))
