@@ -1,4 +1,4 @@
--- The number of each ground (01, "Grounds in the input" and "Grounds in the state"); in code src/ground_numbers.rt has the same names.
+-- The number of each ground (01, "Grounds in the input" and "Grounds in the state"); in code src/ground.rt has them as cases.
 -- 0 is no ground: the call is accepted. CR 6's 30 and 31, which handling says of the rows of kind 50 passed, stand in the calculus' Roles.
 -- Rests on the calculus' Roles.
 -- Believed.

@@ -1,5 +1,5 @@
 // Rows of words: how a word of a row is read, and the numbers that 01 gives to rows, each under one name: sizes here, kinds in
-// `kinds`, grounds in `ground_numbers`.
+// `kinds`, grounds in `ground`.
 #![tactic(auto)]
 
 ghost use Rattle.std.specs.Prelude.{◌≡◌, ◌*◌, ◌<◌, length};
@@ -10,7 +10,6 @@ use decimal::path::PATH_COLUMNS;
 use tophat::MAX_ROLE;
 
 pub mod ground;
-pub mod ground_numbers;
 pub mod kinds;
 
 // 01: "1 to 256 lines", "4 words a row"

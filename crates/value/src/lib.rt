@@ -179,10 +179,7 @@ pub fn apply(op: u32, a: Value, b: Value) -> Evaluation
 fn leaf(leaves: [u32; MAX_LEAVES], i: usize) -> u32
     ensures { result ≡ get_or leaves i 0 }
 {
-    if i < MAX_LEAVES {
-        return leaves[i];
-    }
-    0
+    leaves.get(i).copied().unwrap_or(0)
 }
 
 // The first n leaves of xs with those of ys after them.
@@ -190,8 +187,8 @@ fn joined(n: usize, xs: [u32; MAX_LEAVES], ys: [u32; MAX_LEAVES]) -> [u32; MAX_L
     ensures { result ≡ joined n xs ys }
 {
     let mut leaves = ys;
-    for i in 0..MAX_LEAVES {
-        leaves[i] = if i < n { xs[i] } else { leaf(ys, i - n) };
+    for (i, place) in leaves.iter_mut().enumerate() {
+        *place = if i < n { xs[i] } else { leaf(ys, i - n) };
     }
     leaves
 }
@@ -202,8 +199,8 @@ fn leaves_from(n: usize, xs: [u32; MAX_LEAVES]) -> [u32; MAX_LEAVES]
     ensures { result ≡ leaves_from n xs }
 {
     let mut leaves = xs;
-    for i in 0..MAX_LEAVES {
-        leaves[i] = leaf(xs, n + i);
+    for (i, place) in leaves.iter_mut().enumerate() {
+        *place = leaf(xs, n + i);
     }
     leaves
 }
@@ -275,8 +272,8 @@ pub fn fits(v: Value, shape: u32) -> bool
         return false;
     }
     let leaves = v.leaves;
-    for i in 0..MAX_LEAVES {
-        if !meets(kinds[i], leaves[i]) {
+    for (i, leaf) in leaves.iter().enumerate() {
+        if !meets(kinds[i], *leaf) {
             return false;
         }
     }
