@@ -1,4 +1,5 @@
 pub mod TwosComplement
+pub mod Signs
 pub mod Results
 pub mod Order
 pub mod Laid

@@ -1,10 +1,12 @@
--- The equality of words, read off their bits. Assumes nothing.
+-- The equality of words, read off their bits; and the two tests of order, one by the other. Assumes nothing.
 use mathlib.Core.Path.{◌≡◌, refl, sym, ap, ◌∙◌}
-use mathlib.Core.Bool.{Bool, true, false}
+use mathlib.Core.Bool.{Bool, true, false, not}
 use Prim.Native.Nat.{ℕ, ◌<◌}
 use native.Mathlib.Omega.{arith}
+use Rattle.std.proofs.lemmas.Int.{ints}
 use lib.Dec.{eqb}
 use lib.IntN.{ℤ, pos, negsuc}
+use lib.Signed.{lt_z, le_z}
 use mir.Syntax.{w32}
 use mir.Val.{to_z}
 use borrow.Author.Tests.{eq-eqb, ne_eqb, eqb-true}
@@ -15,6 +17,12 @@ use Rattle.word.proofs.TwosComplement.{number_injective}
 pub by_truth : {P : Type 0} (b : Bool) → (b ≡ true → P) → (b ≡ false → P) → P
 by_truth true f g = f refl
 by_truth false f g = g refl
+
+-- at most is not less the other way round
+pub le_z_not_lt_z : (x y : ℤ) → le_z x y ≡ not (lt_z y x)
+le_z_not_lt_z x y = by_truth (lt_z y x)
+    (λ e. let f : false ≡ le_z x y = omega (arith, ints) in sym f ∙ ap not (sym e))
+    (λ e. let t : true ≡ le_z x y = omega (arith, ints) in sym t ∙ ap not (sym e))
 
 -- the test of equality decides it
 pub eq_z_refl : (x : ℤ) → eq_z x x ≡ true
