@@ -48,7 +48,11 @@ pub const HEAD_BYTES: usize = HEAD_ENTRIES_AT + ROW_COLUMNS + 1;
 pub fn read_role(s: &[u8]) -> Option<u32>
     ensures { result ≡ in_code (event_role s.now) }
 {
-    let bits = field::read(s, 0, ROLE_COLUMNS).number()?;
+    let bits = match field::read(s, 0, ROLE_COLUMNS) {
+        Reading::Number(bits) => bits,
+        Reading::Blank => return None,
+        Reading::Unreadable => return None,
+    };
     is_role(bits).then_some(bits)
 }
 
