@@ -5,7 +5,7 @@
 pub mod lent; // a state in and out of lent memory
 pub mod tag;
 
-ghost use Rattle.std.specs.Prelude.{◌≡◌, ◌⊎◌, ℕ, [], ◌∷◌, ◌+◌, ◌<◌, ◌≤◌, length, get_or, set};
+ghost use Rattle.std.specs.Prelude.{◌≡◌, [], ◌∷◌, ◌+◌, ◌<◌, ◌≤◌, length, get_or, set};
 ghost use Rattle.rows.specs.Rows.{max_rows, word};
 ghost use Rattle.rows.specs.Enclosing.{max_binders};
 ghost use Rattle.state.specs.Layout.{state_words, place, at, own, touch_words};
@@ -45,28 +45,6 @@ pub fn read(state: &[u32; STATE_SIZE], row: usize, m: usize) -> u32
     state[row * STATE_WORDS + m]
 }
 
-// The value whose words stand from that place on: its shape, and its leaves.
-fn value_in(words: &[u32], place: usize) -> Value
-    requires { place + value_length ≤ length words.now }
-    ensures { result ≡ value_by (λ m. get_or words.now (place + m) 0) }
-{
-    let mut leaves = [0u32; MAX_LEAVES];
-    leaves.copy_from_slice(&words[place + 1..place + VALUE_WORDS]);
-    Value {
-        shape: words[place],
-        leaves: leaves,
-    }
-}
-
-// The words of a value, laid from that place on.
-fn lay(words: &mut [u32], place: usize, v: Value)
-    requires { place + value_length ≤ length words.old }
-    ensures { LaidFrom words.old words.new place v }
-{
-    words[place] = v.shape;
-    words[place + 1..place + VALUE_WORDS].copy_from_slice(&v.leaves);
-}
-
 // Word m of a state row becomes x.
 fn put(state: &mut [u32; STATE_SIZE], row: usize, m: usize, x: u32)
     requires { (row < max_rows) × (m < state_words) }
@@ -76,21 +54,14 @@ fn put(state: &mut [u32; STATE_SIZE], row: usize, m: usize, x: u32)
     state[row * STATE_WORDS + m] = x;
 }
 
-// The words of a row, from that place on, become zeros.
-fn blank(words: &mut [u32], place: usize)
-    requires { place + state_words ≤ length words.old }
-    ensures zeros { (m : ℕ) → m < state_words → get_or words.new (place + m) 0 ≡ 0 }
-    ensures rest { (k : ℕ) → (k < place) ⊎ (place + state_words ≤ k) → get_or words.new k 0 ≡ get_or words.old k 0 }
-{
-    words[place..place + STATE_WORDS].fill(0);
-}
-
 // The row is no longer live.
 pub fn clear_row(state: &mut [u32; STATE_SIZE], row: usize)
     requires { row < max_rows }
     ensures { Laid state.old state.new row [] }
 {
-    blank(state, row * STATE_WORDS);
+    for m in 0..STATE_WORDS {
+        put(state, row, m, 0);
+    }
 }
 
 // The row is live, with its tag and nothing else.
@@ -108,7 +79,10 @@ pub fn put_value(state: &mut [u32; STATE_SIZE], row: usize, tag: Tag, v: Value)
     ensures { Laid state.old state.new row (tag_word tag ∷ words_of v) }
 {
     put_tag(state, row, tag);
-    lay(state, row * STATE_WORDS + SHAPE, v);
+    put(state, row, SHAPE, v.shape);
+    for k in 0..MAX_LEAVES {
+        put(state, row, LEAVES + k, v.leaves[k]);
+    }
 }
 
 // The row is live, and holds the touches that a row of kind 50 has left (CR 6).
@@ -134,7 +108,37 @@ pub fn read_value(state: &[u32; STATE_SIZE], row: usize) -> Value
     requires { row < max_rows }
     ensures { result ≡ value_at state.now row }
 {
-    value_in(state, row * STATE_WORDS + SHAPE)
+    let shape = read(state, row, SHAPE);
+    let mut leaves = [0u32; MAX_LEAVES];
+    for (i, leaf) in leaves.iter_mut().enumerate() {
+        *leaf = read(state, row, LEAVES + i);
+    }
+    Value {
+        shape: shape,
+        leaves: leaves,
+    }
+}
+
+// The value whose words stand from that place on: its shape, and its leaves.
+fn value_in(words: &[u32], place: usize) -> Value
+    requires { place + value_length ≤ length words.now }
+    ensures { result ≡ value_by (λ m. get_or words.now (place + m) 0) }
+{
+    let mut leaves = [0u32; MAX_LEAVES];
+    leaves.copy_from_slice(&words[place + 1..place + VALUE_WORDS]);
+    Value {
+        shape: words[place],
+        leaves: leaves,
+    }
+}
+
+// The words of a value, laid from that place on.
+fn lay(words: &mut [u32], place: usize, v: Value)
+    requires { place + value_length ≤ length words.old }
+    ensures { LaidFrom words.old words.new place v }
+{
+    words[place] = v.shape;
+    words[place + 1..place + VALUE_WORDS].copy_from_slice(&v.leaves);
 }
 
 // The value of binder k, counted outward; none beyond the outermost. Slot 0 is the outermost's.
