@@ -6,7 +6,7 @@ ghost use Rattle.formats.specs.Touches.{allowed, event_of};
 ghost use Rattle.handle.specs.Events.{leaves_by};
 ghost use Rattle.flow.specs.Reads.{event_said, fields_say};
 
-use decimal::field::{ACTION_COLUMNS, NEWLINE, WORD_COLUMNS};
+use decimal::field::{ACTION_COLUMNS, NEWLINE, Reading, WORD_COLUMNS};
 use decimal::{field, path};
 use formats::{
     EVENT_ACTION_AT, EVENT_BYTES, EVENT_LEAVES_AT, EVENT_PATH_AT, read_leaves, read_role,
@@ -37,7 +37,11 @@ fn read_fields(s: &[u8]) -> Option<Event>
 {
     let role = read_role(s)?;
     let path = path::read(s, EVENT_PATH_AT)?;
-    let number = field::read(s, EVENT_ACTION_AT, ACTION_COLUMNS).number()?;
+    let number = match field::read(s, EVENT_ACTION_AT, ACTION_COLUMNS) {
+        Reading::Number(number) => number,
+        Reading::Blank => return None,
+        Reading::Unreadable => return None,
+    };
     let leaves = read_leaves(s, EVENT_LEAVES_AT, WORD_COLUMNS)?;
     let Ok(action) = Action::try_from(number) else {
         return None;

@@ -19,8 +19,10 @@ const SESSIONS: usize = usize::MAX;
 fn replayed(rt: &(impl Print + Eprint), from: &mut impl Read) -> Option<()> {
     let mut text = [0u8; LENGTH_BYTES];
     read(rt, from, &mut text, LENGTH_BYTES);
-    let Reading::Number(n) = field::read(&text, 0, LENGTH_COLUMNS) else {
-        return None;
+    let n = match field::read(&text, 0, LENGTH_COLUMNS) {
+        Reading::Number(n) => n,
+        Reading::Blank => return None,
+        Reading::Unreadable => return None,
     };
     let rest = session(rt, from, n as usize);
     skip(rt, from, rest);
