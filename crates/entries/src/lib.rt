@@ -19,7 +19,7 @@ use decimal::path::PATH_COLUMNS;
 use decimal::{field, path};
 use formats::{ENTRY_ACTION_AT, ENTRY_BYTES, ENTRY_KINDS_AT, write_numbers};
 use normalising::{attempt, tried};
-use rows::kinds::GATE;
+use rows::kinds::Kind;
 use rows::{MAX_MARKS, MAX_ROWS, ROWS_WORDS, get, operand};
 use running::{enclose, handed_on, value};
 use shape::leaf_kinds;
@@ -144,7 +144,7 @@ fn shut(rows: &[u32; ROWS_WORDS], state: &[u32; STATE_SIZE], row: usize, who: u3
     requires { row < max_rows }
     ensures { ShutOk rows.now state.now row who result }
 {
-    if get(rows, row, 0) != GATE {
+    if get(rows, row, 0) != Kind::Gate as u32 {
         return false;
     }
     if who == 0 {

@@ -10,7 +10,7 @@ ghost use Rattle.value.specs.Values.{first_value, second_value};
 ghost use Rattle.value.specs.Evaluations.{sure_of};
 ghost use Rattle.state.specs.Ensured.{Fine, EvalOk};
 
-use rows::kinds::FIRST;
+use rows::kinds::Kind;
 use rows::{MAX_BINDERS, ROWS_WORDS, get, operand};
 use state::tag::Tag;
 use state::{ENV_WORDS, STATE_SIZE, env_get, pushed, put_value, read_value};
@@ -41,7 +41,7 @@ fn constant(
 fn part(a: Value, kind: u32) -> Value
     ensures { (kind ≡ number_of (plain_k efst_k) → result ≡ first_value a) × (kind ≡ number_of (plain_k esnd_k) → result ≡ second_value a) }
 {
-    if kind == FIRST {
+    if kind == Kind::First as u32 {
         return first(a);
     }
     second(a)

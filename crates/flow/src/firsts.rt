@@ -4,7 +4,7 @@ ghost use Rattle.rows.specs.Rows.{max_rows};
 ghost use Rattle.value.specs.Values.{as_value};
 ghost use Rattle.flow.specs.Firsts.{content_at, CellFirst, CellsFirst};
 
-use rows::kinds::CELL;
+use rows::kinds::Kind;
 use rows::{ROWS_WORDS, get};
 use shape::TRUTH;
 use state::tag::Tag;
@@ -29,7 +29,7 @@ fn first_cell(rows: &[u32; ROWS_WORDS], row: usize, work: &mut [u32; STATE_SIZE]
     requires { row < max_rows }
     ensures { CellFirst rows.now work.old work.new row }
 {
-    if get(rows, row, 0) == CELL {
+    if get(rows, row, 0) == Kind::Cell as u32 {
         let v = content(rows, row);
         put_value(work, row, Tag::Own, v);
         return;

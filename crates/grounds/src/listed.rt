@@ -5,7 +5,7 @@ ghost use Rattle.rows.specs.Rows.{max_rows, listed_as, listed, truth_cell, row_l
 ghost use Rattle.grounds.specs.Table.{ask_by, asks_by};
 
 use crate::table::{Ask, Asks, asks_at};
-use rows::kinds::{CELL, TRUTH};
+use rows::kinds::Kind;
 use rows::{ROWS_WORDS, get, is_role, operand};
 use tophat::MAX_TOUCHES;
 
@@ -52,7 +52,10 @@ fn truth_cell(rows: &[u32; ROWS_WORDS], i: usize) -> bool
     ensures { result ≡ truth_cell rows.now i }
 {
     let a = operand(rows, i, 1);
-    get(rows, i, 0) != CELL || i <= a || get(rows, a, 0) != TRUTH || get(rows, i, 2) <= 1
+    get(rows, i, 0) != Kind::Cell as u32
+        || i <= a
+        || get(rows, a, 0) != Kind::TruthType as u32
+        || get(rows, i, 2) <= 1
 }
 
 #[tactic(auto, unfolding(rows::specs::Rows::row_listed))]

@@ -20,7 +20,7 @@ ghost use Rattle.handle.specs.Taking.{FillOk, GoingOk, PickOk, answer_of, gate_v
 use decimal::path::{Front, front_mark};
 use normalising::{attempt, settle};
 use rows::ground::Ground;
-use rows::kinds::GATE;
+use rows::kinds::Kind;
 use rows::{ROWS_WORDS, get, operand};
 use running::{enclose, handed_on, value};
 use shape::leaves_of;
@@ -230,7 +230,7 @@ fn pass(
     requires { row < max_rows }
     ensures { PassOk rows.now state.old state.new row role (answer_number answer) (answer_number result) }
 {
-    if get(rows, row, 0) != GATE {
+    if get(rows, row, 0) != Kind::Gate as u32 {
         return answer;
     }
     if answer == Err(Ground::NotHandled) {

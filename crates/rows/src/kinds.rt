@@ -104,16 +104,5 @@ pub fn kind_at(rows: &[u32; ROWS_WORDS], row: usize) -> Option<Kind>
     Kind::try_from(get(rows, row, 0)).ok()
 }
 
-// A type row of kind truth, and a cell.
-pub const TRUTH: u32 = 2;
-
-pub const CELL: u32 = 10;
-
 // 01's "kind 20 or more" begins here.
-pub const FIRST_EXPRESSION: u32 = 20;
-
-// The first of a pair.
-pub const FIRST: u32 = 27;
-
-// A task for a role, with so many touches (CR 6).
-pub const GATE: u32 = 50;
+pub const FIRST_EXPRESSION: u32 = Kind::Unit as u32;

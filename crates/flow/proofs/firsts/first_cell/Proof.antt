@@ -13,11 +13,11 @@ content_requires' = λ c κs. search rules
 put_value_requires' : tie.Need-put_value-requires
 put_value_requires' = λ c κs. search rules
 
-returns' : tie.Need-returns-then-get-eq-CELL
-returns' = λ c. let a = c.args in first_is a.rows.now a.row c.get.ensures c.if-get-eq-CELL.true c.content-v.ensures c.put_value.ensures
+returns' : tie.Need-returns-then-get
+returns' = λ c. let a = c.args in first_is a.rows.now a.row c.get.ensures c.if-get.true c.content-v.ensures c.put_value.ensures
 
 returns_2' : tie.Need-returns
-returns_2' = λ c. let a = c.args in first_none a.rows.now a.row c.get.ensures c.if-get-eq-CELL.false
+returns_2' = λ c. let a = c.args in first_none a.rows.now a.row c.get.ensures c.if-get.false
 
 pub first_cell_spec : {M : Type 1} → statement M
 first_cell_spec = tie.close (tie.spec get_requires' content_requires' put_value_requires' returns' returns_2')
