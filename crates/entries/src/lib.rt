@@ -18,12 +18,12 @@ use decimal::field::{ACTION_COLUMNS, NEWLINE};
 use decimal::path::PATH_COLUMNS;
 use decimal::{field, path};
 use formats::{ENTRY_ACTION_AT, ENTRY_BYTES, ENTRY_KINDS_AT, write_numbers};
-use normalising::{attempt, tried};
+use normalising::{failing, tried};
 use rows::kinds::Kind;
-use rows::{MAX_MARKS, MAX_ROWS, ROWS_WORDS, get, operand};
-use running::{enclose, handed_on, value};
+use rows::{MAX_BINDERS, MAX_MARKS, MAX_ROWS, ROWS_WORDS, get, operand};
+use running::{enclose, evaluate, handed_on, value};
 use shape::leaf_kinds;
-use state::{ENV_WORDS, STATE_SIZE, read, read_touches};
+use state::{ENV_WORDS, STATE_SIZE, pushed, read, read_touches};
 use tophat::{Action, MAX_LEAVES};
 use typing::{Binders, row_type};
 
@@ -101,7 +101,8 @@ fn offer(
     write_entry(list, marks, Action::Value, leaf_kinds(shape))
 }
 
-// Whether the step at the row shows Continue: A has a value, and B, tried under it in a copy of the state, does not fail.
+// Whether the step at the row shows Continue: A has a value, and B, evaluated under it in a copy of the state, neither leaves the words nor
+// fails. It is asked here, in one copy: `attempt`, which keeps what it comes to, would make two more.
 fn goes_on(
     rows: &[u32; ROWS_WORDS],
     state: &[u32; STATE_SIZE],
@@ -115,8 +116,16 @@ fn goes_on(
     let Some(v) = value(rows, state, operand(rows, row, 1)) else {
         return false;
     };
+    if MAX_BINDERS <= depth {
+        return false;
+    }
+    let inner = pushed(env, depth, v);
+    let b = operand(rows, row, 2);
     let mut work = *state;
-    attempt(rows, &mut work, row, env, depth, v)
+    if evaluate(rows, &mut work, b, &inner, depth + 1) {
+        return false;
+    }
+    !failing(rows, &work, b, &inner, depth + 1)
 }
 
 // A choice of kind 48 not yet made: Left and Right, each where that branch, settled in a copy of the state, does not fail.

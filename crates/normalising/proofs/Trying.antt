@@ -124,7 +124,7 @@ module _ (rs ws : List ℕ) (i : ℕ) (env : List ℕ) (d : ℕ) where
 
     module _ (no : o ≡ false) (f : Bool) (hf : FailingOk rs ws₁ b env₁ (d + 1) f) where
       -- else whether it fails is asked
-      asked : {a b : Code} {t : TaskOf a} {Σ Γ : List Ty} {τ υ : Ty} {s : Store} {ρ : Env} {v : Val} → Waits rs ws d i a b t → x ≡ as_value v → ValueType v τ → TaskType Σ Γ a t τ → CodeType Σ (τ ∷ Γ) b υ
+      pub asked : {a b : Code} {t : TaskOf a} {Σ Γ : List Ty} {τ υ : Ty} {s : Store} {ρ : Env} {v : Val} → Waits rs ws d i a b t → x ≡ as_value v → ValueType v τ → TaskType Σ Γ a t τ → CodeType Σ (τ ∷ Γ) b υ
           → World rs ws env d Σ Γ s ρ → f ≡ right_fails b (v ∷ ρ) s
       asked {b = b} {Σ = Σ} {Γ = Γ} {τ = τ} {υ = υ} {s = s} {ρ = ρ} {v = v} p e k y z w =
           let (q, n, w₁, g) = begun p e k y z w in
